@@ -1,0 +1,5 @@
+pub mod Accepted
+mod CodeLaws
+mod Parsed
+mod Spelled
+mod Written
