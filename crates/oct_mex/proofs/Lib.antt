@@ -1,0 +1,10 @@
+pub mod Bounds
+pub mod Lanes
+pub mod Marking
+pub mod Members
+pub mod Mex
+pub mod Moves
+pub mod NimValues
+pub mod Periods
+pub mod ListReads
+pub mod Rows

@@ -1,0 +1,16 @@
+use Rattle.std.proofs.Common.{◌-◌, slice_index, arith, ◌<◌, length, bit_xor}
+use Rattle.oct_mex.proofs.Marking.{pairs_more, xor_within}
+use Rattle.oct_mex.proofs.marks.mark_pairs.Goals as goal
+
+pub loop-a-preserved : goal.loop-a-preserved
+loop-a-preserved c =
+    pairs_more (slice_index c.args.values.now) c.args.rest c.loop-a.a (c.args.rest - c.loop-a.a) c.args.marks.now c.loop-a.marks c.mark.new.marks
+    (omega arith) (omega arith) (omega arith) c.loop-a.invariant c.mark.ensures
+
+pub mark-requires : goal.mark-requires
+mark-requires c =
+    let values = c.args.values.now in
+    let a = c.loop-a.a in
+    let b = c.args.rest - a in
+    let inside : bit_xor (slice_index values a) (slice_index values b) < length c.args.marks.now = xor_within values (length c.args.marks.now) a b c.requires.table (omega arith) (omega arith) in
+    omega (arith, c.loop-a.invariant.size, inside)

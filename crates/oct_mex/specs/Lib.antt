@@ -1,0 +1,10 @@
+pub use Rattle.oct_code.specs.Code
+pub mod Differences
+pub mod Fields
+pub mod Held
+pub mod Laws
+pub mod Marks
+pub mod Mex
+pub mod Moves
+pub mod NimValues
+pub mod Periods

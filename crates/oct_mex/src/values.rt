@@ -1,0 +1,119 @@
+//! The first nim-values of a game.
+
+ghost use Rattle.std.specs.Prelude.{◌≡◌, ◌^◌, ◌<◌, ◌≤◌, max, length, IfSome, OnErr, OnOk, SomeIff};
+ghost use Rattle.std.specs.List.{All};
+ghost use Rattle.oct_mex.specs.NimValues.{nim_values, nim_value};
+
+use crate::marks::{next_value, table_len};
+use oct_code::{Code, LIMIT};
+use std::alloc::{AllocError, Allocator};
+use std::marker::Model;
+
+/// The nim-values of the heaps 0, 1, .. of a game, as far as they are computed, and room for more of them.
+#[derive(Drop)]
+pub struct Values<A: Allocator + Copy> {
+    code: Code,
+    values: Vec<u32, A>,
+    marks: Vec<bool, A>,
+    room: usize,
+    // The part of the table of marks that is used: a power of two above each value.
+    used: usize,
+}
+
+impl<A: Allocator + Copy> Model for Values<A> {
+    ghost use Rattle.oct_mex.specs.Held.{Held};
+    ghost use Rattle.oct_mex.specs.Fields.{held_of, IsStored};
+
+    ghost Value = { Held };
+
+    ghost view = { held_of };
+
+    ghost invariant = { IsStored };
+}
+
+impl<A: Allocator + Copy> Values<A> {
+    /// No value of the game of a code. Takes no memory.
+    pub fn new(alloc: A, code: Code) -> Values<A>
+        ensures { result ≡ record { code = code; len = 0; room = 0 } }
+    {
+        let _ = code.len();
+        Values {
+            code,
+            values: Vec::new(alloc),
+            marks: Vec::new(alloc),
+            room: 0,
+            used: 1,
+        }
+    }
+
+    /// The code of the game.
+    pub fn code(&self) -> Code
+        ensures { result ≡ self.now.code }
+    {
+        self.code
+    }
+
+    /// The nim-values of the heaps 0, 1, .., as far as they are computed.
+    pub fn as_slice(&self) -> &[u32]
+        ensures values { result.now ≡ nim_values self.now.code self.now.len }
+        ensures len { length result.now ≡ self.now.len }
+        ensures small { All (λ v. v < 2 ^ 20) result.now }
+    {
+        self.values.as_slice()
+    }
+
+    /// The nim-value of a heap, if it is computed.
+    pub fn get(&self, heap: usize) -> Option<u32>
+        ensures value { SomeIff result (heap < self.now.len) (nim_value self.now.code heap) }
+        ensures small { IfSome result (λ v. v < 2 ^ 20) }
+    {
+        self.values.get(heap).copied()
+    }
+
+    /// For how many nim-values there is room, at most `LIMIT`.
+    pub fn room(&self) -> usize
+        ensures room { result ≡ self.now.room }
+        ensures limited { result ≤ LIMIT }
+    {
+        self.room
+    }
+
+    /// Makes room for the nim-values of `count` heaps, at most `LIMIT`. Without memory nothing changes.
+    pub fn room_to(&mut self, count: usize) -> Result<(), AllocError>
+        requires { count ≤ LIMIT }
+        ensures ok { OnOk result (self.new ≡ record self.old { room = max count self.old.room }) }
+        ensures err { OnErr result (self.new ≡ self.old) }
+    {
+        if self.room < count {
+            self.values.reserve(count - self.values.len())?;
+            self.marks.resize(table_len(&self.code, count), false)?;
+            self.room = count;
+        }
+        Ok(())
+    }
+
+    /// Computes the nim-values of `count` heaps, for which there is room. Takes no memory.
+    pub fn extend_within(&mut self, count: usize)
+        requires { count ≤ self.old.room }
+        ensures { self.new ≡ record self.old { len = max count self.old.len } }
+    {
+        while self.values.len() < count {
+            let value = next_value(&self.code, &self.values, &mut self.marks, self.used);
+            self.values.push_reserved(value);
+            if value as usize == self.used {
+                self.used *= 2;
+            }
+        }
+    }
+
+    /// Computes the nim-values of `count` heaps, at most `LIMIT`. Without memory nothing changes.
+    pub fn extend_to(&mut self, count: usize) -> Result<(), AllocError>
+        requires { count ≤ LIMIT }
+        ensures ok { OnOk result (self.new ≡ record { code = self.old.code; len = max count self.old.len; room = max count self.old.room }) }
+        ensures err { OnErr result (self.new ≡ self.old) }
+    {
+        self.room_to(count)?;
+        self.extend_within(count);
+        Ok(())
+    }
+}
