@@ -1,0 +1,4 @@
+pub mod Merging
+pub mod SetMerging
+mod Bounds
+mod Places

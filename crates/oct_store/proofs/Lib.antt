@@ -1,0 +1,6 @@
+mod Counts
+mod Groups
+mod Kept
+mod Lasts
+pub mod Greatest
+pub mod Throughs
