@@ -1,0 +1,14 @@
+pub mod Bytes
+pub mod Text
+pub mod Delta
+pub mod Reading
+pub mod Decoding
+pub mod Clocks
+pub mod State
+pub mod Taken
+pub mod TakenLaws
+pub mod Passing
+pub mod Formats
+pub mod Writing
+pub mod Streaming
+pub mod ReaderState

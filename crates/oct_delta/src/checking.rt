@@ -1,0 +1,112 @@
+//! Passing over operations, each as it should be, without memory.
+
+ghost use Rattle.std.specs.Prelude.{◌≡◌, ◌≤◌, None, IfOk};
+ghost use Rattle.std.specs.Ordering.{is_lt, nat_cmp};
+ghost use Rattle.std.specs.Cmp.Lexicographic.{slice_cmp};
+ghost use Rattle.oct_ops.specs.Body.{Operation};
+ghost use Rattle.oct_delta.specs.Text.{op_bytes};
+ghost use Rattle.oct_delta.specs.Passing.{Passed};
+ghost use Rattle.oct_delta.specs.Reading.{Gives, skipped, numbers_at, dots_at, removal_at, block_at, op_at, body_at, ops_at};
+
+use crate::fault::Fault;
+use crate::input::Input;
+use oct_code::LIMIT;
+
+fn is_greater(text: &[u8], previous: &[u8]) -> bool
+    ensures { result ≡ is_lt (slice_cmp nat_cmp previous.now text.now) }
+{
+    previous.cmp(text).is_lt()
+}
+
+impl<'a> Input<'a> {
+    fn skip_numbers(&mut self, count: u16) -> Result<(), Fault>
+        ensures { Gives (λ _. self.new) result (skipped (numbers_at count self.old)) }
+    {
+        self.bytes(4 * count as usize)?;
+        Ok(())
+    }
+
+    #[tactic(auto, unfolding(crate::specs::Reading::block_at))]
+    fn skip_block(&mut self, limit: usize) -> Result<(), Fault>
+        requires { limit ≤ LIMIT }
+        ensures { Gives (λ _. self.new) result (skipped (block_at limit self.old)) }
+    {
+        let front = self.front(limit)?;
+        self.skip_numbers(front.count)
+    }
+
+    fn skip_dots(&mut self, count: u16) -> Result<(), Fault>
+        ensures { Gives (λ _. self.new) result (skipped (dots_at count self.old)) }
+    {
+        let mut before = None;
+        for _ in 0..count {
+            before = Some(self.next_dot(before)?);
+        }
+        Ok(())
+    }
+
+    #[tactic(auto, unfolding(crate::specs::Reading::removal_at))]
+    fn skip_removal(&mut self) -> Result<(), Fault>
+        ensures { Gives (λ _. self.new) result (skipped (removal_at self.old)) }
+    {
+        let count = self.dot_count()?;
+        self.skip_dots(count)
+    }
+
+    #[tactic(auto, unfolding(crate::specs::Reading::body_at))]
+    fn skip_body(&mut self, limit: usize, kind: u8) -> Result<(), Fault>
+        requires { limit ≤ LIMIT }
+        ensures { Gives (λ _. self.new) result (skipped (body_at limit kind self.old)) }
+    {
+        match kind {
+            1 => self.skip_block(limit),
+            2 => {
+                self.period(limit)?;
+                Ok(())
+            }
+            3 => {
+                self.words()?;
+                Ok(())
+            }
+            4 => self.skip_removal(),
+            _ => Err(Fault::Malformed),
+        }
+    }
+
+    #[tactic(auto, unfolding(crate::specs::Reading::op_at))]
+    pub fn skip_op(&mut self, limit: usize) -> Result<(), Fault>
+        requires { limit ≤ LIMIT }
+        ensures { Gives (λ _. self.new) result (skipped (op_at limit self.old)) }
+    {
+        self.dot()?;
+        let kind = self.byte()?;
+        self.skip_body(limit, kind)
+    }
+
+    /// Passes over an operation, and gives its text.
+    pub fn op_text(&mut self, limit: usize) -> Result<&'a [u8], Fault>
+        requires { limit ≤ LIMIT }
+        ensures value { Gives (λ _. self.new) result (skipped (op_at limit self.old)) }
+        ensures text { IfOk result (λ text. (o : Operation) × Passed limit self.old self.new o × (text.now ≡ op_bytes o)) }
+    {
+        let before = self.rest();
+        self.skip_op(limit)?;
+        Ok(&before[..before.len() - self.rest().len()])
+    }
+
+    /// Passes over so many operations, each of them above the one before.
+    pub fn skip_ops(&mut self, limit: usize, count: u32) -> Result<(), Fault>
+        requires { limit ≤ LIMIT }
+        ensures { Gives (λ _. self.new) result (skipped (ops_at limit count self.old)) }
+    {
+        let mut previous: &[u8] = &[];
+        for _ in 0..count {
+            let text = self.op_text(limit)?;
+            if !is_greater(text, previous) {
+                return Err(Fault::Malformed);
+            }
+            previous = text;
+        }
+        Ok(())
+    }
+}

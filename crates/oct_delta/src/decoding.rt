@@ -1,0 +1,42 @@
+//! Deltas from bytes.
+
+ghost use Rattle.std.specs.Prelude.{◌≡◌, ◌↔◌, List, Some, None, IfOk, IsErrOf, IsSome};
+ghost use Rattle.oct_ops.specs.Body.{Operation};
+ghost use Rattle.oct_delta.specs.Delta.{IsDeltaText};
+ghost use Rattle.oct_delta.specs.Decoding.{format_at, read_delta};
+
+use crate::error::DeltaError;
+use crate::format::split_tag;
+use crate::list::{build_list, check_list};
+use oct_ops::OpList;
+use std::alloc::Allocator;
+
+/// The operations that the bytes spell, in either format. The bytes are checked as a whole before anything grows.
+/// The answer is `Version` exactly where the first four bytes are no tag, and `Refused` for any other bytes that are
+/// no delta.
+pub fn decode<A: Allocator + Copy>(alloc: A, bytes: &[u8]) -> Result<OpList<A>, DeltaError>
+    ensures ok { IfOk result (λ ops. IsDeltaText bytes.now ops) }
+    ensures read { IfOk result (λ ops. read_delta bytes.now ≡ Some ops) }
+    ensures version { IsErrOf result DeltaError.Version ↔ (format_at bytes.now ≡ None) }
+    // The first four bytes are a tag, and the bytes are the text of no list.
+    ensures refused { IsErrOf result DeltaError.Refused ↔ (IsSome (format_at bytes.now) × ((ops : List Operation) → ¬ IsDeltaText bytes.now ops)) }
+    ensures unread { IsErrOf result DeltaError.Refused → read_delta bytes.now ≡ None }
+    // Nothing grows before the bytes were found to be a delta.
+    ensures memory { IsErrOf result DeltaError.OutOfMemory → (ops : List Operation) × IsDeltaText bytes.now ops }
+    ensures failed { ¬ IsErrOf result DeltaError.Failed }
+{
+    let Some((edition, list)) = split_tag(bytes) else {
+        return Err(DeltaError::Version);
+    };
+    let limit = edition.limit();
+    if check_list(limit, list).is_err() {
+        return Err(DeltaError::Refused);
+    }
+    let Ok(ops) = build_list(alloc, limit, list) else {
+        return Err(DeltaError::OutOfMemory);
+    };
+    match OpList::from_rising(ops) {
+        Ok(list) => Ok(list),
+        Err(_) => Err(DeltaError::Refused),
+    }
+}

@@ -1,0 +1,228 @@
+//! Deltas as bytes.
+
+ghost use Rattle.std.specs.Prelude.{◌≡◌, ◌↔◌, ◌≤◌, ◌<◌, ◌^◌, ◌∷◌, ◌++◌, [], length, OnOk, OnErr, IsErrOf};
+ghost use Rattle.std.specs.List.{flat_map, list_all};
+ghost use Rattle.oct_ops.specs.Limits.{keeps_old_limits};
+ghost use Rattle.oct_ops.specs.Views.{content};
+ghost use Rattle.oct_delta.specs.Text.{code_bytes, dot_bytes, block_bytes, note_bytes, period_bytes, removal_bytes, body_bytes, op_bytes, u16, u32};
+ghost use Rattle.oct_delta.specs.Delta.{format_of, delta_bytes, encoded};
+ghost use Rattle.oct_delta.specs.Formats.{format};
+ghost use Rattle.oct_delta.specs.Writing.{Keeps};
+
+use crate::error::EncodeError;
+use crate::format::Edition;
+use crate::output::{put_byte, put_bytes, put_u16, put_u32};
+use oct_code::Code;
+use oct_ops::{Block, Body, Dot, Note, Op, OpList, Period, Removal};
+use std::alloc::{AllocError, Allocator};
+
+#[tactic(auto, using(crate::proofs::Written::keeps_then))]
+fn put_dot<A: Allocator>(out: &mut Vec<u8, A>, dot: Dot) -> Result<(), AllocError>
+    ensures ok { OnOk result (out.new.items ≡ out.old.items ++ dot_bytes dot) }
+    ensures kept { Keeps out.old.items out.new.items }
+{
+    put_u32(out, dot.author())?;
+    put_u32(out, dot.number())
+}
+
+#[tactic(auto, using(crate::proofs::Written::keeps_then))]
+fn put_code<A: Allocator>(out: &mut Vec<u8, A>, code: Code) -> Result<(), AllocError>
+    ensures ok { OnOk result (out.new.items ≡ out.old.items ++ code_bytes code) }
+    ensures kept { Keeps out.old.items out.new.items }
+{
+    put_byte(out, code.head())?;
+    put_byte(out, code.len() as u8)?;
+    put_bytes(out, code.digits())
+}
+
+#[tactic(auto, using(crate::proofs::Written::keeps_then))]
+fn put_numbers<A: Allocator>(out: &mut Vec<u8, A>, numbers: &[u32]) -> Result<(), AllocError>
+    ensures ok { OnOk result (out.new.items ≡ out.old.items ++ flat_map u32 numbers.now) }
+    ensures kept { Keeps out.old.items out.new.items }
+{
+    for number in numbers {
+        put_u32(out, *number)?;
+    }
+    Ok(())
+}
+
+#[tactic(auto, using(crate::proofs::Written::keeps_then))]
+fn put_block<A: Allocator>(out: &mut Vec<u8, A>, block: &Block<A>) -> Result<(), AllocError>
+    ensures ok { OnOk result (out.new.items ≡ out.old.items ++ block_bytes block.now) }
+    ensures kept { Keeps out.old.items out.new.items }
+{
+    let values = block.values();
+    put_code(out, block.code())?;
+    put_u32(out, block.start())?;
+    put_u16(out, values.len() as u16)?;
+    put_numbers(out, values)
+}
+
+#[tactic(auto, using(crate::proofs::Written::keeps_then))]
+fn put_period<A: Allocator>(out: &mut Vec<u8, A>, period: &Period) -> Result<(), AllocError>
+    ensures ok { OnOk result (out.new.items ≡ out.old.items ++ period_bytes period.now) }
+    ensures kept { Keeps out.old.items out.new.items }
+{
+    put_code(out, period.code())?;
+    put_u32(out, period.start())?;
+    put_u32(out, period.period())
+}
+
+#[tactic(auto, using(crate::proofs::Written::keeps_then))]
+fn put_note<A: Allocator>(out: &mut Vec<u8, A>, note: &Note<A>) -> Result<(), AllocError>
+    ensures ok { OnOk result (out.new.items ≡ out.old.items ++ note_bytes note.now) }
+    ensures kept { Keeps out.old.items out.new.items }
+{
+    let name = note.name();
+    let text = note.text();
+    put_byte(out, name.len() as u8)?;
+    put_bytes(out, name)?;
+    put_byte(out, text.len() as u8)?;
+    put_bytes(out, text)
+}
+
+#[tactic(auto, using(crate::proofs::Written::keeps_then))]
+fn put_dots<A: Allocator>(out: &mut Vec<u8, A>, dots: &[Dot]) -> Result<(), AllocError>
+    ensures ok { OnOk result (out.new.items ≡ out.old.items ++ flat_map dot_bytes dots.now) }
+    ensures kept { Keeps out.old.items out.new.items }
+{
+    for dot in dots {
+        put_dot(out, *dot)?;
+    }
+    Ok(())
+}
+
+#[tactic(auto, using(crate::proofs::Written::keeps_then))]
+fn put_removal<A: Allocator>(out: &mut Vec<u8, A>, removal: &Removal<A>) -> Result<(), AllocError>
+    ensures ok { OnOk result (out.new.items ≡ out.old.items ++ removal_bytes removal.now) }
+    ensures kept { Keeps out.old.items out.new.items }
+{
+    let dots = removal.dots();
+    put_u16(out, dots.len() as u16)?;
+    put_dots(out, dots)
+}
+
+fn put_body<A: Allocator>(out: &mut Vec<u8, A>, body: &Body<A>) -> Result<(), AllocError>
+    ensures ok { OnOk result (out.new.items ≡ out.old.items ++ body_bytes (content body.now)) }
+    ensures kept { Keeps out.old.items out.new.items }
+{
+    match body {
+        Body::Block(block) => put_block(out, block),
+        Body::Period(period) => put_period(out, period),
+        Body::Note(note) => put_note(out, note),
+        Body::Removal(removal) => put_removal(out, removal),
+    }
+}
+
+#[tactic(auto, using(crate::proofs::Written::keeps_then))]
+fn put_op<A: Allocator>(out: &mut Vec<u8, A>, op: &Op<A>) -> Result<(), AllocError>
+    ensures ok { OnOk result (out.new.items ≡ out.old.items ++ op_bytes op.now) }
+    ensures kept { Keeps out.old.items out.new.items }
+{
+    put_dot(out, op.dot())?;
+    put_byte(out, op.body().kind())?;
+    put_body(out, op.body())
+}
+
+#[tactic(auto, using(crate::proofs::Written::keeps_then))]
+fn put_ops<A: Allocator>(out: &mut Vec<u8, A>, ops: &[Op<A>]) -> Result<(), AllocError>
+    ensures ok { OnOk result (out.new.items ≡ out.old.items ++ flat_map op_bytes ops.now) }
+    ensures kept { Keeps out.old.items out.new.items }
+{
+    for op in ops {
+        put_op(out, op)?;
+    }
+    Ok(())
+}
+
+fn keep_old_limits<A: Allocator>(ops: &[Op<A>]) -> bool
+    ensures { result ≡ list_all keeps_old_limits ops.now }
+{
+    ops.iter().all(|op| op.keeps_old_limits())
+}
+
+// The edition of the text: the first where it can spell all operations.
+fn edition_of<A: Allocator>(ops: &[Op<A>]) -> Edition
+    ensures { format result ≡ format_of ops.now }
+{
+    if keep_old_limits(ops) {
+        Edition::First
+    } else {
+        Edition::Second
+    }
+}
+
+#[tactic(auto, using(crate::proofs::Written::keeps_then))]
+fn put_delta<A: Allocator>(out: &mut Vec<u8, A>, ops: &[Op<A>]) -> Result<(), AllocError>
+    requires { length ops.now < 2 ^ 32 }
+    ensures ok { OnOk result (out.new.items ≡ out.old.items ++ encoded ops.now) }
+    ensures kept { Keeps out.old.items out.new.items }
+{
+    put_bytes(out, &edition_of(ops).tag())?;
+    put_u32(out, ops.len() as u32)?;
+    put_ops(out, ops)
+}
+
+/// Adds the one text of a list that is written to the end of `out`: in the old format where all operations keep its
+/// limits, else in the new one. After a refusal `out` is as it was. The answer is `TooMany` exactly where the length
+/// of the list is no `u32`.
+pub fn encode<A: Allocator>(list: &OpList<A>, out: &mut Vec<u8, A>) -> Result<(), EncodeError>
+    ensures ok { OnOk result (out.new.items ≡ out.old.items ++ encoded list.now) }
+    ensures too_many { IsErrOf result EncodeError.TooMany ↔ (2 ^ 32 ≤ length list.now) }
+    ensures err { OnErr result (out.new.items ≡ out.old.items) }
+{
+    if list.len() > u32::MAX as usize {
+        return Err(EncodeError::TooMany);
+    }
+    let length = out.len();
+    if put_delta(out, list.as_slice()).is_err() {
+        out.truncate(length);
+        return Err(EncodeError::OutOfMemory);
+    }
+    Ok(())
+}
+
+fn block_size<A: Allocator>(block: &Block<A>) -> usize
+    ensures size { result ≡ length (block_bytes block.now) }
+    ensures small { result ≤ 4120 }
+{
+    8 + block.code().len() + 4 * block.values().len()
+}
+
+fn period_size(period: &Period) -> usize
+    ensures size { result ≡ length (period_bytes period.now) }
+    ensures small { result ≤ 26 }
+{
+    10 + period.code().len()
+}
+
+fn note_size<A: Allocator>(note: &Note<A>) -> usize
+    ensures size { result ≡ length (note_bytes note.now) }
+    ensures small { result ≤ 234 }
+{
+    2 + note.name().len() + note.text().len()
+}
+
+fn removal_size<A: Allocator>(removal: &Removal<A>) -> usize
+    ensures size { result ≡ length (removal_bytes removal.now) }
+    ensures small { result ≤ 8194 }
+{
+    2 + 8 * removal.dots().len()
+}
+
+/// The most bytes of an operation's text, which a removal of `MAX_ITEMS` dots has.
+pub const MAX_OP_SIZE: usize = 8_203;
+
+/// How many bytes the text of an operation has.
+pub fn op_size<A: Allocator>(op: &Op<A>) -> usize
+    ensures size { result ≡ length (op_bytes op.now) }
+    ensures small { result ≤ MAX_OP_SIZE }
+{
+    let body = match op.body() {
+        Body::Block(block) => block_size(block),
+        Body::Period(period) => period_size(period),
+        Body::Note(note) => note_size(note),
+        Body::Removal(removal) => removal_size(removal),
+    };
+    9 + body
+}

@@ -1,0 +1,41 @@
+//! Bytes and numbers at the end of a vector. A refusal leaves what was there before at the front.
+
+ghost use Rattle.std.specs.Prelude.{◌≡◌, ◌∷◌, ◌++◌, [], OnOk};
+ghost use Rattle.oct_delta.specs.Text.{u16, u32};
+ghost use Rattle.oct_delta.specs.Writing.{Keeps};
+
+use byteorder::{BigEndian, ByteOrder};
+use std::alloc::{AllocError, Allocator};
+
+#[tactic(auto, using(crate::proofs::Written::keeps_same, crate::proofs::Written::keeps_more))]
+pub fn put_bytes<A: Allocator>(out: &mut Vec<u8, A>, bytes: &[u8]) -> Result<(), AllocError>
+    ensures ok { OnOk result (out.new.items ≡ out.old.items ++ bytes.now) }
+    ensures kept { Keeps out.old.items out.new.items }
+{
+    out.extend_from_slice(bytes)
+}
+
+pub fn put_byte<A: Allocator>(out: &mut Vec<u8, A>, byte: u8) -> Result<(), AllocError>
+    ensures ok { OnOk result (out.new.items ≡ out.old.items ++ byte ∷ []) }
+    ensures kept { Keeps out.old.items out.new.items }
+{
+    put_bytes(out, &[byte])
+}
+
+pub fn put_u16<A: Allocator>(out: &mut Vec<u8, A>, number: u16) -> Result<(), AllocError>
+    ensures ok { OnOk result (out.new.items ≡ out.old.items ++ u16 number) }
+    ensures kept { Keeps out.old.items out.new.items }
+{
+    let mut bytes = [0; 2];
+    BigEndian::write_u16(&mut bytes, number);
+    put_bytes(out, &bytes)
+}
+
+pub fn put_u32<A: Allocator>(out: &mut Vec<u8, A>, number: u32) -> Result<(), AllocError>
+    ensures ok { OnOk result (out.new.items ≡ out.old.items ++ u32 number) }
+    ensures kept { Keeps out.old.items out.new.items }
+{
+    let mut bytes = [0; 4];
+    BigEndian::write_u32(&mut bytes, number);
+    put_bytes(out, &bytes)
+}
