@@ -1,0 +1,75 @@
+-- The mark between what is settled and what waits, and a shelf that makes room.
+use Rattle.std.proofs.Common.{◌≡◌, ℕ, ◌<◌, ◌≤◌, Bool, true, false, not, Some, None, List, [], ◌∷◌, length, get_or, refl, sym, ap, ◌∙◌, arith, inl, inr}
+use Rattle.std.specs.List.{AllWithin}
+use Rattle.std.specs.List.Sorted.{IsPartitionedBy, IsPartitionPoint}
+use Rattle.std.proofs.lemmas.Bool.{cases_lt, cases_order, true≢false}
+use Rattle.oct_code.specs.Code.{Code}
+use Rattle.oct_ops.specs.Operation.{Block}
+use Rattle.oct_verify.specs.Filed.{Filed}
+use Rattle.oct_verify.specs.Kept.{is_pending, IsSettling}
+use Rattle.oct_verify.specs.Paged.{paged, index_of, IsPaged, IsInside, IsBeside, content}
+use Rattle.oct_verify.specs.Shelf.{IsHalfway, IsKept}
+use Rattle.oct_verify.specs.Known.{first_wrong, verdict_at, verdict}
+use Rattle.oct_verify.specs.declared.pages.Pages.{Pages}
+use Rattle.oct_verify.specs.declared.pages.Place.{Place}
+use Rattle.oct_verify.specs.declared.shelf.Shelf.{Shelf}
+use Rattle.oct_verify.proofs.Joining.{end-upto}
+use Rattle.oct_verify.proofs.Keeping.{more_room}
+
+module _ {X : Type 0} (q : X → Bool) (xs : List X) (mark : ℕ) (pass : AllWithin (λ x. q x ≡ true) xs 0 mark) (fail : AllWithin (λ x. q x ≡ false) xs mark (length xs)) where
+  pub parted_by_mark : IsPartitionedBy q xs
+  parted_by_mark i j d le lt passes = elim (cases_lt i mark) [
+    | inl before ↦ pass i d (omega arith) before
+    | inr after ↦ absurd (true≢false (sym passes ∙ fail j d (omega arith) lt))
+  ]
+
+  pub one_mark : (k : ℕ) (x : X) → mark ≤ length xs → k < length xs → IsPartitionPoint (λ x. q x ≡ true) (λ x. q x ≡ false) xs k → k ≡ mark
+  one_mark k x mark_le lt point = elim (cases_order k mark) [
+    | inl e ↦ e
+    | inr h ↦ elim h [
+      | inl below ↦ absurd (true≢false (sym (pass k x (omega arith) below) ∙ point.1 k x (omega arith) lt))
+      | inr above ↦ absurd (true≢false (sym (point.0 mark x (omega arith) above) ∙ fail mark x (omega arith) (omega arith)))
+    ]
+  ]
+
+abbrev pub is_settled : Filed → Bool
+is_settled e = not (is_pending e.status)
+
+verdict-settled : (b : Block) → not (is_pending (verdict b)) ≡ true
+verdict-settled b = elim (first_wrong b.code b.start b.values) as (λ o. not (is_pending (verdict_at b o)) ≡ true) [ None ↦ refl | Some n ↦ refl ]
+
+module _ (code : Code) (es : List Filed) (settled known room : ℕ) (h : IsSettling code es settled known room) where
+  pub done_settled : AllWithin (λ e. is_settled e ≡ true) es 0 settled
+  done_settled k d lo hi = ap (λ s. not (is_pending s)) (h.done k d lo hi).judged ∙ verdict-settled (get_or es k d).block
+
+  pub waiting_not : AllWithin (λ e. is_settled e ≡ false) es settled (length es)
+  waiting_not k d lo hi = ap (λ s. not (is_pending s)) (h.waiting k d lo hi)
+
+-- a place with an entry is one of the list
+pub inside_within : {X A : Type 0} (s : Pages X A) (place : Place) → IsInside s place → index_of s place < length (paged s)
+inside_within s place h = elim s.pages.items as (λ l. s.pages.items ≡ l → index_of s place < length (paged s)) [
+  | [] ↦ λ e. absurd (omega (arith, h.page, ap length e))
+  | v ∷ vs ↦ λ e. omega (arith, end-upto content s.pages.items place.page v h.page, h.at v)
+] refl
+
+pub beside_upto : {X A : Type 0} (s : Pages X A) (place : Place) → IsBeside s place → index_of s place ≤ length (paged s)
+beside_upto s place h = elim s.pages.items as (λ l. s.pages.items ≡ l → index_of s place ≤ length (paged s)) [
+  | [] ↦ λ e. absurd (omega (arith, h.page, ap length e))
+  | v ∷ vs ↦ λ e. omega (arith, end-upto content s.pages.items place.page v h.page, h.at v)
+] refl
+
+-- a shelf whose content stays, and that may have more room
+module _ {A : Type 0} (s t : Shelf A) (kept : IsKept s) (pages : IsPaged t.entries) (same : paged t.entries ≡ paged s.entries) (known : t.known ≡ s.known) (checks : t.comparer.checks ≡ s.comparer.checks)
+    (code : t.comparer.values.code ≡ s.comparer.values.code) (len : t.comparer.values.len ≡ s.comparer.values.len) (room : s.comparer.values.room ≤ t.comparer.values.room) where
+  pub halfway_grown : IsHalfway t
+  halfway_grown =
+      let more = more_room s.comparer.values.code (paged s.entries) s.comparer.checks s.known s.comparer.values.room t.comparer.values.room room kept.halfway.settling in
+      record {
+        pages = pages;
+        settling = rw (code, same, checks, known) more;
+        within = rw known kept.halfway.within;
+        held = rw (known, len) kept.halfway.held;
+      }
+
+  pub kept_grown : IsKept t
+  kept_grown = record { halfway = halfway_grown; parked = rw (same, checks, known) kept.parked }

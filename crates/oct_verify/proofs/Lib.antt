@@ -1,0 +1,12 @@
+mod Ending
+mod Joining
+mod Lists
+mod Lookup
+mod Paging
+pub mod Answered
+pub mod Filings
+pub mod Growing
+pub mod Keeping
+pub mod KnownLaws
+pub mod Searching
+pub mod Verdicts

@@ -1,0 +1,24 @@
+use Rattle.std.proofs.Common.{◌≡◌, ◌≤◌, ◌∙◌, ap, arith, sym}
+use Rattle.oct_mex.specs.Held.{Held}
+use Rattle.oct_verify.specs.Known.{end}
+use Rattle.oct_verify.proofs.Verdicts.{compared_equal, compared_differ}
+use Rattle.oct_verify.proofs.comparer.Comparer.compare.Goals as goal
+
+pub returns-in-None-clause-status : goal.returns-in-None-clause-status
+returns-in-None-clause-status g c =
+    let b = c.args.block.now in
+    let held = c.extend_within.new.self in
+    let code : held.code ≡ b.code = ap (λ (h : Held). h.code) c.extend_within.ensures ∙ sym c.requires.game in
+    let far : end b ≤ held.len = omega (arith, ap (λ (h : Held). h.len) c.extend_within.ensures, c.end-end.ensures.value) in
+    let same = rw (c.values-claimed.ensures.value, c.start-start.ensures.value, c.end-end.ensures.value, c.as_slice.ensures.values, code) at c.in-None.ensures in
+    compared_equal b held.len far same
+
+pub returns-in-Some-clause-status : goal.returns-in-Some-clause-status
+returns-in-Some-clause-status g c =
+    let b = c.args.block.now in
+    let held = c.extend_within.new.self in
+    let code : held.code ≡ b.code = ap (λ (h : Held). h.code) c.extend_within.ensures ∙ sym c.requires.game in
+    let far : end b ≤ held.len = omega (arith, ap (λ (h : Held). h.len) c.extend_within.ensures, c.end-end.ensures.value) in
+    let differ = rw (c.values-claimed.ensures.value, c.start-start.ensures.value, c.end-end.ensures.value, c.as_slice.ensures.values, code) at c.in-Some.ensures in
+    rw (c.values-claimed.ensures.value, c.start-start.ensures.value, c.end-end.ensures.value, c.as_slice.ensures.values, code)
+    (compared_differ b held.len c.in-Some.index far differ.within differ.differs differ.before)

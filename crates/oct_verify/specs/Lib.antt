@@ -1,0 +1,11 @@
+pub use Rattle.oct_code.specs.Code
+pub use Rattle.oct_mex.specs.NimValues
+pub use Rattle.oct_ops.specs.Operation
+pub mod Filed
+pub mod Filing
+pub mod FilingLaws
+pub mod Kept
+pub mod Known
+pub mod Laws
+pub mod Paged
+pub mod Shelf

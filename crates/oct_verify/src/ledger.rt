@@ -1,0 +1,113 @@
+//! The ledger of a game.
+
+ghost use Rattle.std.specs.Prelude.{◌≡◌, ◌<◌, ◌≤◌, true, Some, None, nat_le, nat_lt, if◌then◌else◌, count_by, length, OnOk, OnErr, IfErr};
+ghost use Rattle.oct_mex.specs.NimValues.{nim_value, nim_values};
+ghost use Rattle.oct_ops.specs.Sets as sets;
+ghost use Rattle.oct_verify.specs.Filing.{Filing, blocks_in};
+ghost use Rattle.oct_verify.specs.Known.{known, status, IsKnownLength};
+
+use crate::shelf::Shelf;
+use crate::status::Status;
+use oct_code::{Code, LIMIT};
+use oct_ops::{Block, Dot};
+use std::alloc::{AllocError, Allocator};
+use std::marker::Model;
+
+/// A finite set of blocks of one game, each under its dot, with what is known from them. Only `add` asks for memory.
+#[derive(Drop)]
+pub struct Ledger<A: Allocator + Copy> {
+    shelf: Shelf<A>,
+}
+
+impl<A: Allocator + Copy> Model for Ledger<A> {
+    ghost use Rattle.oct_verify.specs.Filing.{GameBlocks, game_blocks_code};
+    ghost use Rattle.oct_verify.specs.Shelf.{shelved, IsKept};
+
+    ghost Value = { GameBlocks };
+
+    ghost coded = { game_blocks_code };
+
+    ghost view = { λ a. record { code = a.shelf.comparer.values.code; blocks = shelved a.shelf } };
+
+    ghost invariant = { λ a. IsKept a.shelf };
+}
+
+impl<A: Allocator + Copy> Ledger<A> {
+    /// The ledger of a game without blocks. Takes no memory.
+    pub fn new(alloc: A, code: Code) -> Ledger<A>
+        ensures { result ≡ record { code = code; blocks = sets.empty } }
+    {
+        Ledger {
+            shelf: Shelf::new(alloc, code),
+        }
+    }
+
+    /// The code of the game.
+    pub fn code(&self) -> Code
+        ensures { result ≡ self.now.code }
+    {
+        self.shelf.comparer.values.code()
+    }
+
+    /// Adds a block of the game under its dot, and settles blocks that waited until none of them starts at or below the known
+    /// length. A pair that is there changes nothing. All memory is asked for first: where it is refused, nothing changes,
+    /// and the block is handed back.
+    pub fn add(&mut self, dot: Dot, block: Block<A>) -> Result<(), (AllocError, Block<A>)>
+        requires { block.code ≡ self.old.code }
+        ensures ok { OnOk result (self.new ≡ record self.old { blocks = sets.insert self.old.blocks (dot, block) }) }
+        ensures err { OnErr result (self.new ≡ self.old) }
+        ensures returned { IfErr result (λ refused. refused.1 ≡ block) }
+    {
+        self.shelf.add(dot, block)
+    }
+
+    /// The known length: the greatest number, from 1 on, such that each heap from 1 on below it lies in some true block.
+    pub fn known(&self) -> u32
+        ensures value { result ≡ known (blocks_in self.now.blocks) }
+        ensures greatest { IsKnownLength (blocks_in self.now.blocks) result }
+        ensures within { result ≤ LIMIT }
+    {
+        self.shelf.known
+    }
+
+    /// The status of a block that is here under this dot. It is looked up, and nothing is compared.
+    pub fn status(&self, dot: &Dot, block: &Block<A>) -> Status
+        requires { sets.contains self.now.blocks (dot.now, block.now) ≡ true }
+        ensures { result ≡ status (blocks_in self.now.blocks) block.now }
+    {
+        match self.shelf.place(dot, block) {
+            Ok(place) => self.shelf.entries.item_at(place).status(),
+            Err(_) => unreachable!(),
+        }
+    }
+
+    /// How many times a block was compared with the nim-values: once for each pair whose block starts at or below the
+    /// known length.
+    pub fn checks(&self) -> u64
+        ensures { result ≡ count_by (λ (f : Filing). nat_le f.1.start (known (blocks_in self.now.blocks))) (sets.listed self.now.blocks) }
+    {
+        self.shelf.comparer.checks
+    }
+
+    /// The nim-values of the heaps below the known length.
+    pub fn known_values(&self) -> &[u32]
+        ensures values { result.now ≡ nim_values self.now.code (known (blocks_in self.now.blocks)) }
+        ensures len { length result.now ≡ known (blocks_in self.now.blocks) }
+        ensures within { length result.now ≤ LIMIT }
+    {
+        let known = self.shelf.known as usize;
+        let held = self.shelf.comparer.values.as_slice();
+        if held.len() < known {
+            &[0]
+        } else {
+            &held[..known]
+        }
+    }
+
+    /// The nim-value of a heap below the known length.
+    pub fn value(&self, heap: u32) -> Option<u32>
+        ensures { result ≡ (if nat_lt heap (known (blocks_in self.now.blocks)) then Some (nim_value self.now.code heap) else None) }
+    {
+        self.known_values().get(heap as usize).copied()
+    }
+}
