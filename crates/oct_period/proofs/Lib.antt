@@ -1,0 +1,5 @@
+pub mod HeapValues
+pub mod Play
+mod Rows
+pub mod Statuses
+pub mod Xor

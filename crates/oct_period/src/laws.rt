@@ -1,0 +1,30 @@
+//! What holds of all claims of a game, whatever its blocks. A caller gets each law from the contract of its function.
+
+ghost use Rattle.oct_period.specs.Laws.{ProvedHolds, RefutedIsFirstBreak, SettledClaimsStay, HeapValuesAreRight, PositionValuesAreRight, NextPlayerWins, WinsAboveZero, OutcomeByValue};
+
+/// A proved claim holds for every heap from its start on, and a refuted one is refuted at the least of all heaps that
+/// break it.
+pub fn statuses_are_right()
+    ensures proved { ProvedHolds }
+    ensures refuted { RefutedIsFirstBreak }
+{}
+
+/// A claim that is proved or refuted stays so with more blocks, at the same heap.
+pub fn settled_claims_stay()
+    ensures { SettledClaimsStay }
+{}
+
+/// The value that is given of a heap is its nim-value, and that of a position the exclusive or of the nim-values of its
+/// heaps, whichever proved claims gave them.
+pub fn values_are_right()
+    ensures heap { HeapValuesAreRight }
+    ensures position { PositionValuesAreRight }
+{}
+
+/// The player to move wins exactly where the nim-value of the position is not 0 (Sprague 1935, Grundy 1939), so an outcome
+/// is told by the value that is given of the position.
+pub fn winners_are_told_by_values()
+    ensures moves { NextPlayerWins }
+    ensures value { WinsAboveZero }
+    ensures outcome { OutcomeByValue }
+{}

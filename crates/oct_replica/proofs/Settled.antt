@@ -1,0 +1,90 @@
+-- What is proved or refuted stays so when operations are added.
+use Rattle.std.proofs.Common.{◌≡◌, ℕ, ◌≤◌, Bool, true, false, cond, ◌||◌, ◌==◌, List, [], ◌∷◌, Option, Some, None, inl, inr, refl, sym, ap, ◌∙◌, subst, arith}
+use Rattle.std.specs.List.{Contains, filter_map, cons_option}
+use Rattle.std.proofs.lemmas.Bool.{cases_eq, eq-eqb, or_left}
+use Rattle.oct_code.specs.Code.{Code}
+use Rattle.oct_ops.specs.Operation.{Dot, Block, Period}
+use Rattle.oct_ops.specs.Operations.{Operations, IsSubset, listed}
+use Rattle.oct_ops.specs.Valid.{IsPeriod}
+use Rattle.oct_mex.proofs.Members as members
+use Rattle.oct_verify.specs.Laws.{AreAmong}
+use Rattle.oct_verify.specs.declared.status.Status.TheVariants as block_status
+use Rattle.oct_verify.proofs.KnownLaws.{settled_stays}
+use Rattle.oct_period.specs.declared.status.PeriodStatus.TheVariants as claim_status
+use Rattle.oct_period.proofs.Statuses as claims
+use Rattle.oct_pages.specs.Catalogue.{block_in, blocks_of}
+use Rattle.oct_replica.specs.Settled.{blocks_in, SettledBlocksStay, SettledClaimsStay}
+use Rattle.oct_replica.proofs.Members.{In, In-among, among-In, In-map, Has-listed, In-listed}
+
+-- ---- parts of lists
+
+pub In-contains : {X : Type 0} (xs : List X) (x : X) → Contains xs x → In x xs
+In-contains xs x h = In-among xs x (h.0, (h.1, sym h.2))
+
+pub contains-In : {X : Type 0} (xs : List X) (x : X) → In x xs → Contains xs x
+contains-In xs x h = let among = among-In xs x h in (among.0, among.1.0, sym among.1.1)
+
+In-cons_option : {Y : Type 0} (o : Option Y) (ys : List Y) (y : Y) → In y ys → In y (cons_option o ys)
+In-cons_option None ys y i = i
+In-cons_option (Some v) ys y i = inr i
+
+pub In-filter_map : {X Y : Type 0} (f : X → Option Y) (xs : List X) (x : X) (y : Y) → In x xs → f x ≡ Some y → In y (filter_map f xs)
+In-filter_map f [] x y h k = absurd h
+In-filter_map f (z ∷ xs) x y h k = elim h [
+  | inl e ↦ subst (λ o. In y (cons_option o (filter_map f xs))) (sym (ap f (sym e) ∙ k)) (inl refl)
+  | inr t ↦ In-cons_option (f z) (filter_map f xs) y (In-filter_map f xs x y t k)
+]
+
+pub In-filter_map_source : {X Y : Type 0} (f : X → Option Y) (xs : List X) (y : Y) → In y (filter_map f xs) → (x : X) × In x xs × (f x ≡ Some y)
+In-filter_map_source f [] y h = absurd h
+In-filter_map_source f (z ∷ xs) y h =
+    elim (f z) as (λ o. f z ≡ o → In y (cons_option o (filter_map f xs)) → (x : _) × In x (z ∷ xs) × (f x ≡ Some y)) [
+      | None ↦ λ e i. let s = In-filter_map_source f xs y i in (s.0, inr s.1, s.2)
+      | Some v ↦ λ e i. elim i [ inl same ↦ (z, inl refl, e ∙ ap Some (sym same)) | inr t ↦ let s = In-filter_map_source f xs y t in (s.0, inr s.1, s.2) ]
+    ] refl h
+
+pub blocks_grow : (c : Code) (ops more : Operations) → IsSubset ops more → AreAmong (blocks_in c ops) (blocks_in c more)
+blocks_grow c ops more sub b h =
+    let pair = members.In-map_source (λ (q : Dot × Block). q.1) b (blocks_of c (listed ops)) (In-contains (blocks_in c ops) b h) in
+    let op = In-filter_map_source (block_in c) (listed ops) pair.0 pair.1 in
+    let stays : In pair.0 (blocks_of c (listed more)) = In-filter_map (block_in c) (listed more) op.0 pair.0 (In-listed more op.0 (sub op.0 (Has-listed ops op.0 op.1))) op.2 in
+    contains-In (blocks_in c more) b (subst (λ a. In a (blocks_in c more)) (sym pair.2) (In-map (λ (q : Dot × Block). q.1) pair.0 (blocks_of c (listed more)) stays))
+
+pub settled_blocks_stay : SettledBlocksStay
+settled_blocks_stay ops more c b sub =
+    let among = blocks_grow c ops more sub in
+    record {
+      proved = λ is. settled_stays (blocks_in c ops) (blocks_in c more) b among (λ pending. clash (sym is ∙ pending)) ∙ is;
+      refuted = λ place claimed truth is. settled_stays (blocks_in c ops) (blocks_in c more) b among (λ pending. clash_refuted (sym is ∙ pending)) ∙ is;
+    }
+  where
+    clash : block_status.Proved ≡ block_status.Pending → ⊥
+    clash e = cc
+
+    clash_refuted : {place claimed truth : ℕ} → block_status.Refuted place claimed truth ≡ block_status.Pending → ⊥
+    clash_refuted e = cc
+
+zero_fault : {E : Type 0} (fault : E) (b : Bool) (rest : Option E) → b ≡ true → cond b (Some fault) rest ≡ None → ⊥
+zero_fault fault true rest h none = cc
+zero_fault fault false rest h none = cc
+
+-- a claim starts at 1 or later
+pub start_some : (p : Period) → IsPeriod p → 1 ≤ p.start
+start_some p valid = elim (cases_eq p.start 0) [
+  | inr some ↦ omega arith
+  | inl none ↦ absurd (zero_fault _ ((p.start == 0) || (p.period == 0)) _ (or_left (p.start == 0) (p.period == 0) (eq-eqb p.start 0 none)) valid.faultless)
+]
+
+pub settled_claims_stay : SettledClaimsStay
+settled_claims_stay ops more c p valid sub =
+    let among = blocks_grow c ops more sub in
+    record {
+      proved = λ is. claims.settled_claims_stay (blocks_in c ops) (blocks_in c more) p among (start_some p valid) (λ n pending. clash n (sym is ∙ pending)) ∙ is;
+      refuted = λ place is. claims.settled_claims_stay (blocks_in c ops) (blocks_in c more) p among (start_some p valid) (λ n pending. clash_refuted place n (sym is ∙ pending)) ∙ is;
+    }
+  where
+    clash : (n : ℕ) → claim_status.Proved ≡ claim_status.Pending n → ⊥
+    clash n e = cc
+
+    clash_refuted : (place n : ℕ) → claim_status.Refuted place ≡ claim_status.Pending n → ⊥
+    clash_refuted place n e = cc

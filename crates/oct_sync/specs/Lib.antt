@@ -1,0 +1,4 @@
+pub use Rattle.oct_ops.specs.Operations
+pub mod Frames
+pub mod Laws
+pub mod Session

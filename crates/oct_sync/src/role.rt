@@ -1,0 +1,10 @@
+//! The two sides of a session.
+
+/// Which side of a session a replica is.
+#[derive(Clone, Copy, Debug, PartialEq, Eq)]
+pub enum Role {
+    /// It speaks first.
+    Client,
+    /// It answers.
+    Server,
+}
