@@ -1,0 +1,5 @@
+mod Building
+mod FiledLaws
+mod FirstPaths
+mod LineLemmas
+mod Storing

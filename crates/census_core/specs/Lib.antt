@@ -1,0 +1,4 @@
+pub mod Filed
+pub mod Folded
+pub mod Output
+pub mod Statuses

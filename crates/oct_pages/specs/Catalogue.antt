@@ -1,0 +1,190 @@
+-- The catalogue of a set of operations, line by line. The operations are listed in their order.
+use Rattle.std.specs.Prelude.{ℕ, ◌+◌, ◌*◌, ◌/◌, Bool, true, false, nat_lt, List, [], ◌∷◌, ◌++◌, map, length, take, drop, codes, Option, Some, None}
+use Rattle.std.specs.List.{filter_map, flat_map, concat, range_with_len}
+use Rattle.std.specs.Fmt.{decimal}
+use Rattle.oct_code.specs.Code.{Code, code_cmp, code_eq}
+use Rattle.oct_code.specs.CodeText.{code_text}
+use Rattle.oct_mex.specs.NimValues.{nim_values}
+use Rattle.oct_ops.specs.Arranged.{arranged}
+use Rattle.oct_ops.specs.Operation.{Dot, Block, Period, Note}
+use Rattle.oct_ops.specs.Body as kind
+use Rattle.oct_ops.specs.Body.{Body, Operation}
+use Rattle.oct_store.specs.Summary as summary
+use Rattle.oct_notes.specs.Notes.{live_notes}
+use Rattle.oct_verify.specs.Known.{known, status}
+use Rattle.oct_verify.specs.declared.status.Status.{Status}
+use Rattle.oct_verify.specs.declared.status.Status.TheVariants as block_status
+use Rattle.oct_period.specs.Periods.{period_status}
+use Rattle.oct_period.specs.declared.status.PeriodStatus.{PeriodStatus}
+use Rattle.oct_period.specs.declared.status.PeriodStatus.TheVariants as claim_status
+
+abbrev pub Text : Type 0
+Text = List ℕ
+
+-- a text, and then a number
+abbrev pub labelled : Text → ℕ → Text
+labelled label n = label ++ decimal n
+
+abbrev pub dot_text : Dot → Text
+dot_text d = decimal d.author ++ codes "." ++ decimal d.number
+
+-- ---- games
+
+-- the game of a block or a claim
+abbrev pub game_of : Operation → Option Code
+game_of o = elim o.body [ kind.Block b ↦ Some b.code | kind.Period p ↦ Some p.code | kind.Note n ↦ None | kind.Removal r ↦ None ]
+
+-- the games that have a block or a claim, by head, then by k, then by the digits
+abbrev pub games : List Operation → List Code
+games ops = arranged code_cmp (filter_map game_of ops)
+
+-- the value, where the test is true
+abbrev pub if_some : {A : Type 0} → Bool → A → Option A
+if_some true x = Some x
+if_some false x = None
+
+-- a block of the game
+abbrev pub block_of_game : Code → Body → Option Block
+block_of_game c (kind.Block b) = if_some (code_eq b.code c) b
+block_of_game c (kind.Period p) = None
+block_of_game c (kind.Note n) = None
+block_of_game c (kind.Removal r) = None
+
+-- a claim of the game
+abbrev pub claim_of_game : Code → Body → Option Period
+claim_of_game c (kind.Block b) = None
+claim_of_game c (kind.Period p) = if_some (code_eq p.code c) p
+claim_of_game c (kind.Note n) = None
+claim_of_game c (kind.Removal r) = None
+
+-- what is there, under its dot
+abbrev pub under : {A : Type 0} → Dot → Option A → Option (Dot × A)
+under d None = None
+under d (Some x) = Some (d, x)
+
+abbrev pub block_in : Code → Operation → Option (Dot × Block)
+block_in c o = under o.dot (block_of_game c o.body)
+
+abbrev pub claim_in : Code → Operation → Option (Dot × Period)
+claim_in c o = under o.dot (claim_of_game c o.body)
+
+-- the blocks of the game, each under its dot, and its claims, in operation order
+abbrev pub blocks_of : Code → List Operation → List (Dot × Block)
+blocks_of c ops = filter_map (block_in c) ops
+
+abbrev pub claims_of : Code → List Operation → List (Dot × Period)
+claims_of c ops = filter_map (claim_in c) ops
+
+-- ---- the lines of a game
+
+abbrev pub refutation_text : ℕ → ℕ → ℕ → Text
+refutation_text place claimed truth = labelled (codes " refuted at ") place ++ labelled (codes " claimed ") claimed ++ labelled (codes " true ") truth
+
+abbrev pub status_text : Status → Text
+status_text block_status.Proved = codes " proved"
+status_text (block_status.Refuted place claimed truth) = refutation_text place claimed truth
+status_text block_status.Pending = codes " pending"
+
+abbrev pub claim_text : Dot → Block → Text
+claim_text d b = codes "block " ++ dot_text d ++ labelled (codes " at ") b.start ++ labelled (codes " count ") (length b.values)
+
+abbrev pub block_text : Dot → Block → Status → Text
+block_text d b s = claim_text d b ++ status_text s ++ codes "\n"
+
+abbrev pub block_line : List Block → Dot × Block → Text
+block_line blocks b = block_text b.0 b.1 (status blocks b.1)
+
+abbrev pub period_status_text : PeriodStatus → Text
+period_status_text claim_status.Proved = codes " proved"
+period_status_text (claim_status.Refuted place) = labelled (codes " refuted at ") place
+period_status_text (claim_status.Pending count) = labelled (codes " pending needs ") count
+
+abbrev pub period_text : Dot → Period → PeriodStatus → Text
+period_text d p s = codes "period " ++ dot_text d ++ labelled (codes " from ") p.start ++ labelled (codes " by ") p.period ++ period_status_text s ++ codes "\n"
+
+abbrev pub period_line : List Block → Dot × Period → Text
+period_line blocks p = period_text p.0 p.1 (period_status blocks p.1)
+
+-- a space, and then the number
+abbrev pub value_text : ℕ → Text
+value_text v = labelled (codes " ") v
+
+abbrev pub values_text : ℕ → List ℕ → Text
+values_text first values = labelled (codes "values ") first ++ flat_map value_text values ++ codes "\n"
+
+-- sixteen values to a line, after the first one's place
+abbrev pub values_line : List ℕ → ℕ → Text
+values_line all i = values_text (16 * i) (take 16 (drop (16 * i) all))
+
+abbrev pub values_lines : List ℕ → List Text
+values_lines all = map (values_line all) (range_with_len 0 ((length all + 15) / 16))
+
+abbrev pub game_text : Code → ℕ → Text
+game_text c k = codes "game " ++ code_text c ++ labelled (codes " known ") k ++ codes "\n"
+
+-- a game's known nim-values, its blocks and its claims, both in the order of the operations
+abbrev pub game_lines : List Operation → Code → List Text
+game_lines ops c =
+    let pairs = blocks_of c ops in
+    let blocks = map (λ (b : Dot × Block). b.1) pairs in
+    game_text c (known blocks)
+    ∷ values_lines (nim_values c (known blocks)) ++ map (block_line blocks) pairs ++ map (period_line blocks) (claims_of c ops)
+
+-- ---- notes, forks, authors
+
+-- a note without text ends with the space after its dot
+abbrev pub note_text : Dot → Note → Text
+note_text d n = codes "note " ++ n.name ++ codes " " ++ dot_text d ++ codes " " ++ n.text ++ codes "\n"
+
+abbrev pub note_line : Operation → Text
+note_line o = elim o.body [ kind.Block b ↦ [] | kind.Period p ↦ [] | kind.Note n ↦ note_text o.dot n | kind.Removal r ↦ [] ]
+
+abbrev pub fork_text : Dot → ℕ → Text
+fork_text d contents = codes "fork " ++ dot_text d ++ labelled (codes " contents ") contents ++ codes "\n"
+
+abbrev pub fork_line : List Operation → Dot → Text
+fork_line ops d = fork_text d (summary.contents ops d)
+
+abbrev pub author_text : ℕ → ℕ → ℕ → Text
+author_text author through last = labelled (codes "author ") author ++ labelled (codes " through ") through ++ labelled (codes " last ") last ++ codes "\n"
+
+abbrev pub author_line : List Operation → ℕ → Text
+author_line ops a = author_text a (summary.through ops a) (summary.last ops a)
+
+-- ---- the whole
+
+-- the first line, which names the rules of the text
+abbrev pub heading : Text
+heading = codes "census 1\n"
+
+abbrev pub ending : Text
+ending = codes "end\n"
+
+abbrev pub lines : List Operation → List Text
+lines ops =
+    heading
+    ∷ flat_map (game_lines ops) (games ops)
+    ++ map note_line (live_notes ops)
+    ++ map (fork_line ops) (summary.forks ops)
+    ++ map (author_line ops) (summary.authors ops)
+    ++ ending ∷ []
+
+abbrev pub catalogue : List Operation → Text
+catalogue ops = concat (lines ops)
+
+-- ---- pages
+
+-- how many lines a page has
+abbrev pub page_length : ℕ
+page_length = 64
+
+-- whether there is a page i, counted from 0
+abbrev pub has_page : List Operation → ℕ → Bool
+has_page ops i = nat_lt (page_length * i) (length (lines ops))
+
+abbrev pub page_lines : List Operation → ℕ → List Text
+page_lines ops i = take page_length (drop (page_length * i) (lines ops))
+
+-- the lines from 64 i on, at most 64 of them
+abbrev pub page : List Operation → ℕ → Text
+page ops i = concat (page_lines ops i)

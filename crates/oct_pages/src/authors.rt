@@ -1,0 +1,68 @@
+// The lines of authors and forks.
+
+ghost use Rattle.std.specs.Prelude.{◌≡◌, ◌++◌, map, OnOk};
+ghost use Rattle.std.specs.List.{concat};
+ghost use Rattle.oct_ops.specs.Operations.{listed};
+ghost use Rattle.oct_pages.specs.Catalogue.{author_line, author_text, fork_line, fork_text};
+ghost use Rattle.oct_store.specs.Summary as summary;
+ghost use Rattle.oct_pages.specs.Growth.{Extends};
+
+use crate::words::{append_dot, append_labelled};
+use oct_store::{Author, Fork, Store};
+use std::alloc::{AllocError, Allocator};
+
+// Appends the lines of all authors.
+pub(crate) fn append_authors<A: Allocator + Copy>(
+    out: &mut Vec<u8, A>,
+    store: &Store<A>,
+) -> Result<(), AllocError>
+    ensures ok { OnOk result (out.new.items ≡ out.old.items ++ concat (map (author_line (listed store.now)) (summary.authors (listed store.now)))) }
+    ensures grown { Extends out.old.items out.new.items }
+{
+    let authors = store.authors()?;
+    for author in &authors {
+        append_author(out, author)?;
+    }
+    Ok(())
+}
+
+// Appends the lines of all forks.
+pub(crate) fn append_forks<A: Allocator + Copy>(
+    out: &mut Vec<u8, A>,
+    store: &Store<A>,
+) -> Result<(), AllocError>
+    ensures ok { OnOk result (out.new.items ≡ out.old.items ++ concat (map (fork_line (listed store.now)) (summary.forks (listed store.now)))) }
+    ensures grown { Extends out.old.items out.new.items }
+{
+    let forks = store.forks()?;
+    for fork in &forks {
+        append_fork(out, fork)?;
+    }
+    Ok(())
+}
+
+// Appends the line of an author.
+pub(crate) fn append_author<A: Allocator>(
+    out: &mut Vec<u8, A>,
+    author: &Author,
+) -> Result<(), AllocError>
+    ensures ok { OnOk result (out.new.items ≡ out.old.items ++ author_text author.now.author author.now.through author.now.last) }
+    ensures grown { Extends out.old.items out.new.items }
+{
+    append_labelled(out, b"author ", author.author)?;
+    append_labelled(out, b" through ", author.through)?;
+    append_labelled(out, b" last ", author.last)?;
+    out.extend_from_slice(b"\n")
+}
+
+// Appends the line of a fork.
+pub(crate) fn append_fork<A: Allocator>(out: &mut Vec<u8, A>, fork: &Fork) -> Result<(), AllocError>
+    ensures ok { OnOk result (out.new.items ≡ out.old.items ++ fork_text fork.now.dot fork.now.contents) }
+    ensures grown { Extends out.old.items out.new.items }
+{
+    out.extend_from_slice(b"fork ")?;
+    append_dot(out, fork.dot)?;
+    out.extend_from_slice(b" contents ")?;
+    out.extend_from_slice(itoa::Buffer::new().format(fork.contents).as_bytes())?;
+    out.extend_from_slice(b"\n")
+}

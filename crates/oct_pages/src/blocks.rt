@@ -1,0 +1,83 @@
+// The lines of a game and its blocks.
+
+ghost use Rattle.std.specs.Prelude.{◌≡◌, ◌++◌, ◌*◌, OnOk, length};
+ghost use Rattle.oct_pages.specs.Catalogue.{game_text, block_text, claim_text, refutation_text, status_text};
+ghost use Rattle.oct_pages.specs.Growth.{Extends};
+
+use crate::words::{append_dot, append_labelled};
+use oct_code::Code;
+use oct_ops::{Block, Dot};
+use oct_verify::Status;
+use std::alloc::{AllocError, Allocator};
+
+// Appends the first line of a game.
+pub(crate) fn append_game<A: Allocator>(
+    out: &mut Vec<u8, A>,
+    code: &Code,
+    known: u32,
+) -> Result<(), AllocError>
+    ensures ok { OnOk result (out.new.items ≡ out.old.items ++ game_text code.now known) }
+    ensures grown { Extends out.old.items out.new.items }
+{
+    out.extend_from_slice(b"game ")?;
+    code.append_text(out)?;
+    append_labelled(out, b" known ", known)?;
+    out.extend_from_slice(b"\n")
+}
+
+// Appends a space and the words of a status.
+fn append_status<A: Allocator>(out: &mut Vec<u8, A>, status: &Status) -> Result<(), AllocError>
+    ensures ok { OnOk result (out.new.items ≡ out.old.items ++ status_text status.now) }
+    ensures grown { Extends out.old.items out.new.items }
+{
+    match status {
+        Status::Proved => out.extend_from_slice(b" proved"),
+        Status::Pending => out.extend_from_slice(b" pending"),
+        Status::Refuted { at, claimed, truth } => append_refutation(out, *at, *claimed, *truth),
+    }
+}
+
+// Appends the words of a refutation.
+fn append_refutation<A: Allocator>(
+    out: &mut Vec<u8, A>,
+    at: u32,
+    claimed: u32,
+    truth: u32,
+) -> Result<(), AllocError>
+    ensures ok { OnOk result (out.new.items ≡ out.old.items ++ refutation_text at claimed truth) }
+    ensures grown { Extends out.old.items out.new.items }
+{
+    append_labelled(out, b" refuted at ", at)?;
+    append_labelled(out, b" claimed ", claimed)?;
+    append_labelled(out, b" true ", truth)
+}
+
+// Appends the line of a block.
+pub(crate) fn append_block<A: Allocator>(
+    out: &mut Vec<u8, A>,
+    dot: Dot,
+    block: &Block<A>,
+    status: &Status,
+) -> Result<(), AllocError>
+    ensures ok { OnOk result (out.new.items ≡ out.old.items ++ block_text dot block.now status.now) }
+    ensures grown { Extends out.old.items out.new.items }
+{
+    append_claim(out, dot, block)?;
+    append_status(out, status)?;
+    out.extend_from_slice(b"\n")
+}
+
+// Appends which block it is, where it begins and how many values it has.
+fn append_claim<A: Allocator>(
+    out: &mut Vec<u8, A>,
+    dot: Dot,
+    block: &Block<A>,
+) -> Result<(), AllocError>
+    ensures ok { OnOk result (out.new.items ≡ out.old.items ++ claim_text dot block.now) }
+    ensures grown { Extends out.old.items out.new.items }
+{
+    out.extend_from_slice(b"block ")?;
+    append_dot(out, dot)?;
+    append_labelled(out, b" at ", block.start())?;
+    append_labelled(out, b" count ", block.end() - block.start())
+}

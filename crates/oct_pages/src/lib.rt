@@ -1,0 +1,26 @@
+//! The catalogue of a set of operations: the text that a census shows, and its pages.
+//!
+//! The text is read off the set alone, so replicas with the same operations print the same bytes. For the first values
+//! of Kayles, claimed from heap 0 on, it is:
+//!
+//!     census 1
+//!     game 0.77 known 5
+//!     values 0 0 1 2 3 1
+//!     block 1.1 at 0 count 5 proved
+//!     author 1 through 1 last 1
+//!     end
+//!
+//! Each game comes with its known nim-values, its blocks and its period claims, each with its status. Then come the live
+//! notes by name, the dots that came with several contents, and the authors. A page is 64 lines of it.
+//!
+//! `specs/Catalogue` is this text, line by line.
+#![tactic(auto)]
+
+mod authors;
+mod blocks;
+mod catalogue;
+mod games;
+mod values;
+mod words;
+
+pub use catalogue::{Parts, write_catalogue};

@@ -1,0 +1,68 @@
+// The lines of a game's values.
+
+ghost use Rattle.std.specs.Prelude.{◌≡◌, ◌*◌, ◌<◌, ◌^◌, ◌++◌, OnOk, length};
+ghost use Rattle.std.specs.List.{concat, flat_map};
+ghost use Rattle.oct_pages.specs.Catalogue.{value_text, values_text, values_line, values_lines};
+ghost use Rattle.oct_pages.specs.Growth.{Extends};
+
+use crate::words::append_labelled;
+use std::alloc::{AllocError, Allocator};
+
+// How many values stand in a line.
+const VALUES_PER_LINE: usize = 16;
+
+// Appends the lines of all values, which are those of the heaps from 0 on.
+pub(crate) fn append_values<A: Allocator>(
+    out: &mut Vec<u8, A>,
+    values: &[u32],
+) -> Result<(), AllocError>
+    requires { length values.now < 2 ^ 32 }
+    ensures ok { OnOk result (out.new.items ≡ out.old.items ++ concat (values_lines values.now)) }
+    ensures grown { Extends out.old.items out.new.items }
+{
+    for line in 0..(values.len() + 15) / VALUES_PER_LINE {
+        append_line(out, values, line)?;
+    }
+    Ok(())
+}
+
+// Appends the line of this number, counted from 0.
+fn append_line<A: Allocator>(
+    out: &mut Vec<u8, A>,
+    values: &[u32],
+    line: usize,
+) -> Result<(), AllocError>
+    requires few { length values.now < 2 ^ 32 }
+    requires within { 16 * line < length values.now }
+    ensures ok { OnOk result (out.new.items ≡ out.old.items ++ values_line values.now line) }
+    ensures grown { Extends out.old.items out.new.items }
+{
+    let first = VALUES_PER_LINE * line;
+    let rest = &values[first..];
+    append_row(out, first as u32, &rest[..rest.len().min(VALUES_PER_LINE)])
+}
+
+// Appends the place of the first value, and then the values.
+fn append_row<A: Allocator>(
+    out: &mut Vec<u8, A>,
+    first: u32,
+    values: &[u32],
+) -> Result<(), AllocError>
+    ensures ok { OnOk result (out.new.items ≡ out.old.items ++ values_text first values.now) }
+    ensures grown { Extends out.old.items out.new.items }
+{
+    append_labelled(out, b"values ", first)?;
+    append_each(out, values)?;
+    out.extend_from_slice(b"\n")
+}
+
+// Appends each value after a space.
+fn append_each<A: Allocator>(out: &mut Vec<u8, A>, values: &[u32]) -> Result<(), AllocError>
+    ensures ok { OnOk result (out.new.items ≡ out.old.items ++ flat_map value_text values.now) }
+    ensures grown { Extends out.old.items out.new.items }
+{
+    for value in values {
+        append_labelled(out, b" ", *value)?;
+    }
+    Ok(())
+}

@@ -1,0 +1,43 @@
+// Words of a line.
+
+ghost use Rattle.std.specs.Prelude.{◌≡◌, ◌++◌, OnOk};
+ghost use Rattle.std.specs.Fmt.{decimal};
+ghost use Rattle.oct_pages.specs.Catalogue.{dot_text};
+ghost use Rattle.oct_pages.specs.Growth.{Extends};
+
+use oct_ops::Dot;
+use std::alloc::{AllocError, Allocator};
+
+// Appends a number in decimal digits.
+pub(crate) fn append_number<A: Allocator>(
+    out: &mut Vec<u8, A>,
+    number: u32,
+) -> Result<(), AllocError>
+    ensures ok { OnOk result (out.new.items ≡ out.old.items ++ decimal number) }
+    ensures grown { Extends out.old.items out.new.items }
+{
+    out.extend_from_slice(itoa::Buffer::new().format(number).as_bytes())
+}
+
+// Appends a text, and after it a number.
+pub(crate) fn append_labelled<A: Allocator>(
+    out: &mut Vec<u8, A>,
+    label: &[u8],
+    number: u32,
+) -> Result<(), AllocError>
+    ensures ok { OnOk result (out.new.items ≡ out.old.items ++ (label.now ++ decimal number)) }
+    ensures grown { Extends out.old.items out.new.items }
+{
+    out.extend_from_slice(label)?;
+    append_number(out, number)
+}
+
+// Appends a dot as author, point, number.
+pub(crate) fn append_dot<A: Allocator>(out: &mut Vec<u8, A>, dot: Dot) -> Result<(), AllocError>
+    ensures ok { OnOk result (out.new.items ≡ out.old.items ++ dot_text dot) }
+    ensures grown { Extends out.old.items out.new.items }
+{
+    append_number(out, dot.author())?;
+    out.extend_from_slice(b".")?;
+    append_number(out, dot.number())
+}
