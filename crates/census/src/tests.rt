@@ -32,7 +32,11 @@ fn folds_the_empty_delta(rt: HostRuntime) -> Result<(), Fail> {
 
 #[test]
 fn refuses_other_words(rt: HostRuntime) -> Result<(), Fail> {
-    for words in [["bogus"].as_slice(), [].as_slice(), ["fold", "more"].as_slice()] {
+    for words in [
+        ["bogus"].as_slice(),
+        [].as_slice(),
+        ["fold", "more"].as_slice(),
+    ] {
         let refused = outcome_of(&rt, words, b"");
         assert_eq!(rt; refused.status, 2);
         assert!(rt; refused.output.is_empty());

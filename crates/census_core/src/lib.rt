@@ -13,3 +13,6 @@ pub use fault::Fault;
 pub use fold::fold_lines;
 pub use input::{INPUT_LIMIT, read_whole};
 pub use output::write_out;
+
+#[cfg(test)]
+mod tests;

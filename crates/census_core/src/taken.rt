@@ -42,11 +42,7 @@ pub(crate) fn take_lines<A: Allocator + Copy>(alloc: A, input: &[u8]) -> Result<
 }
 
 // Takes the line, where it may be taken and none was, and else counts it.
-fn take_line<A: Allocator + Copy>(
-    alloc: A,
-    lines: &mut Lines<A>,
-    line: &[u8],
-) -> Result<(), Fault>
+fn take_line<A: Allocator + Copy>(alloc: A, lines: &mut Lines<A>, line: &[u8]) -> Result<(), Fault>
     requires { lines.old.refused + 1 < 2 ^ 64 }
     ensures taken { OnOk result (lines.new.taken ≡ first_of lines.old.taken (operations_of_line line.now)) }
     ensures counted { OnOk result (lines.new.refused + count_taken lines.new.taken ≡ lines.old.refused + count_taken lines.old.taken + 1) }

@@ -1,7 +1,7 @@
 -- The lines of a game's blocks.
 use Rattle.std.proofs.Common.{◌≡◌, ℕ, Bool, true, false, ◌&&◌, List, [], ◌∷◌, ◌++◌, map, Option, Some, None, refl, sym, ap, ◌∙◌, append_assoc, subst}
 use Rattle.std.specs.Prelude.{IsTrue, nat_lt}
-use Rattle.std.specs.List.{concat, list_all, list_any, cons_option}
+use Rattle.std.specs.List.{concat, list_all, cons_option}
 use Rattle.std.proofs.lemmas.List.{append-nil}
 use Rattle.std.proofs.lemmas.List.Folds.{concat-append}
 use Rattle.oct_code.specs.Code.{Code}
@@ -10,10 +10,10 @@ use Rattle.oct_ops.specs.Body as kind
 use Rattle.oct_ops.specs.Operation.{Dot, Block}
 use Rattle.oct_mex.specs.NimValues.{nim_values}
 use Rattle.oct_ops.specs.Sets as sets
-use Rattle.oct_verify.specs.Filing.{Filing, filing_cmp, GameBlocks, blocks_in}
+use Rattle.oct_verify.specs.Filing.{Filing, GameBlocks, blocks_in}
 use Rattle.oct_verify.specs.FilingLaws.{filing_cmp_total, filing_cmp_exact}
 use Rattle.oct_verify.specs.declared.status.Status.TheVariants.{Pending}
-use Rattle.oct_verify.specs.Known.{known, verdict, shows, is_shown, IsKnownLength}
+use Rattle.oct_verify.specs.Known.{known, verdict, shows, is_shown}
 use Rattle.oct_verify.proofs.KnownLaws.{known_is, known_one}
 use Rattle.oct_pages.specs.Catalogue.{blocks_of, block_in, block_line, claims_of, claim_in, game_lines, game_text, block_text, values_lines, period_line}
 use Rattle.oct_pages.specs.Parts.{IsLedgerOf, filings_of, is_block}
@@ -88,6 +88,7 @@ blocks_alone (o ∷ ops) c h =
     no_body d (kind.Period p) c h = cc
     no_body d (kind.Note n) c h = cc
     no_body d (kind.Removal r) c h = cc
+
     no_claim : (o : Operation) (c : Code) → is_block o ≡ true → claim_in c o ≡ None
     no_claim o c h = no_body o.dot o.body c h
 

@@ -1,11 +1,11 @@
 -- A set of a list holds each item of the list.
-use Rattle.std.proofs.Common.{◌≡◌, Bool, true, false, ◌&&◌, ◌||◌, List, [], ◌∷◌, refl, sym, ap, ◌∙◌}
+use Rattle.std.proofs.Common.{◌≡◌, Bool, true, false, ◌&&◌, ◌||◌, List, [], ◌∷◌, refl, ap, ◌∙◌}
 use Rattle.std.specs.List.{list_all, list_any}
 use Rattle.std.specs.declared.cmp.Ordering.{Ordering}
 use Rattle.std.specs.Ordering.{eq_by_cmp}
 use Rattle.std.specs.Cmp.{IsTotalOrder, eq_by_cmp_equiv}
 use Rattle.std.specs.FinSet.{IsAntisymmetric}
-use Rattle.oct_ops.specs.Sets.{Set, contains, set_of}
+use Rattle.oct_ops.specs.Sets.{contains, set_of}
 use Rattle.oct_ops.specs.SetLaws.{contains-set_of}
 
 both : (a b : Bool) → a ≡ true → b ≡ true → (a && b) ≡ true
@@ -23,6 +23,7 @@ all_weaker p q (x ∷ xs) h k = both (q x) (list_all q xs) (h x (first (p x) (li
     first : (a b : Bool) → (a && b) ≡ true → a ≡ true
     first true b h = refl
     first false b h = cc
+
     second : (a b : Bool) → (a && b) ≡ true → b ≡ true
     second true b h = h
     second false b h = cc

@@ -8,7 +8,7 @@ use Rattle.std.specs.Cmp.{IsTotalOrder}
 use Rattle.std.specs.FinSet.{IsAntisymmetric}
 use Rattle.std.specs.BTreeSet.{insert_key}
 use Rattle.oct_ops.specs.Arranged.{arranged}
-use Rattle.oct_ops.specs.Sets.{Set, set_of, listed}
+use Rattle.oct_ops.specs.Sets.{set_of, listed}
 use Rattle.oct_ops.specs.SetLaws.{listed-arranged}
 
 or_again : (a b : Bool) → (a || b) ≡ (a || (a || b))

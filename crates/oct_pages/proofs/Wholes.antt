@@ -1,5 +1,5 @@
 -- A catalogue, part by part, where all operations are blocks.
-use Rattle.std.proofs.Common.{◌≡◌, Bool, true, false, ◌&&◌, List, [], ◌∷◌, ◌++◌, map, cond, refl, sym, ap, ◌∙◌, append_assoc}
+use Rattle.std.proofs.Common.{◌≡◌, Bool, true, false, ◌&&◌, List, [], ◌∷◌, ◌++◌, map, cond, refl, ap, ◌∙◌}
 use Rattle.std.specs.Prelude.{codes}
 use Rattle.std.specs.List.{concat, flat_map, filter, list_all}
 use Rattle.std.proofs.lemmas.List.{append-nil}
@@ -7,7 +7,7 @@ use Rattle.std.proofs.lemmas.List.Folds.{concat-append}
 use Rattle.oct_ops.specs.Arranged.{arranged}
 use Rattle.oct_ops.specs.Body.{Body, Operation}
 use Rattle.oct_ops.specs.Body as kind
-use Rattle.oct_notes.specs.Notes.{is_live, is_note, is_removed, live_notes, note_order}
+use Rattle.oct_notes.specs.Notes.{is_live, is_note, live_notes, note_order}
 use Rattle.oct_store.specs.Summary as summary
 use Rattle.oct_pages.specs.Catalogue.{heading, games, game_lines, note_line, fork_line, author_line, catalogue}
 use Rattle.oct_pages.specs.Parts.{is_block}

@@ -1,4 +1,4 @@
-// The lines of authors and forks.
+//! The lines of authors and forks.
 
 ghost use Rattle.std.specs.Prelude.{◌≡◌, ◌++◌, map, OnOk};
 ghost use Rattle.std.specs.List.{concat};

@@ -1,4 +1,4 @@
-// The lines of a game and its blocks.
+//! The lines of a game and its blocks.
 
 ghost use Rattle.std.specs.Prelude.{◌≡◌, ◌++◌, ◌*◌, OnOk, length};
 ghost use Rattle.oct_pages.specs.Catalogue.{game_text, block_text, claim_text, refutation_text, status_text};

@@ -15,16 +15,18 @@ use oct_verify::Ledger;
 use std::alloc::{AllocError, Allocator};
 use std::collections::BTreeMap;
 
-/// What a catalogue is made from: the operations, and beside them the ledger of each game that they have a block of.
+/// What a catalogue is made from: the operations, which are all blocks, and beside them the ledger of each game that
+/// they have a block of.
 #[derive(Clone, Copy)]
 pub struct Parts<'a, A: Allocator + Copy> {
     /// The operations.
     pub store: &'a Store<A>,
-    /// The games' ledgers, which hold exactly the blocks of the store.
+    /// The ledgers by the code of their game. Each holds exactly the game's blocks in the store, under their dots.
     pub games: &'a BTreeMap<Code, Ledger<A>, A>,
 }
 
-/// Appends the catalogue of the store's operations. Where memory is refused, `out` stays as it is.
+/// Appends the catalogue of the store's operations to `out`, as `specs/Catalogue` spells it. The one error is that
+/// memory is refused, and then `out` stays as it is.
 pub fn write_catalogue<A: Allocator + Copy>(
     parts: &Parts<'_, A>,
     out: &mut Vec<u8, A>,

@@ -1,4 +1,4 @@
-// The lines of a game.
+//! The lines of a game.
 
 ghost use Rattle.std.specs.Prelude.{◌≡◌, ◌++◌, ◌∷◌, [], true, map, OnOk};
 ghost use Rattle.std.specs.List.{concat};

@@ -1,4 +1,4 @@
-//! The catalogue of a set of operations: the text that a census shows, and its pages.
+//! The catalogue of a set of operations: the text that a census shows.
 //!
 //! The text is read off the set alone, so replicas with the same operations print the same bytes. For the first values
 //! of Kayles, claimed from heap 0 on, it is:
@@ -10,8 +10,14 @@
 //!     author 1 through 1 last 1
 //!     end
 //!
-//! Each game comes with its known nim-values, its blocks and its period claims, each with its status. Then come the live
-//! notes by name, the dots that came with several contents, and the authors. A page is 64 lines of it.
+//! Each game comes with its known nim-values, its blocks and its period claims, each with its status. Then come the
+//! live notes by name, the dots that came with several contents, and the authors. A page is 64 lines of it.
+//!
+//! So far the catalogue of a set of blocks alone is written, and whole: claims, notes, removals and pages are defined,
+//! but no function takes them yet.
+//!
+//! - `write_catalogue` appends the text.
+//! - `Parts` is what it reads: the operations, and the ledger of each of their games.
 //!
 //! `specs/Catalogue` is this text, line by line.
 #![tactic(auto)]

@@ -1,4 +1,4 @@
-// The lines of a game's values.
+//! The lines of a game's values.
 
 ghost use Rattle.std.specs.Prelude.{◌≡◌, ◌*◌, ◌<◌, ◌^◌, ◌++◌, OnOk, length};
 ghost use Rattle.std.specs.List.{concat, flat_map};

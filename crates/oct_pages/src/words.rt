@@ -1,4 +1,4 @@
-// Words of a line.
+//! Words of a line.
 
 ghost use Rattle.std.specs.Prelude.{◌≡◌, ◌++◌, OnOk};
 ghost use Rattle.std.specs.Fmt.{decimal};

@@ -1,9 +1,6 @@
-use Rattle.std.proofs.Common.{◌≡◌, ◌++◌, map}
-use Rattle.std.specs.List.{AllByRecursion, concat, flat_map}
-use Rattle.std.specs.BTreeMap.{keys}
-use Rattle.oct_code.specs.Code.{Code}
+use Rattle.std.proofs.Common.{◌≡◌, ◌++◌}
+use Rattle.std.specs.List.{AllByRecursion}
 use Rattle.oct_ops.specs.Operations.{listed}
-use Rattle.oct_verify.specs.Filing.{GameBlocks}
 use Rattle.oct_pages.specs.Growth.{Extends}
 use Rattle.oct_pages.specs.Parts.{IsLedgerOf}
 use Rattle.oct_pages.proofs.GameLines.{all_lines}

@@ -1,4 +1,4 @@
-use Rattle.std.proofs.Common.{arith, ◌≡◌, ◌++◌, ◌∙◌, length, sym, ap}
+use Rattle.std.proofs.Common.{arith, ◌++◌, ◌∙◌, sym, ap}
 use Rattle.std.specs.List.{concat}
 use Rattle.std.proofs.lemmas.Result.{on_ok_weaker}
 use Rattle.oct_ops.specs.Operations.{listed}
@@ -6,7 +6,6 @@ use Rattle.oct_pages.specs.Catalogue.{game_text, values_lines}
 use Rattle.oct_pages.proofs.GameBlocks.{block_lines, game_lines-is}
 use Rattle.oct_pages.proofs.Growing.{grown_thrice}
 use Rattle.oct_verify.specs.Filing.{blocks_in}
-use Rattle.oct_verify.specs.Known.{known}
 use Rattle.oct_pages.proofs.games.append_game_lines.Goals as goal
 
 pub append_values-requires : goal.append_values-requires

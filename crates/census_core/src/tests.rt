@@ -1,0 +1,149 @@
+use crate::{Fault, fold_lines};
+use std::io;
+use std::io::{ErrorKind, Read, Write};
+use std::test::Fail;
+
+/// Kayles 1.1 at 0 count 5, with its right values.
+const KAYLES: &str =
+    "4f47443100000001000000010000000101000207070000000000050000000000000001000000020000000300000001";
+
+const KAYLES_CATALOGUE: &str = "\
+census 1
+game 0.77 known 5
+values 0 0 1 2 3 1
+block 1.1 at 0 count 5 proved
+author 1 through 1 last 1
+end
+";
+
+/// Gives line feeds without end.
+#[derive(Drop)]
+struct EndlessBreaks;
+
+impl Read for EndlessBreaks {
+    fn read(&mut self, buf: &mut [u8]) -> io::Result<usize> {
+        buf.fill(b'\n');
+        Ok(buf.len())
+    }
+}
+
+/// Fails at once.
+#[derive(Drop)]
+struct BrokenReader;
+
+impl Read for BrokenReader {
+    fn read(&mut self, _buf: &mut [u8]) -> io::Result<usize> {
+        Err(io::Error::from(ErrorKind::BrokenPipe))
+    }
+}
+
+/// Takes at most `room` bytes, one at a time, and then none.
+#[derive(Drop)]
+struct SmallWriter {
+    room: usize,
+}
+
+impl Write for SmallWriter {
+    fn write(&mut self, buf: &[u8]) -> io::Result<usize> {
+        let taken = self.room.min(buf.len()).min(1);
+        self.room -= taken;
+        Ok(taken)
+    }
+
+    fn flush(&mut self) -> io::Result<()> {
+        Ok(())
+    }
+}
+
+#[test]
+fn lines_are_folded(rt: HostRuntime) -> Result<(), Fail> {
+    for (input, catalogue, refused) in [
+        ("", "census 1\nend\n", 0),
+        ("4f47443100000000\n", "census 1\nend\n", 0),
+        ("4f47443200000000", "census 1\nend\n", 0),
+        (KAYLES, KAYLES_CATALOGUE, 0),
+        // Kayles 1.1 at 1 count 4
+        (
+            "4f474431000000010000000100000001010002070700000001000400000001000000020000000300000001",
+            "census 1\ngame 0.77 known 5\nvalues 0 0 1 2 3 1\nblock 1.1 at 1 count 4 proved\nauthor 1 through 1 last 1\nend\n",
+            0,
+        ),
+        // Kayles 1.1 at 1 count 6, of which the last two values are wrong
+        (
+            "4f4744310000000100000001000000010100020707000000010006000000010000000200000003000000010000000500000000",
+            "census 1\ngame 0.77 known 1\nvalues 0 0\nblock 1.1 at 1 count 6 refuted at 5 claimed 5 true 4\nauthor 1 through 1 last 1\nend\n",
+            0,
+        ),
+        // Kayles 2.1 at 5 count 3 alone
+        (
+            "4f4744310000000100000002000000010100020707000000050003000000040000000300000002",
+            "census 1\ngame 0.77 known 1\nvalues 0 0\nblock 2.1 at 5 count 3 pending\nauthor 2 through 1 last 1\nend\n",
+            0,
+        ),
+        // 4.0, 1.1 at 0 count 7
+        (
+            "4f47443100000001000000010000000101040000000000000700000000000000000000000100000000000000010000000000000001",
+            "census 1\ngame 4.0 known 7\nvalues 0 0 0 1 0 1 0 1\nblock 1.1 at 0 count 7 proved\nauthor 1 through 1 last 1\nend\n",
+            0,
+        ),
+        // Kayles 1.1 at 4095 count 1
+        (
+            "4f474431000000010000000100000001010002070700000fff000100000000",
+            "census 1\ngame 0.77 known 1\nvalues 0 0\nblock 1.1 at 4095 count 1 pending\nauthor 1 through 1 last 1\nend\n",
+            0,
+        ),
+    ] {
+        let mut out = Vec::new(rt.alloc());
+        let done = fold_lines(rt.alloc(), &mut input.as_bytes(), &mut out);
+        assert_eq!(rt; done, Ok(refused), "of {input}");
+        assert_eq!(rt; out.as_slice(), catalogue.as_bytes(), "of {input}");
+    }
+    Ok(())
+}
+
+#[test]
+fn other_lines_are_refused(rt: HostRuntime) -> Result<(), Fail> {
+    let capitals =
+        "4F47443100000001000000010000000101000207070000000000050000000000000001000000020000000300000001";
+    let input = format!(in rt.alloc(); "zz\n{capitals}\r\n\n4f474431000000010000\n")?;
+    let mut out = Vec::new(rt.alloc());
+    let done = fold_lines(rt.alloc(), &mut input.as_bytes(), &mut out);
+    assert_eq!(rt; done, Ok(2));
+    assert_eq!(rt; out.as_slice(), KAYLES_CATALOGUE.as_bytes());
+    // A delta that comes after the one that was taken is refused too.
+    let twice = format!(in rt.alloc(); "{KAYLES}\n{KAYLES}\n")?;
+    let mut out = Vec::new(rt.alloc());
+    assert_eq!(rt;
+        fold_lines(rt.alloc(), &mut twice.as_bytes(), &mut out),
+        Ok(1)
+    );
+    assert_eq!(rt; out.as_slice(), KAYLES_CATALOGUE.as_bytes());
+    Ok(())
+}
+
+#[test]
+fn devices_fail(rt: HostRuntime) -> Result<(), Fail> {
+    let mut out = Vec::new(rt.alloc());
+    assert_eq!(rt;
+        fold_lines(rt.alloc(), &mut BrokenReader, &mut out),
+        Err(Fault::Read)
+    );
+    assert!(rt; out.is_empty());
+    let mut small = SmallWriter { room: 3 };
+    let done = fold_lines(rt.alloc(), &mut KAYLES.as_bytes(), &mut small);
+    assert_eq!(rt; done, Err(Fault::Write));
+    assert_eq!(rt; small.room, 0);
+    Ok(())
+}
+
+#[test]
+fn endless_input_is_too_long(rt: HostRuntime) -> Result<(), Fail> {
+    let mut out = Vec::new(rt.alloc());
+    assert_eq!(rt;
+        fold_lines(rt.alloc(), &mut EndlessBreaks, &mut out),
+        Err(Fault::TooLong)
+    );
+    assert!(rt; out.is_empty());
+    assert_eq!(rt; Fault::TooLong.status(), 3);
+    Ok(())
+}
