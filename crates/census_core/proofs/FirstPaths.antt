@@ -3,7 +3,7 @@ use Rattle.std.proofs.Common.{◌≡◌, Bool, true, false, ◌&&◌, List, [], 
 use Rattle.std.specs.Prelude.{is_some, unwrap_or}
 use Rattle.std.specs.List.{list_all}
 use Rattle.std.specs.Option.{option_and_then}
-use Rattle.oct_code.specs.Code.{Code, code_eq}
+use Rattle.oct_code.specs.Code.{Code}
 use Rattle.oct_delta.specs.Text.{Bytes}
 use Rattle.oct_delta.specs.Decoding.{read_delta}
 use Rattle.oct_ops.specs.Body.{Body, Operation}
@@ -11,7 +11,7 @@ use Rattle.oct_ops.specs.Body as kind
 use Rattle.oct_ops.specs.Operation.{Dot}
 use Rattle.oct_pages.specs.Catalogue.{block_of_game}
 use Rattle.oct_pages.specs.Parts.{is_block}
-use Rattle.census_core.specs.Folded.{are_of_game_of, are_of_one_game, first_of, have_own_dots, if_first_path, is_first_path, is_of_game, operations_of_line, taken_from, unhexed}
+use Rattle.census_core.specs.Folded.{are_of_game_of, are_of_one_game, first_of, have_own_dots, if_first_path, is_first_path, is_of_game, taken_from, unhexed}
 
 first : (a b : Bool) → (a && b) ≡ true → a ≡ true
 first true b h = refl

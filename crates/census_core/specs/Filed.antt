@@ -1,5 +1,5 @@
 -- Ledgers by their games, as blocks are filed one after another.
-use Rattle.std.specs.Prelude.{◌≡◌, List, [], ◌∷◌, Option, Some, None, IfSome, cond}
+use Rattle.std.specs.Prelude.{◌≡◌, Option, Some, None, IfSome, cond}
 use Rattle.oct_code.specs.Code.{Code, code_cmp}
 use Rattle.std.specs.Ordering.{eq_by_cmp}
 use Rattle.oct_ops.specs.Operation.{Dot, Block}

@@ -1,14 +1,14 @@
 -- Codes have no fault, and their texts are those of one code.
-use Rattle.std.proofs.Common.{arith, ◌≡◌, ◌≢◌, ◌⊎◌, ◌==◌, ℕ, zero, suc, ◌+◌, ◌-◌, ◌≤◌, Bool, true, false, not, ◌&&◌, cond, List, [], ◌∷◌, ◌++◌, length, replicate, Result, Ok, Err, Option, Some, None, refl, sym, ap, ◌∙◌, subst, nat_eq, nat_le, nat_lt}
+use Rattle.std.proofs.Common.{arith, ◌≡◌, ◌≢◌, ◌⊎◌, ◌==◌, ℕ, suc, ◌+◌, ◌-◌, ◌≤◌, Bool, true, false, not, ◌&&◌, cond, List, [], ◌∷◌, ◌++◌, length, replicate, Result, Ok, Err, Option, Some, None, refl, sym, ap, ◌∙◌, nat_eq}
 use mathlib.Core.Logic.{inl, inr}
-use Rattle.std.specs.Prelude.{slice_get, codes, ◌↔◌}
+use Rattle.std.specs.Prelude.{slice_get, codes}
 use Rattle.std.specs.List.{All}
 use Rattle.std.specs.Option.{option_eq}
 use Rattle.std.proofs.lemmas.Bool.{ne_eqb, le-ltb, le-leb}
 use Rattle.std.proofs.lemmas.List.Elements.{All-head, All-tail}
 use Rattle.oct_code.specs.Code.{Code, IsCode}
-use Rattle.oct_code.specs.CodeText.{IsCodeText, code_text, digit_bytes, shown_digits}
-use Rattle.oct_code.specs.DigitFaults.{is_head, are_octal, ends_in_zero, digits_fault}
+use Rattle.oct_code.specs.CodeText.{IsCodeText, code_text, digit_bytes}
+use Rattle.oct_code.specs.DigitFaults.{is_head, are_octal, digits_fault}
 use Rattle.oct_code.specs.TextFaults.{trimmed, is_empty, digits_of, around_point}
 use Rattle.oct_code.specs.Laws.{FaultlessAreCodes, WrittenIsRead, TextHasOneCode}
 use Rattle.oct_code.specs.declared.limits.TheConstants.{MAX_DIGITS}
