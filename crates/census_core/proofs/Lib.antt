@@ -1,5 +1,4 @@
 mod Building
 mod FiledLaws
-mod FirstPaths
 mod LineLemmas
-mod Storing
+mod Taking

@@ -1,6 +1,6 @@
 //! Lines of deltas, and the catalogue of what they say.
 
-ghost use Rattle.std.specs.Prelude.{◌≡◌, ◌≢◌, ◌<◌, [], length, true, unwrap_or, IfOk, OnOk, IfSome, IfErr, IsErrOf};
+ghost use Rattle.std.specs.Prelude.{◌≡◌, ◌≢◌, ◌<◌, length, true, IfOk, OnOk, IfSome, IfErr, IsErrOf};
 ghost use Rattle.std.specs.List.{list_all};
 ghost use Rattle.std.specs.Io.KnownBytes.{Appends, Keeps};
 ghost use Rattle.oct_ops.specs.Operations.{listed};
@@ -12,19 +12,16 @@ ghost use Rattle.census_core.specs.Output.{AppendsPrefix};
 use crate::fault::Fault;
 use crate::games::games_of;
 use crate::input::{INPUT_LIMIT, read_whole};
-use crate::lines::split_line;
 use crate::output::write_out;
 use crate::taken::take_lines;
-use oct_ops::OpList;
 use oct_pages::{Parts, write_catalogue};
 use oct_store::Store;
 use std::alloc::{AllocError, Allocator};
 use std::io::{Read, Write};
 
-/// Reads the whole input, takes the first line that is the hexadecimal text of a delta of blocks of one game under
-/// different dots, or of no operation, writes the catalogue of its operations, and says how many other lines were not
-/// empty. The catalogue of an input without such a line is that of no operation. Nothing is written before the whole
-/// input was read; after `Write` a prefix of the catalogue was written.
+/// Reads the whole input, takes each line that is the hexadecimal text of a delta of blocks alone or of no operation,
+/// writes the catalogue of all their operations, and says how many other lines were not empty. Nothing is written before
+/// the whole input was read; after `Write` a prefix of the catalogue was written.
 pub fn fold_lines<A: Allocator + Copy, R: Read, W: Write>(
     alloc: A,
     reader: &mut R,
@@ -40,52 +37,25 @@ pub fn fold_lines<A: Allocator + Copy, R: Read, W: Write>(
 {
     let input = read_whole(alloc, reader, INPUT_LIMIT)?;
     let lines = take_lines(alloc, &input)?;
-    let text = catalogue_of(alloc, lines.taken)?;
+    let text = catalogue_of(alloc, &lines.store)?;
     write_out(writer, &text)?;
     Ok(lines.refused)
 }
 
-// The catalogue of the operations, or that of none.
+// The catalogue of the operations, which are all blocks.
 fn catalogue_of<A: Allocator + Copy>(
     alloc: A,
-    taken: Option<OpList<A>>,
+    store: &Store<A>,
 ) -> Result<Vec<u8, A>, AllocError>
-    requires { list_all is_block (unwrap_or taken []) ≡ true }
-    ensures { IfOk result (λ text. text.items ≡ catalogue (unwrap_or taken [])) }
+    requires { list_all is_block (listed store.now) ≡ true }
+    ensures { IfOk result (λ text. text.items ≡ catalogue (listed store.now)) }
 {
-    let store = taken_store(alloc, taken)?;
-    let games = games_of(alloc, &store)?;
+    let games = games_of(alloc, store)?;
     let mut text = Vec::new(alloc);
     let parts = Parts {
-        store: &store,
+        store,
         games: &games,
     };
-    write_catalogue(&parts, &mut text)?;
+    write_catalogue(alloc, &parts, &mut text)?;
     Ok(text)
-}
-
-// A store of the operations, or of none.
-fn taken_store<A: Allocator + Copy>(
-    alloc: A,
-    taken: Option<OpList<A>>,
-) -> Result<Store<A>, AllocError>
-    ensures { IfOk result (λ store. listed store ≡ unwrap_or taken []) }
-{
-    match taken {
-        Some(list) => store_of(alloc, list),
-        None => Ok(Store::new(alloc)),
-    }
-}
-
-// A store of the operations.
-fn store_of<A: Allocator + Copy>(alloc: A, list: OpList<A>) -> Result<Store<A>, AllocError>
-    ensures { IfOk result (λ store. listed store ≡ list) }
-{
-    let mut store = Store::new(alloc);
-    for op in list.into_vec() {
-        if let Err((refused, _)) = store.insert(op) {
-            return Err(refused);
-        }
-    }
-    Ok(store)
 }

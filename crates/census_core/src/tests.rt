@@ -1,4 +1,8 @@
+use crate::games::games_of;
+use crate::taken::take_lines;
 use crate::{Fault, fold_lines};
+use oct_pages::{Parts, write_page};
+use std::alloc::Global;
 use std::io;
 use std::io::{ErrorKind, Read, Write};
 use std::test::Fail;
@@ -110,15 +114,141 @@ fn other_lines_are_refused(rt: HostRuntime) -> Result<(), Fail> {
     let done = fold_lines(rt.alloc(), &mut input.as_bytes(), &mut out);
     assert_eq!(rt; done, Ok(2));
     assert_eq!(rt; out.as_slice(), KAYLES_CATALOGUE.as_bytes());
-    // A delta that comes after the one that was taken is refused too.
+    // A delta that comes again changes nothing.
     let twice = format!(in rt.alloc(); "{KAYLES}\n{KAYLES}\n")?;
     let mut out = Vec::new(rt.alloc());
     assert_eq!(rt;
         fold_lines(rt.alloc(), &mut twice.as_bytes(), &mut out),
-        Ok(1)
+        Ok(0)
     );
     assert_eq!(rt; out.as_slice(), KAYLES_CATALOGUE.as_bytes());
     Ok(())
+}
+
+/// Kayles 2.1 at 5 count 3.
+const KAYLES_FROM_5: &str =
+    "4f4744310000000100000002000000010100020707000000050003000000040000000300000002";
+
+#[test]
+fn lines_are_taken_together(rt: HostRuntime) -> Result<(), Fail> {
+    let both = "\
+census 1
+game 0.77 known 8
+values 0 0 1 2 3 1 4 3 2
+block 1.1 at 0 count 5 proved
+block 2.1 at 5 count 3 proved
+author 1 through 1 last 1
+author 2 through 1 last 1
+end
+";
+    for (first, second) in [(KAYLES, KAYLES_FROM_5), (KAYLES_FROM_5, KAYLES)] {
+        let input = format!(in rt.alloc(); "{first}\n{second}\n")?;
+        let mut out = Vec::new(rt.alloc());
+        let done = fold_lines(rt.alloc(), &mut input.as_bytes(), &mut out);
+        assert_eq!(rt; done, Ok(0));
+        assert_eq!(rt; out.as_slice(), both.as_bytes());
+    }
+    Ok(())
+}
+
+#[test]
+fn repeated_blocks_are_printed_once(rt: HostRuntime) -> Result<(), Fail> {
+    // Kayles 1.2 at 2 count 2, and 1.3 at 3 count 5
+    let second = "4f47443100000001000000010000000201000207070000000200020000000200000003";
+    let third = "4f47443100000001000000010000000301000207070000000300050000000300000001000000040000000300000002";
+    let input =
+        format!(in rt.alloc(); "{KAYLES}\n{KAYLES}\n{second}\n{second}\n{third}\n{third}\n")?;
+    let mut out = Vec::new(rt.alloc());
+    let done = fold_lines(rt.alloc(), &mut input.as_bytes(), &mut out);
+    assert_eq!(rt; done, Ok(0));
+    let text = "\
+census 1
+game 0.77 known 8
+values 0 0 1 2 3 1 4 3 2
+block 1.1 at 0 count 5 proved
+block 1.2 at 2 count 2 proved
+block 1.3 at 3 count 5 proved
+author 1 through 3 last 3
+end
+";
+    assert_eq!(rt; out.as_slice(), text.as_bytes());
+    Ok(())
+}
+
+#[test]
+fn contents_of_one_dot_are_all_shown(rt: HostRuntime) -> Result<(), Fail> {
+    // Kayles 1.1 at 1 count 4
+    let other =
+        "4f474431000000010000000100000001010002070700000001000400000001000000020000000300000001";
+    let text = "\
+census 1
+game 0.77 known 5
+values 0 0 1 2 3 1
+block 1.1 at 0 count 5 proved
+block 1.1 at 1 count 4 proved
+fork 1.1 contents 2
+author 1 through 1 last 1
+end
+";
+    for (first, second) in [(KAYLES, other), (other, KAYLES)] {
+        let input = format!(in rt.alloc(); "{first}\n{second}\n")?;
+        let mut out = Vec::new(rt.alloc());
+        let done = fold_lines(rt.alloc(), &mut input.as_bytes(), &mut out);
+        assert_eq!(rt; done, Ok(0));
+        assert_eq!(rt; out.as_slice(), text.as_bytes());
+    }
+    Ok(())
+}
+
+#[test]
+fn many_blocks_are_on_two_pages(rt: HostRuntime) -> Result<(), Fail> {
+    // 0.3 at 0 count 1, by author 3 under 70 numbers
+    let mut input = String::new(rt.alloc());
+    let mut first = String::new(rt.alloc());
+    let mut second = String::new(rt.alloc());
+    first.push_str("census 1\ngame 0.3 known 1\nvalues 0 0\n")?;
+    for number in 1..=70u32 {
+        let line = format!(in rt.alloc();
+            "4f4744310000000100000003{number:08x}0100010300000000000100000000\n"
+        )?;
+        input.push_str(&line)?;
+        let block = format!(in rt.alloc(); "block 3.{number} at 0 count 1 proved\n")?;
+        if number <= 61 {
+            first.push_str(&block)?;
+        } else {
+            second.push_str(&block)?;
+        }
+    }
+    second.push_str("author 3 through 70 last 70\nend\n")?;
+    let page = page_of(rt.alloc(), input.as_bytes(), 0)?;
+    assert_eq!(rt; page.as_slice(), first.as_bytes());
+    let page = page_of(rt.alloc(), input.as_bytes(), 1)?;
+    assert_eq!(rt; page.as_slice(), second.as_bytes());
+    let page = page_of(rt.alloc(), input.as_bytes(), 2)?;
+    assert!(rt; page.is_empty());
+
+    let mut out = Vec::new(rt.alloc());
+    let done = fold_lines(rt.alloc(), &mut input.as_bytes(), &mut out);
+    assert_eq!(rt; done, Ok(0));
+    first.push_str(&second)?;
+    assert_eq!(rt; out.as_slice(), first.as_bytes());
+    Ok(())
+}
+
+// A page of the catalogue of what the lines say.
+fn page_of(alloc: Global, input: &[u8], page: u32) -> Result<Vec<u8>, Fault> {
+    let lines = take_lines(alloc, input)?;
+    let games = games_of(alloc, &lines.store)?;
+    let parts = Parts {
+        store: &lines.store,
+        games: &games,
+    };
+    let mut out = Vec::new(alloc);
+    let is_there = write_page(alloc, &parts, page, &mut out)?;
+    if is_there == out.is_empty() {
+        return Err(Fault::Read);
+    }
+    Ok(out)
 }
 
 #[test]

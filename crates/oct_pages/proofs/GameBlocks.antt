@@ -1,7 +1,7 @@
 -- The lines of a game's blocks.
 use Rattle.std.proofs.Common.{◌≡◌, ℕ, Bool, true, false, ◌&&◌, List, [], ◌∷◌, ◌++◌, map, Option, Some, None, refl, sym, ap, ◌∙◌, append_assoc, subst}
 use Rattle.std.specs.Prelude.{IsTrue, nat_lt}
-use Rattle.std.specs.List.{concat, list_all, cons_option}
+use Rattle.std.specs.List.{flat_map, list_all, cons_option}
 use Rattle.std.proofs.lemmas.List.{append-nil}
 use Rattle.std.proofs.lemmas.List.Folds.{concat-append}
 use Rattle.oct_code.specs.Code.{Code}
@@ -15,21 +15,11 @@ use Rattle.oct_verify.specs.FilingLaws.{filing_cmp_total, filing_cmp_exact}
 use Rattle.oct_verify.specs.declared.status.Status.TheVariants.{Pending}
 use Rattle.oct_verify.specs.Known.{known, verdict, shows, is_shown}
 use Rattle.oct_verify.proofs.KnownLaws.{known_is, known_one}
-use Rattle.oct_pages.specs.Catalogue.{blocks_of, block_in, block_line, claims_of, claim_in, game_lines, game_text, block_text, values_lines, period_line}
+use Rattle.oct_pages.specs.Groups.{lines_by}
+use Rattle.oct_pages.specs.Catalogue.{Text, blocks_of, block_in, block_line, claims_of, claim_in, game_lines, game_text, block_text, values_lines, period_line}
 use Rattle.oct_pages.specs.Parts.{IsLedgerOf, filings_of, is_block}
 use Rattle.oct_pages.proofs.Held.{each_held}
 use Rattle.oct_pages.proofs.Members.{any-map, any-listed}
-
--- the lines of the game's blocks among the operations
-abbrev pub block_lines : List Block → Code → List Operation → List ℕ
-block_lines blocks c ops = concat (map (block_line blocks) (blocks_of c ops))
-
-headings : {X : Type 0} (f : X → List ℕ) (m : Option X) (rest : List X) → concat (map f (cons_option m rest)) ≡ concat (map f (cons_option m [])) ++ concat (map f rest)
-headings f None rest = refl
-headings f (Some x) rest = ap (λ t. t ++ concat (map f rest)) (sym (append-nil (f x)))
-
-pub block_lines-next : (blocks : List Block) (c : Code) (o : Operation) (rest : List Operation) → block_lines blocks c (o ∷ rest) ≡ block_lines blocks c (o ∷ []) ++ block_lines blocks c rest
-block_lines-next blocks c o rest = headings (block_line blocks) (block_in c o) (blocks_of c rest)
 
 first : (a b : Bool) → (a && b) ≡ true → a ≡ true
 first true b h = refl
@@ -94,16 +84,17 @@ blocks_alone (o ∷ ops) c h =
 
 -- a game's lines, from what its ledger says
 pub game_lines-is : (ops : List Operation) (c : Code) (ledger : GameBlocks) → list_all is_block ops ≡ true → IsLedgerOf ops c ledger
-    → concat (game_lines ops c) ≡ game_text c (known (blocks_in ledger.blocks)) ++ concat (values_lines (nim_values ledger.code (known (blocks_in ledger.blocks)))) ++ block_lines (blocks_in ledger.blocks) c ops
+    → game_lines ops c ≡ lines_by c ledger (blocks_of c ops)
 game_lines-is ops c ledger plain is =
     let pairs = blocks_of c ops in
     let mine : List Block = map (λ (f : Filing). f.1) pairs in
-    let values = values_lines (nim_values c (known mine)) in
     let same = same_known ops c ledger is in
     let no_claims : map (period_line mine) (claims_of c ops) ≡ [] = ap (map (period_line mine)) (blocks_alone ops c plain) in
-    ap (λ t. game_text c (known mine) ++ t)
-    (ap (λ (l : List (List ℕ)). concat (values ++ map (block_line mine) pairs ++ l)) no_claims
-    ∙ ap concat (append-nil (values ++ map (block_line mine) pairs))
-    ∙ concat-append values (map (block_line mine) pairs))
-    ∙ sym (append_assoc (game_text c (known mine)) (concat values) (concat (map (block_line mine) pairs)))
-    ∙ (λ i. game_text c (sym same i) ++ concat (values_lines (nim_values (sym is.code i) (sym same i))) ++ concat (map (λ (f : Filing). block_text f.0 f.1 (elim (nat_lt (sym same i) f.1.start) [ true ↦ Pending | false ↦ verdict f.1 ])) pairs))
+    ap (λ (l : List Text). game_text c (known mine) ∷ values_lines (nim_values c (known mine)) ++ map (block_line mine) pairs ++ l) no_claims
+    ∙ append-nil (game_text c (known mine) ∷ values_lines (nim_values c (known mine)) ++ map (block_line mine) pairs)
+    ∙ (λ i. game_text c (sym same i) ∷ values_lines (nim_values (sym is.code i) (sym same i)) ++ map (λ (f : Filing). block_text f.0 f.1 (elim (nat_lt (sym same i) f.1.start) [ true ↦ Pending | false ↦ verdict f.1 ])) pairs)
+
+-- the lines of the games of these entries
+pub entries_games : (ops : List Operation) (entries : List (Code × GameBlocks)) → flat_map (λ (e : Code × GameBlocks). game_lines ops e.0) entries ≡ flat_map (game_lines ops) (map (λ (e : Code × GameBlocks). e.0) entries)
+entries_games ops [] = refl
+entries_games ops (e ∷ entries) = ap (λ l. game_lines ops e.0 ++ l) (entries_games ops entries)

@@ -4,6 +4,7 @@ mod Ranges
 mod Held
 mod Lines
 mod GameBlocks
-mod Members
-mod GameLines
+pub mod Members
+mod GroupLaws
+mod Windows
 mod Wholes

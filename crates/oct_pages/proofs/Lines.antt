@@ -1,13 +1,17 @@
 -- Lines of rows.
-use Rattle.std.proofs.Common.{◌≡◌, ℕ, ◌≤◌, List, [], ◌∷◌, ◌++◌, map, length, take, refl, ap, ◌∙◌}
-use Rattle.std.proofs.lemmas.List.{take_all}
-use Rattle.std.specs.List.{concat, flat_map}
+use Rattle.std.proofs.Common.{◌≡◌, ℕ, ◌≤◌, List, [], ◌∷◌, map, length, drop, refl, ap, ◌∙◌, subst}
+use Rattle.std.proofs.lemmas.List.{drop_all}
+use Rattle.oct_pages.specs.Catalogue.{Text}
+use Rattle.oct_pages.specs.Window.{Shown}
+use Rattle.oct_pages.specs.declared.window.Window.{Window}
+use Rattle.oct_pages.proofs.Windows.{Showing, all_shown}
 
-pub rows_lines : {X Y : Type 0} (f : Y → List ℕ) (g : X → Y) (xs : List X) → flat_map f (map g xs) ≡ concat (map (λ x. f (g x)) xs)
+rows_lines : {X Y : Type 0} (f : Y → Text) (g : X → Y) (xs : List X) → map f (map g xs) ≡ map (λ x. f (g x)) xs
 rows_lines f g [] = refl
-rows_lines f g (x ∷ xs) = ap (λ t. f (g x) ++ t) (rows_lines f g xs)
+rows_lines f g (x ∷ xs) = ap (λ l. f (g x) ∷ l) (rows_lines f g xs)
 
 -- a loop over rows, once it has reached their end
-pub rows_done : {X Y : Type 0} (f : Y → List ℕ) (g : X → Y) (old out : List ℕ) (rows : List Y) (i : ℕ) (xs : List X) → out ≡ old ++ flat_map f (take i rows) → length rows ≤ i → rows ≡ map g xs → out ≡ old ++ concat (map (λ x. f (g x)) xs)
-rows_done f g old out rows i xs written end is =
-    written ∙ ap (λ ys. old ++ flat_map f ys) (take_all i rows end ∙ is) ∙ ap (λ t. old ++ t) (rows_lines f g xs)
+pub rows_done : {X Y : Type 0} (f : Y → Text) (g : X → Y) (w v : Window) (old new : Text) (rows : List Y) (i : ℕ) (xs : List X)
+    → Showing w v old new (map f rows) (map f (drop i rows)) → length rows ≤ i → rows ≡ map g xs → Shown w v old new (map (λ x. f (g x)) xs)
+rows_done f g w v old new rows i xs so_far end is =
+    subst (Shown w v old new) (ap (map f) is ∙ rows_lines f g xs) (all_shown w v old new (map f rows) (map f (drop i rows)) (ap (map f) (drop_all i rows end)) so_far)

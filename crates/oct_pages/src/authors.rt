@@ -1,51 +1,66 @@
 //! The lines of authors and forks.
 
-ghost use Rattle.std.specs.Prelude.{◌≡◌, ◌++◌, map, OnOk};
-ghost use Rattle.std.specs.List.{concat};
+ghost use Rattle.std.specs.Prelude.{◌≡◌, ◌++◌, ◌∷◌, [], map, OnOk};
 ghost use Rattle.oct_ops.specs.Operations.{listed};
 ghost use Rattle.oct_pages.specs.Catalogue.{author_line, author_text, fork_line, fork_text};
-ghost use Rattle.oct_store.specs.Summary as summary;
 ghost use Rattle.oct_pages.specs.Growth.{Extends};
+ghost use Rattle.oct_pages.specs.Window.{Shown};
+ghost use Rattle.oct_store.specs.Summary as summary;
 
+use crate::window::Window;
 use crate::words::{append_dot, append_labelled};
 use oct_store::{Author, Fork, Store};
 use std::alloc::{AllocError, Allocator};
 
-// Appends the lines of all authors.
+// Appends what is shown of the lines of all authors.
 pub(crate) fn append_authors<A: Allocator + Copy>(
     out: &mut Vec<u8, A>,
+    window: &mut Window,
     store: &Store<A>,
 ) -> Result<(), AllocError>
-    ensures ok { OnOk result (out.new.items ≡ out.old.items ++ concat (map (author_line (listed store.now)) (summary.authors (listed store.now)))) }
+    ensures ok { OnOk result (Shown window.old window.new out.old.items out.new.items (map (author_line (listed store.now)) (summary.authors (listed store.now)))) }
     ensures grown { Extends out.old.items out.new.items }
 {
     let authors = store.authors()?;
     for author in &authors {
-        append_author(out, author)?;
+        show_author(out, window, author)?;
     }
     Ok(())
 }
 
-// Appends the lines of all forks.
+// Appends what is shown of the lines of all forks.
 pub(crate) fn append_forks<A: Allocator + Copy>(
     out: &mut Vec<u8, A>,
+    window: &mut Window,
     store: &Store<A>,
 ) -> Result<(), AllocError>
-    ensures ok { OnOk result (out.new.items ≡ out.old.items ++ concat (map (fork_line (listed store.now)) (summary.forks (listed store.now)))) }
+    ensures ok { OnOk result (Shown window.old window.new out.old.items out.new.items (map (fork_line (listed store.now)) (summary.forks (listed store.now)))) }
     ensures grown { Extends out.old.items out.new.items }
 {
     let forks = store.forks()?;
     for fork in &forks {
-        append_fork(out, fork)?;
+        show_fork(out, window, fork)?;
     }
     Ok(())
 }
 
-// Appends the line of an author.
-pub(crate) fn append_author<A: Allocator>(
+// Appends the line of an author, where it is shown.
+fn show_author<A: Allocator>(
     out: &mut Vec<u8, A>,
+    window: &mut Window,
     author: &Author,
 ) -> Result<(), AllocError>
+    ensures ok { OnOk result (Shown window.old window.new out.old.items out.new.items (author_text author.now.author author.now.through author.now.last ∷ [])) }
+    ensures grown { Extends out.old.items out.new.items }
+{
+    if !window.pass() {
+        return Ok(());
+    }
+    append_author(out, author)
+}
+
+// Appends the line of an author.
+fn append_author<A: Allocator>(out: &mut Vec<u8, A>, author: &Author) -> Result<(), AllocError>
     ensures ok { OnOk result (out.new.items ≡ out.old.items ++ author_text author.now.author author.now.through author.now.last) }
     ensures grown { Extends out.old.items out.new.items }
 {
@@ -55,8 +70,23 @@ pub(crate) fn append_author<A: Allocator>(
     out.extend_from_slice(b"\n")
 }
 
+// Appends the line of a fork, where it is shown.
+fn show_fork<A: Allocator>(
+    out: &mut Vec<u8, A>,
+    window: &mut Window,
+    fork: &Fork,
+) -> Result<(), AllocError>
+    ensures ok { OnOk result (Shown window.old window.new out.old.items out.new.items (fork_text fork.now.dot fork.now.contents ∷ [])) }
+    ensures grown { Extends out.old.items out.new.items }
+{
+    if !window.pass() {
+        return Ok(());
+    }
+    append_fork(out, fork)
+}
+
 // Appends the line of a fork.
-pub(crate) fn append_fork<A: Allocator>(out: &mut Vec<u8, A>, fork: &Fork) -> Result<(), AllocError>
+fn append_fork<A: Allocator>(out: &mut Vec<u8, A>, fork: &Fork) -> Result<(), AllocError>
     ensures ok { OnOk result (out.new.items ≡ out.old.items ++ fork_text fork.now.dot fork.now.contents) }
     ensures grown { Extends out.old.items out.new.items }
 {

@@ -1,17 +1,35 @@
 //! The lines of a game and its blocks.
 
-ghost use Rattle.std.specs.Prelude.{◌≡◌, ◌++◌, ◌*◌, OnOk, length};
+ghost use Rattle.std.specs.Prelude.{◌≡◌, ◌++◌, ◌∷◌, [], OnOk};
 ghost use Rattle.oct_pages.specs.Catalogue.{game_text, block_text, claim_text, refutation_text, status_text};
 ghost use Rattle.oct_pages.specs.Growth.{Extends};
+ghost use Rattle.oct_pages.specs.Window.{Shown};
 
+use crate::window::Window;
 use crate::words::{append_dot, append_labelled};
 use oct_code::Code;
 use oct_ops::{Block, Dot};
 use oct_verify::Status;
 use std::alloc::{AllocError, Allocator};
 
+// Appends the first line of a game, where it is shown.
+pub(crate) fn show_game<A: Allocator>(
+    out: &mut Vec<u8, A>,
+    window: &mut Window,
+    code: &Code,
+    known: u32,
+) -> Result<(), AllocError>
+    ensures ok { OnOk result (Shown window.old window.new out.old.items out.new.items (game_text code.now known ∷ [])) }
+    ensures grown { Extends out.old.items out.new.items }
+{
+    if !window.pass() {
+        return Ok(());
+    }
+    append_game(out, code, known)
+}
+
 // Appends the first line of a game.
-pub(crate) fn append_game<A: Allocator>(
+fn append_game<A: Allocator>(
     out: &mut Vec<u8, A>,
     code: &Code,
     known: u32,
@@ -52,8 +70,25 @@ fn append_refutation<A: Allocator>(
     append_labelled(out, b" true ", truth)
 }
 
+// Appends the line of a block, where it is shown.
+pub(crate) fn show_block<A: Allocator>(
+    out: &mut Vec<u8, A>,
+    window: &mut Window,
+    dot: Dot,
+    block: &Block<A>,
+    status: &Status,
+) -> Result<(), AllocError>
+    ensures ok { OnOk result (Shown window.old window.new out.old.items out.new.items (block_text dot block.now status.now ∷ [])) }
+    ensures grown { Extends out.old.items out.new.items }
+{
+    if !window.pass() {
+        return Ok(());
+    }
+    append_block(out, dot, block, status)
+}
+
 // Appends the line of a block.
-pub(crate) fn append_block<A: Allocator>(
+fn append_block<A: Allocator>(
     out: &mut Vec<u8, A>,
     dot: Dot,
     block: &Block<A>,

@@ -1,14 +1,15 @@
-//! The whole catalogue.
+//! The whole catalogue, and its pages.
 
-ghost use Rattle.std.specs.Prelude.{◌≡◌, ◌++◌, ◌∷◌, [], map, OnOk, OnErr};
-ghost use Rattle.std.specs.List.{concat, flat_map};
+ghost use Rattle.std.specs.Prelude.{◌≡◌, ◌++◌, ◌∷◌, [], false, OnOk, OnErr, IfOk};
 ghost use Rattle.oct_ops.specs.Operations.{listed};
-ghost use Rattle.oct_pages.specs.Catalogue.{catalogue, games as games_of, game_lines};
+ghost use Rattle.oct_pages.specs.Catalogue.{catalogue, has_page, lines, page as page_text};
 ghost use Rattle.oct_pages.specs.Growth.{Extends};
 ghost use Rattle.oct_pages.specs.Parts.{AreParts};
+ghost use Rattle.oct_pages.specs.Window.{Shown};
 
 use crate::authors::{append_authors, append_forks};
-use crate::games::append_game_lines;
+use crate::games::append_games;
+use crate::window::Window;
 use oct_code::Code;
 use oct_store::Store;
 use oct_verify::Ledger;
@@ -28,6 +29,7 @@ pub struct Parts<'a, A: Allocator + Copy> {
 /// Appends the catalogue of the store's operations to `out`, as `specs/Catalogue` spells it. The one error is that
 /// memory is refused, and then `out` stays as it is.
 pub fn write_catalogue<A: Allocator + Copy>(
+    alloc: A,
     parts: &Parts<'_, A>,
     out: &mut Vec<u8, A>,
 ) -> Result<(), AllocError>
@@ -35,43 +37,77 @@ pub fn write_catalogue<A: Allocator + Copy>(
     ensures ok { OnOk result (out.new.items ≡ out.old.items ++ catalogue (listed parts.now.store.now)) }
     ensures err { OnErr result (out.new.items ≡ out.old.items) }
 {
+    append_shown(alloc, parts, &mut Window::All, out)
+}
+
+/// Appends one page of that catalogue, its lines from `64 * page` on, at most 64 of them, and says whether there is such
+/// a page. Without one, and where memory is refused, `out` stays as it is.
+pub fn write_page<A: Allocator + Copy>(
+    alloc: A,
+    parts: &Parts<'_, A>,
+    page: u32,
+    out: &mut Vec<u8, A>,
+) -> Result<bool, AllocError>
+    requires { AreParts (listed parts.now.store.now) parts.now.games.now }
+    ensures found { IfOk result (λ found. found ≡ has_page (listed parts.now.store.now) page) }
+    ensures ok { OnOk result (out.new.items ≡ out.old.items ++ page_text (listed parts.now.store.now) page) }
+    ensures none { IfOk result (λ found. found ≡ false → out.new.items ≡ out.old.items) }
+    ensures err { OnErr result (out.new.items ≡ out.old.items) }
+{
+    let mut window = Window::page(page);
+    append_shown(alloc, parts, &mut window, out)?;
+    Ok(window.is_reached())
+}
+
+// Appends what is shown of all lines. Where memory is refused, `out` stays as it is.
+fn append_shown<A: Allocator + Copy>(
+    alloc: A,
+    parts: &Parts<'_, A>,
+    window: &mut Window,
+    out: &mut Vec<u8, A>,
+) -> Result<(), AllocError>
+    requires { AreParts (listed parts.now.store.now) parts.now.games.now }
+    ensures ok { OnOk result (Shown window.old window.new out.old.items out.new.items (lines (listed parts.now.store.now))) }
+    ensures err { OnErr result (out.new.items ≡ out.old.items) }
+{
     let before = out.len();
-    let written = append_lines(out, parts.store, parts.games);
+    let written = append_lines(alloc, out, window, parts.store, parts.games);
     if written.is_err() {
         out.truncate(before);
     }
     written
 }
 
-// Appends all lines.
+// Appends what is shown of all lines.
 fn append_lines<A: Allocator + Copy>(
+    alloc: A,
     out: &mut Vec<u8, A>,
+    window: &mut Window,
     store: &Store<A>,
     games: &BTreeMap<Code, Ledger<A>, A>,
 ) -> Result<(), AllocError>
     requires { AreParts (listed store.now) games.now }
-    ensures ok { OnOk result (out.new.items ≡ out.old.items ++ catalogue (listed store.now)) }
+    ensures ok { OnOk result (Shown window.old window.new out.old.items out.new.items (lines (listed store.now))) }
     ensures grown { Extends out.old.items out.new.items }
 {
-    out.extend_from_slice(b"census 1\n")?;
-    append_games(out, store, games)?;
-    append_forks(out, store)?;
-    append_authors(out, store)?;
-    out.extend_from_slice(b"end\n")
+    show_line(out, window, b"census 1\n")?;
+    append_games(alloc, out, window, store, games)?;
+    append_forks(out, window, store)?;
+    append_authors(out, window, store)?;
+    show_line(out, window, b"end\n")
 }
 
-// Appends the lines of all games.
-fn append_games<A: Allocator + Copy>(
+// Appends a line that is always the same, where it is shown.
+fn show_line<A: Allocator>(
     out: &mut Vec<u8, A>,
-    store: &Store<A>,
-    games: &BTreeMap<Code, Ledger<A>, A>,
+    window: &mut Window,
+    line: &[u8],
 ) -> Result<(), AllocError>
-    requires { AreParts (listed store.now) games.now }
-    ensures ok { OnOk result (out.new.items ≡ out.old.items ++ concat (flat_map (game_lines (listed store.now)) (games_of (listed store.now)))) }
+    ensures ok { OnOk result (Shown window.old window.new out.old.items out.new.items (line.now ∷ [])) }
     ensures grown { Extends out.old.items out.new.items }
 {
-    for (code, ledger) in games.iter() {
-        append_game_lines(out, store, code, ledger)?;
+    if !window.pass() {
+        return Ok(());
     }
-    Ok(())
+    out.extend_from_slice(line)
 }

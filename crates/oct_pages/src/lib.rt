@@ -13,11 +13,11 @@
 //! Each game comes with its known nim-values, its blocks and its period claims, each with its status. Then come the
 //! live notes by name, the dots that came with several contents, and the authors. A page is 64 lines of it.
 //!
-//! So far the catalogue of a set of blocks alone is written, and whole: claims, notes, removals and pages are defined,
-//! but no function takes them yet.
+//! So far the catalogue of a set of blocks alone is written, and whole: claims, notes and removals are defined, but no
+//! function takes them yet.
 //!
-//! - `write_catalogue` appends the text.
-//! - `Parts` is what it reads: the operations, and the ledger of each of their games.
+//! - `write_catalogue` appends the text, `write_page` one page of it.
+//! - `Parts` is what they read: the operations, and the ledger of each of their games.
 //!
 //! `specs/Catalogue` is this text, line by line.
 #![tactic(auto)]
@@ -26,7 +26,9 @@ mod authors;
 mod blocks;
 mod catalogue;
 mod games;
+mod groups;
 mod values;
+mod window;
 mod words;
 
-pub use catalogue::{Parts, write_catalogue};
+pub use catalogue::{Parts, write_catalogue, write_page};

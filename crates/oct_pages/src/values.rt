@@ -1,29 +1,50 @@
 //! The lines of a game's values.
 
-ghost use Rattle.std.specs.Prelude.{◌≡◌, ◌*◌, ◌<◌, ◌^◌, ◌++◌, OnOk, length};
-ghost use Rattle.std.specs.List.{concat, flat_map};
+ghost use Rattle.std.specs.Prelude.{◌≡◌, ◌*◌, ◌<◌, ◌^◌, ◌++◌, ◌∷◌, [], OnOk, length};
+ghost use Rattle.std.specs.List.{flat_map};
 ghost use Rattle.oct_pages.specs.Catalogue.{value_text, values_text, values_line, values_lines};
 ghost use Rattle.oct_pages.specs.Growth.{Extends};
+ghost use Rattle.oct_pages.specs.Window.{Shown};
 
+use crate::window::Window;
 use crate::words::append_labelled;
 use std::alloc::{AllocError, Allocator};
 
 // How many values stand in a line.
 const VALUES_PER_LINE: usize = 16;
 
-// Appends the lines of all values, which are those of the heaps from 0 on.
+// Appends what is shown of the lines of all values, which are those of the heaps from 0 on.
 pub(crate) fn append_values<A: Allocator>(
     out: &mut Vec<u8, A>,
+    window: &mut Window,
     values: &[u32],
 ) -> Result<(), AllocError>
     requires { length values.now < 2 ^ 32 }
-    ensures ok { OnOk result (out.new.items ≡ out.old.items ++ concat (values_lines values.now)) }
+    ensures ok { OnOk result (Shown window.old window.new out.old.items out.new.items (values_lines values.now)) }
     ensures grown { Extends out.old.items out.new.items }
 {
     for line in 0..(values.len() + 15) / VALUES_PER_LINE {
-        append_line(out, values, line)?;
+        show_line(out, window, values, line)?;
     }
     Ok(())
+}
+
+// Appends the line of this number, counted from 0, where it is shown.
+fn show_line<A: Allocator>(
+    out: &mut Vec<u8, A>,
+    window: &mut Window,
+    values: &[u32],
+    line: usize,
+) -> Result<(), AllocError>
+    requires few { length values.now < 2 ^ 32 }
+    requires within { 16 * line < length values.now }
+    ensures ok { OnOk result (Shown window.old window.new out.old.items out.new.items (values_line values.now line ∷ [])) }
+    ensures grown { Extends out.old.items out.new.items }
+{
+    if !window.pass() {
+        return Ok(());
+    }
+    append_line(out, values, line)
 }
 
 // Appends the line of this number, counted from 0.

@@ -9,4 +9,4 @@ use Rattle.oct_pages.proofs.authors.append_authors.Goals as goal
 pub returns-clause-ok : goal.returns-clause-ok
 returns-clause-ok g c =
     rows_done (λ (r : Author). author_text r.author r.through r.last) (λ a. record { author = a; through = through (listed c.args.store.now) a; last = last (listed c.args.store.now) a })
-    _ _ _ _ (authors (listed c.args.store.now)) c.loop-author.invariant c.loop-author-test.false (c.deref-author-items.ensures.value ∙ c.in_ok-authors.ensures)
+    _ _ _ _ _ c.loop-author.author-index (authors (listed c.args.store.now)) c.loop-author.invariant.shown c.loop-author-test.false (c.deref-author-items.ensures.value ∙ c.in_ok-authors.ensures)

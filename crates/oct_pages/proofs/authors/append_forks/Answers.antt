@@ -9,4 +9,4 @@ use Rattle.oct_pages.proofs.authors.append_forks.Goals as goal
 pub returns-clause-ok : goal.returns-clause-ok
 returns-clause-ok g c =
     rows_done (λ (r : Fork). fork_text r.dot r.contents) (λ d. record { dot = d; contents = contents (listed c.args.store.now) d })
-    _ _ _ _ (forks (listed c.args.store.now)) c.loop-fork.invariant c.loop-fork-test.false (c.deref-fork-items.ensures.value ∙ c.in_ok-forks.ensures)
+    _ _ _ _ _ c.loop-fork.fork-index (forks (listed c.args.store.now)) c.loop-fork.invariant.shown c.loop-fork-test.false (c.deref-fork-items.ensures.value ∙ c.in_ok-forks.ensures)

@@ -1,20 +1,24 @@
-use Rattle.std.proofs.Common.{◌++◌, sym, ap, ◌∙◌}
+use Rattle.std.proofs.Common.{◌≡◌, List, [], ◌∷◌, ◌++◌, map, sym, ap, ◌∙◌, subst}
 use Rattle.std.proofs.lemmas.Result.{on_ok_weaker}
+use Rattle.std.specs.List.{flat_map}
 use Rattle.oct_ops.specs.Operations.{listed}
-use Rattle.std.specs.Prelude.{codes}
-use Rattle.oct_pages.specs.Catalogue.{heading}
-use Rattle.oct_pages.proofs.Growing.{extended, extended_grown, extends_trans, grown_five_times}
-use Rattle.oct_pages.proofs.Wholes.{catalogue-is}
+use Rattle.oct_store.specs.Summary as summary
+use Rattle.oct_pages.specs.Catalogue.{Text, author_line, ending, fork_line, game_lines, games, heading, lines}
+use Rattle.oct_pages.specs.Window.{Shown}
+use Rattle.oct_pages.proofs.Windows.{shown_then}
+use Rattle.oct_pages.proofs.Wholes.{lines-are}
 use Rattle.oct_pages.proofs.catalogue.append_lines.Goals as goal
 
 pub returns-clause-ok : goal.returns-clause-ok
 returns-clause-ok g c =
-    on_ok_weaker c.extend_from_slice-2.result (λ last.
-    grown_five_times c.args.out.now.items _ _ _ _ _ _ _ _ _ _ c.in_ok-extend_from_slice.ensures.items c.in_ok-append_games.ensures.ok c.in_ok-append_forks.ensures.ok c.in_ok-append_authors.ensures.ok last
-    ∙ ap (λ t. c.args.out.now.items ++ t) (sym (catalogue-is (listed c.args.store.now) c.requires.blocks)))
-    (extended c.extend_from_slice-2.result c.append_authors.new.out.items c.extend_from_slice-2.new.self.items (codes "end\n") c.extend_from_slice-2.ensures.items)
-
-pub returns-clause-grown : goal.returns-clause-grown
-returns-clause-grown g c =
-    extends_trans _ _ _ (record { more = heading; is = c.in_ok-extend_from_slice.ensures.items }) (extends_trans _ _ _ c.in_ok-append_games.ensures.grown (extends_trans _ _ _ c.in_ok-append_forks.ensures.grown
-    (extends_trans _ _ _ c.in_ok-append_authors.ensures.grown (extended_grown c.extend_from_slice-2.result c.append_authors.new.out.items c.extend_from_slice-2.new.self.items (codes "end\n") c.extend_from_slice-2.ensures.items))))
+    let ops = listed c.args.store.now in
+    let all_games = flat_map (game_lines ops) (games ops) in
+    let all_forks = map (fork_line ops) (summary.forks ops) in
+    let all_authors = map (author_line ops) (summary.authors ops) in
+    on_ok_weaker c.show_line-2.result (λ last.
+    subst (Shown c.args.window.now c.show_line-2.new.window c.args.out.now.items c.show_line-2.new.out.items) (sym (lines-are ops c.requires.blocks))
+    (shown_then _ _ _ _ _ _ (heading ∷ all_games ++ all_forks ++ all_authors) (ending ∷ [])
+    (shown_then _ _ _ _ _ _ (heading ∷ all_games ++ all_forks) all_authors
+    (shown_then _ _ _ _ _ _ (heading ∷ all_games) all_forks
+    (shown_then _ _ _ _ _ _ (heading ∷ []) all_games c.in_ok-show_line.ensures.ok c.in_ok-append_games.ensures.ok)
+    c.in_ok-append_forks.ensures.ok) c.in_ok-append_authors.ensures.ok) last)) c.show_line-2.ensures.ok

@@ -1,10 +1,17 @@
-use Rattle.std.specs.List.{concat, range_with_len}
-use Rattle.std.proofs.Common.{map, ◌++◌, sym, ap, ◌∙◌, append_assoc}
-use Rattle.oct_pages.specs.Catalogue.{values_line}
-use Rattle.oct_pages.proofs.Ranges.{range_next}
+use Rattle.std.proofs.Common.{arith, ◌≡◌, ℕ, suc, ◌+◌, ◌-◌, ◌/◌, [], ◌∷◌, map, length, refl, ap}
+use Rattle.std.specs.List.{range_with_len}
+use Rattle.oct_pages.specs.Catalogue.{values_line, values_lines}
+use Rattle.oct_pages.proofs.Growing.{extends_trans}
+use Rattle.oct_pages.proofs.Windows.{showing_next}
 use Rattle.oct_pages.proofs.values.append_values.Goals as goal
 
 pub loop-line-preserved : goal.loop-line-preserved
 loop-line-preserved g c =
-    c.in_ok-append_line.ensures.ok ∙ ap (λ t. t ++ values_line c.args.values.now c.loop-line.line) c.loop-line.invariant ∙ append_assoc c.args.out.now.items (concat (map (values_line c.args.values.now) (range_with_len 0 c.loop-line.line))) (values_line c.args.values.now c.loop-line.line)
-    ∙ ap (λ t. c.args.out.now.items ++ t) (sym (range_next (values_line c.args.values.now) c.loop-line.line))
+    let all = values_line c.args.values.now in
+    let count = (length c.args.values.now + 15) / 16 in
+    let one : count - c.loop-line.line ≡ suc (count - (c.loop-line.line + 1)) = omega (arith, c.loop-line-test.true) in
+    record {
+      shown = showing_next _ _ _ _ _ _ (values_lines c.args.values.now) _ (all c.loop-line.line ∷ []) (map all (range_with_len (c.loop-line.line + 1) (count - (c.loop-line.line + 1))))
+          (ap (λ n. map all (range_with_len c.loop-line.line n)) one) c.loop-line.invariant.shown c.in_ok-show_line.ensures.ok;
+      grown = extends_trans _ _ _ c.loop-line.invariant.grown c.in_ok-show_line.ensures.grown;
+    }

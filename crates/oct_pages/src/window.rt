@@ -1,0 +1,76 @@
+//! Which lines of a catalogue are shown.
+
+ghost use Rattle.std.specs.Prelude.{◌≡◌, ◌*◌, ◌<◌, ◌^◌, Bool, true, false, nat_lt};
+ghost use Rattle.oct_pages.specs.Catalogue.{page_length};
+ghost use Rattle.oct_pages.specs.Window.{is_reached, shows, passed};
+
+// How many lines a page has.
+const PAGE_LENGTH: u32 = 64;
+
+// The lines that are shown of those to come.
+#[derive(Clone, Copy, Debug, PartialEq, Eq)]
+pub(crate) enum Window {
+    // Each line.
+    All,
+    // After the next `before` lines as many as `left`.
+    Page { before: u64, left: u32 },
+}
+
+impl Window {
+    // The lines of a page, counted from 0.
+    pub(crate) fn page(number: u32) -> Window
+        ensures { result ≡ Window.Page (page_length * number) page_length }
+    {
+        Window::Page {
+            before: PAGE_LENGTH as u64 * number as u64,
+            left: PAGE_LENGTH,
+        }
+    }
+
+    // Whether the page begins at a line that was passed.
+    pub(crate) fn is_reached(self) -> bool
+        ensures { result ≡ is_reached self }
+    {
+        match self {
+            Window::All => true,
+            Window::Page { left, .. } => left < PAGE_LENGTH,
+        }
+    }
+
+    // Whether the next line is shown.
+    fn shows(self) -> bool
+        ensures { result ≡ shows self }
+    {
+        match self {
+            Window::All => true,
+            Window::Page { before, left } => before == 0 && left > 0,
+        }
+    }
+
+    // Once the next line was passed.
+    fn passed(self) -> Window
+        ensures { result ≡ passed self }
+    {
+        match self {
+            Window::All => Window::All,
+            Window::Page { before: 0, left } => Window::Page {
+                before: 0,
+                left: left.saturating_sub(1),
+            },
+            Window::Page { before, left } => Window::Page {
+                before: before - 1,
+                left,
+            },
+        }
+    }
+
+    // Passes the next line, and says whether it is shown.
+    pub(crate) fn pass(&mut self) -> bool
+        ensures shows { result ≡ shows self.old }
+        ensures passed { self.new ≡ passed self.old }
+    {
+        let shows = self.shows();
+        *self = self.passed();
+        shows
+    }
+}
