@@ -1,6 +1,7 @@
 -- Which notes are live. The operations are listed in their order.
-use Rattle.std.specs.Prelude.{ℕ, nat_eq, Bool, true, false, not, ◌&&◌, List, [], map}
-use Rattle.std.specs.List.{list_any, filter}
+use Rattle.std.specs.Prelude.{◌≡◌, ℕ, nat_eq, Bool, true, false, not, ◌&&◌, List, [], map, IsTrue}
+use Rattle.std.specs.List.{list_any, list_all, filter}
+use Rattle.std.specs.List.Sorted.{IsStrictlySortedBy}
 use Rattle.std.specs.declared.cmp.Ordering.{Ordering}
 use Rattle.std.specs.Ordering.{nat_cmp, then_cmp, on, eq_by_cmp}
 use Rattle.std.specs.Cmp.Lexicographic.{slice_cmp, pointwise}
@@ -29,6 +30,11 @@ concerns_notes (kind.Removal r) = true
 abbrev pub notes_of : Operations → Operations
 notes_of ops = keep (λ o. concerns_notes o.body) ops
 
+-- strictly rising, all of them notes and removals
+pub record AreNotes (ops : List Operation) : Type 0 where
+  pub rising : IsStrictlySortedBy op_cmp ops
+  pub kinds : IsTrue (list_all (λ o. concerns_notes o.body) ops)
+
 -- the name of a note; others have none
 abbrev pub name_of : Body → List ℕ
 name_of (kind.Block b) = []
@@ -45,6 +51,14 @@ names_dot d (kind.Removal r) = list_any (eq_by_cmp dot_cmp d) r.dots
 
 abbrev pub is_removed : List Operation → Dot → Bool
 is_removed ops d = list_any (λ o. names_dot d o.body) ops
+
+-- these are the dots that removals name
+abbrev pub AreRemoved : List Operation → List Dot → Type 0
+AreRemoved ops dots = (d : Dot) → list_any (eq_by_cmp dot_cmp d) dots ≡ is_removed ops d
+
+-- a note whose dot is none of these
+abbrev pub leaves : List Dot → Operation → Bool
+leaves dots o = is_note o.body && not (list_any (eq_by_cmp dot_cmp o.dot) dots)
 
 -- a note that no removal names
 abbrev pub is_live : List Operation → Operation → Bool

@@ -2,8 +2,23 @@
 //!
 //! A removal names the dots of the notes that it removes, and not their name. So it hides what its author had seen and
 //! nothing else: a note of the same name that was added elsewhere stays, and a removal that comes before its note still
-//! holds once the note is there.
+//! holds once the note is there:
 //!
-//! `specs/Notes` says which notes of a set are live, in which order they are shown, and which dots a removal of a name
-//! has to name.
+//!     let mut notes = Notes::new(alloc);
+//!     notes.add(&early)?;               // note 1.1, kayles, "early"
+//!     notes.add(&later)?;               // note 1.2, kayles, "later"
+//!     notes.add(&removal)?;             // removal 2.1, of 1.1
+//!     notes.live()?                     // note 1.2 alone
+//!     notes.live_dots(b"kayles")?       // 1.2: what a removal of the name has to name
+//!
+//! - `Notes` is the set, which grows by `add` and, as a `Join`, by union.
+//! - `laws` says what the live notes of a set are, whatever the set.
 #![tactic(auto)]
+
+pub mod laws;
+mod notes;
+mod removed;
+#[cfg(test)]
+mod tests;
+
+pub use notes::Notes;

@@ -1,0 +1,207 @@
+//! A set of notes and their removals.
+
+ghost use Rattle.std.specs.Prelude.{◌≡◌, ◌↔◌, length, IsTrue, IfOk, OnOk, OnErr};
+ghost use Rattle.oct_ops.specs.Operations.{empty, insert, remove, contains, listed, union, IsSubset};
+ghost use Rattle.oct_ops.specs.OrderLaws.{op_cmp_total, op_cmp_exact};
+ghost use Rattle.oct_ops.specs.Views.{content};
+ghost use Rattle.oct_join.specs.SetBounds.{subset_order, union_bound};
+ghost use Rattle.oct_notes.specs.Notes as spec;
+
+use crate::removed::Removed;
+use oct_join::Join;
+use oct_ops::{Body, Dot, Op};
+use std::alloc::{AllocError, Allocator};
+use std::cmp::Ordering;
+use std::collections::{BTreeSet, btree_set};
+use std::marker::Model;
+
+/// A finite set of notes and removals, in memory of `A`: an observed-remove set (Shapiro et al. 2011). Operations are the
+/// same only if dot and body are.
+///
+///     let mut notes = Notes::new(alloc);
+///     notes.add(&note)?;                    // nothing changes where it is there already
+///     notes.join(&other)?;                  // the union; a refusal leaves a set between the old one and the union
+///     notes.live()?                         // copies of the live notes, by name
+///     notes.take_back(&note);               // as if it had not been added
+///
+/// `add` and `take_back` take a number of steps that grows with the logarithm of the set's size. `live` and `live_dots`
+/// read the whole set once; beside that they sort the dots that are removed, and look up the dot of each note.
+#[derive(Drop)]
+pub struct Notes<A: Allocator + Copy> {
+    ops: BTreeSet<Op<A>, A>,
+    alloc: A,
+}
+
+impl<A: Allocator + Copy> Model for Notes<A> {
+    ghost use Rattle.oct_ops.specs.Operations.{Operations, operations_code, set_of};
+    ghost use Rattle.oct_notes.specs.Notes.{AreNotes};
+
+    ghost Value = { Operations };
+
+    ghost coded = { operations_code };
+
+    ghost view = { λ n. set_of n.ops.keys };
+
+    ghost invariant = { λ n. AreNotes n.ops.keys };
+}
+
+impl<A: Allocator + Copy> Notes<A> {
+    /// The empty set, which will grow in memory of `alloc`.
+    pub fn new(alloc: A) -> Notes<A>
+        ensures { result ≡ empty }
+    {
+        Notes {
+            ops: BTreeSet::new(alloc),
+            alloc,
+        }
+    }
+
+    /// How many notes and removals there are.
+    pub fn len(&self) -> usize
+        ensures { result ≡ length (listed self.now) }
+    {
+        self.ops.len()
+    }
+
+    /// Whether there is no note and no removal.
+    pub fn is_empty(&self) -> bool
+        ensures { IsTrue result ↔ (length (listed self.now) ≡ 0) }
+    {
+        self.len() == 0
+    }
+
+    /// Whether the operation is there, with this dot and this body.
+    pub fn contains(&self, op: &Op<A>) -> bool
+        ensures value { result ≡ contains self.now op.now }
+
+        // Only notes and removals are.
+        ensures kind { IsTrue result → IsTrue (spec.concerns_notes op.now.body) }
+    {
+        self.ops.contains(op)
+    }
+
+    /// Takes in a copy of the operation, which has to be a note or a removal. Without memory the set stays as it is.
+    pub fn add(&mut self, op: &Op<A>) -> Result<(), AllocError>
+        requires { IsTrue (spec.concerns_notes op.now.body) }
+        ensures ok { OnOk result (self.new ≡ insert self.old op.now) }
+        ensures err { OnErr result (self.new ≡ self.old) }
+    {
+        if self.contains(op) {
+            return Ok(());
+        }
+        let copy = op.copy(self.alloc)?;
+        self.insert(copy)
+    }
+
+    /// Takes the operation out again, if it is there.
+    pub fn take_back(&mut self, op: &Op<A>)
+        ensures { self.new ≡ remove self.old op.now }
+    {
+        self.ops.remove(op);
+    }
+
+    /// Copies of the live notes, those whose dot no removal here names: by name in byte order, where a name comes before
+    /// those that it begins, and then in the order of operations.
+    pub fn live(&self) -> Result<Vec<Op<A>, A>, AllocError>
+        ensures { IfOk result (λ live. live.items ≡ spec.live_notes (listed self.now)) }
+    {
+        let removed = self.removed()?;
+        let mut live = Vec::new(self.alloc);
+        for op in self.iter() {
+            if removed.leaves(op) {
+                live.push(op.copy(self.alloc)?)?;
+            }
+        }
+        live.sort_unstable_by(|note, other| by_name(note, other));
+        Ok(live)
+    }
+
+    /// The dots of the live notes of the name, rising, each once. A removal of these dots leaves no live note of the name
+    /// here.
+    pub fn live_dots(&self, name: &[u8]) -> Result<Vec<Dot, A>, AllocError>
+        ensures { IfOk result (λ dots. dots.items ≡ spec.live_dots (listed self.now) name.now) }
+    {
+        let removed = self.removed()?;
+        let mut dots = Vec::new(self.alloc);
+        for op in self.iter() {
+            if is_named(op, name) && removed.leaves(op) {
+                dots.push(op.dot())?;
+            }
+        }
+        dots.dedup();
+        Ok(dots)
+    }
+
+    // Takes in a note or a removal.
+    fn insert(&mut self, op: Op<A>) -> Result<(), AllocError>
+        requires { IsTrue (spec.concerns_notes op.body) }
+        ensures ok { OnOk result (self.new ≡ insert self.old op) }
+        ensures err { OnErr result (self.new ≡ self.old) }
+    {
+        self.ops.insert(op)?;
+        Ok(())
+    }
+
+    // The operations in their order.
+    fn iter(&self) -> btree_set::Iter<'_, Op<A>>
+        ensures value { result ≡ listed self.now }
+        ensures kind { spec.AreNotes (listed self.now) }
+    {
+        self.ops.iter()
+    }
+
+    // The dots that the removals name.
+    fn removed(&self) -> Result<Removed<A>, AllocError>
+        ensures { IfOk result (spec.AreRemoved (listed self.now)) }
+    {
+        let mut dots = Vec::new(self.alloc);
+        for op in self.iter() {
+            if let Body::Removal(removal) = op.body() {
+                dots.extend_from_slice(removal.dots())?;
+            }
+        }
+        Ok(Removed::new(dots))
+    }
+}
+
+// The name of a note; other bodies have none.
+fn name_of<A: Allocator>(body: &Body<A>) -> &[u8]
+    ensures { result.now ≡ spec.name_of (content body.now) }
+{
+    match body {
+        Body::Note(note) => note.name(),
+        Body::Block(_) | Body::Period(_) | Body::Removal(_) => &[],
+    }
+}
+
+// Whether this is the name of the note.
+fn is_named<A: Allocator>(op: &Op<A>, name: &[u8]) -> bool
+    ensures { result ≡ spec.is_named name.now op.now }
+{
+    name_of(op.body()) == name
+}
+
+// By name, byte by byte, and then as operations.
+fn by_name<A: Allocator>(note: &Op<A>, other: &Op<A>) -> Ordering
+    ensures { result ≡ spec.note_order note.now other.now }
+{
+    let names = name_of(note.body()).cmp(name_of(other.body()));
+    names.then(note.cmp(other))
+}
+
+impl<A: Allocator + Copy> Join for Notes<A> {
+    ghost below = { IsSubset };
+
+    ghost bound = { union };
+
+    fn join(&mut self, other: &Notes<A>) -> Result<(), AllocError> {
+        for op in other.iter() {
+            self.add(op)?;
+        }
+        Ok(())
+    }
+
+    ghost order = { subset_order op_cmp_total op_cmp_exact };
+
+    ghost least = { union_bound op_cmp_total op_cmp_exact };
+}
