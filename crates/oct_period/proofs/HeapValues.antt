@@ -17,14 +17,14 @@ use Rattle.oct_period.specs.declared.status.PeriodStatus.TheVariants.{Proved, Re
 use Rattle.oct_period.specs.declared.unknown.Unknown.{Unknown}
 use Rattle.oct_period.proofs.Statuses.{proved_holds, proved_needs}
 
-proved_so : (s : PeriodStatus) → is_proved s ≡ true → s ≡ Proved
+pub proved_so : (s : PeriodStatus) → is_proved s ≡ true → s ≡ Proved
 proved_so Proved h = refl
 proved_so (Refuted n) h = cc
 proved_so (Pending n) h = cc
 
 module _ (c : Code) (blocks : List Block) where
   -- a proved claim gives the nim-value of a heap past the known length
-  by_claim : (p : Period) (n value : ℕ) → IsClaimOf c p → period_status blocks p ≡ Proved → known blocks ≤ n → value_by c n (Some p) ≡ Some value → value ≡ nim_value c n
+  pub by_claim : (p : Period) (n value : ℕ) → IsClaimOf c p → period_status blocks p ≡ Proved → known blocks ≤ n → value_by c n (Some p) ≡ Some value → value ≡ nim_value c n
   by_claim p n value claim proved past h =
       let enough = proved_needs blocks p proved in
       let periodic : IsPeriodicFrom c p.start p.period = subst (λ d. IsPeriodicFrom d p.start p.period) claim.code (proved_holds blocks p claim.later proved) in

@@ -142,7 +142,7 @@ pub next_player_wins : NextPlayerWins
 unfolding above_zero
 next_player_wins c ps = wins_above_zero c ps ∙ sym (by_a_move c (wins c) ps (λ to among. wins_above_zero c to))
 
-by_value : (c : Code) (heaps : List ℕ) (r : Result ℕ Unknown) → ((value : ℕ) → r ≡ Ok value → value ≡ nim_sum c heaps) → outcome_by c heaps r ≡ outcome_by_value r
+pub by_value : (c : Code) (heaps : List ℕ) (r : Result ℕ Unknown) → ((value : ℕ) → r ≡ Ok value → value ≡ nim_sum c heaps) → outcome_by c heaps r ≡ outcome_by_value r
 by_value c heaps (Ok value) right = ap winner (wins_above_zero c heaps ∙ ap (λ v. not (eqb v 0)) (sym (right value refl)))
 by_value c heaps (Err u) right = refl
 

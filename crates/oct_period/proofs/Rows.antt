@@ -3,10 +3,12 @@ use Rattle.std.specs.Prelude.{◌≡◌, List, [], ◌∷◌, true, false, Ok, E
 use Rattle.oct_code.specs.Code.{Code}
 use Rattle.oct_mex.specs.NimValues.{nim_value}
 use Rattle.oct_ops.specs.Operation.{Block, claimed, repeating}
+use Rattle.oct_verify.specs.declared.status.Status.TheVariants as of_block
+use Rattle.oct_period.specs.FarBlocks.{block_status}
 use Rattle.oct_period.specs.Outcomes.{outcome}
 use Rattle.oct_period.specs.Periods.{period_status, heap_value, position_value}
 use Rattle.oct_period.specs.Winning.{wins}
-use Rattle.oct_period.specs.declared.outcome.Outcome.TheVariants as who
+use Rattle.oct_period.specs.declared.winner.Outcome.TheVariants as who
 use Rattle.oct_period.specs.declared.status.PeriodStatus.TheVariants.{Proved, Refuted, Pending}
 
 abbrev kayles : Code
@@ -56,6 +58,27 @@ no_heaps = refl
 second_unknown : position_value by_turns six [] (5 ∷ 6 ∷ 7 ∷ []) ≡ Err (record { index = 1 })
 unfolding nim_value
 second_unknown = refl
+
+-- ---- blocks past the known length
+
+abbrev far_right : Block
+far_right = claimed by_turns 20 (0 ∷ 1 ∷ [])
+
+far_proved : block_status seven (repeating by_turns 1 2 ∷ []) far_right ≡ of_block.Proved
+unfolding nim_value
+far_proved = refl
+
+far_refuted : block_status seven (repeating by_turns 1 2 ∷ []) (claimed by_turns 20 (0 ∷ 0 ∷ [])) ≡ of_block.Refuted 21 0 1
+unfolding nim_value
+far_refuted = refl
+
+far_waits : block_status six (repeating by_turns 1 2 ∷ []) far_right ≡ of_block.Pending
+unfolding nim_value
+far_waits = refl
+
+far_without_claim : block_status seven [] far_right ≡ of_block.Pending
+unfolding nim_value
+far_without_claim = refl
 
 -- ---- who wins
 

@@ -2,7 +2,14 @@ pub use Rattle.oct_code.specs.Code
 pub use Rattle.oct_mex.specs.NimValues
 pub use Rattle.oct_ops.specs.Operation
 pub use Rattle.oct_verify.specs.Known
+pub mod ClaimLaws
+pub mod Claims
+pub mod FarBlocks
+pub mod FarLaws
+pub mod GameContent
+pub mod GameKept
 pub mod Laws
 pub mod Outcomes
 pub mod Periods
+pub mod Proved
 pub mod Winning

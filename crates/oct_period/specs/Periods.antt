@@ -42,12 +42,13 @@ abbrev pub value_by : Code → ℕ → Option Period → Option ℕ
 value_by c n None = None
 value_by c n (Some p) = Some (nim_value c (p.start + (n - p.start) % p.period))
 
--- the nim-value of a heap: its own below the known length, else by the first proved claim
+-- the nim-value of a heap: its own below the known length, else by the claim
+abbrev pub heap_value_by : Code → List Block → Option Period → ℕ → Option ℕ
+heap_value_by c blocks claim n = elim (nat_lt n (known blocks)) [ true ↦ Some (nim_value c n) | false ↦ value_by c n claim ]
+
+-- by the first proved claim
 abbrev pub heap_value : Code → List Block → List Period → ℕ → Option ℕ
-heap_value c blocks claims n = elim (nat_lt n (known blocks)) [
-  | true ↦ Some (nim_value c n)
-  | false ↦ value_by c n (find (λ p. is_proved (period_status blocks p)) claims)
-]
+heap_value c blocks claims = heap_value_by c blocks (find (λ p. is_proved (period_status blocks p)) claims)
 
 abbrev pub xor_onto : ℕ → Result ℕ Unknown → Result ℕ Unknown
 xor_onto v (Ok w) = Ok (bit_xor v w)

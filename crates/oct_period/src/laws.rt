@@ -1,5 +1,6 @@
 //! What holds of all claims of a game, whatever its blocks. A caller gets each law from the contract of its function.
 
+ghost use Rattle.oct_period.specs.FarLaws.{StatusByBlocks, NearStatusByBlocks, SettledBlocksStay};
 ghost use Rattle.oct_period.specs.Laws.{ProvedHolds, RefutedIsFirstBreak, SettledClaimsStay, HeapValuesAreRight, PositionValuesAreRight, NextPlayerWins, WinsAboveZero, OutcomeByValue};
 
 /// A proved claim holds for every heap from its start on, and a refuted one is refuted at the least of all heaps that
@@ -12,6 +13,18 @@ pub fn statuses_are_right()
 /// A claim that is proved or refuted stays so with more blocks, at the same heap.
 pub fn settled_claims_stay()
     ensures { SettledClaimsStay }
+{}
+
+/// A block has the status that the blocks alone give it where there is no claim, and where it starts at or below the known
+/// length.
+pub fn near_blocks_need_no_claim()
+    ensures none { StatusByBlocks }
+    ensures near { NearStatusByBlocks }
+{}
+
+/// A block that is proved or refuted stays so with more blocks and claims, at the same place and with the same values.
+pub fn settled_blocks_stay()
+    ensures { SettledBlocksStay }
 {}
 
 /// The value that is given of a heap is its nim-value, and that of a position the exclusive or of the nim-values of its

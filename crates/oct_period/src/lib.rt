@@ -4,17 +4,40 @@
 //! heaps below `2 * start + 2 * period + k` are known and agree with the claim, it holds for every heap, however large
 //! (Guy and Smith, 1956), so the value of a heap of 10^9 beans may be read off the first period.
 //!
-//! - `PeriodStatus` is what is known of a claim: proved, refuted at the least heap that breaks it, or pending.
-//! - `Unknown` names the first heap of a position whose nim-value is not known.
-//! - `Outcome` says who wins a position in normal play, where that is known.
-//! - `laws` says what holds of all claims of a game.
+//!     let mut game = Game::new(alloc, code);      // 0.3: one bean may be removed
+//!     game.add_block(first, values)?;             // 0 1 0 1 0 1 0 at 0
+//!     game.add_period(second, repeats)?;          // from 1 by 2: proved
+//!     game.heap_value(1_000_000_001)              // Some(1)
+//!     game.outcome(&[1, 1_000_000_001])           // NextLoses
+//!
+//! - `Game` is a ledger and the period claims of its game, and answers for both.
+//! - `PeriodClaim` is a claim under its dot, and `PeriodStatus` what is known of a claim: proved, refuted at the least heap
+//!   that breaks it, or pending.
+//! - `period_status`, `heap_value`, `position_value` and `outcome` answer for a ledger and a list of claims. No answer takes
+//!   memory.
+//! - `Unknown` names the first heap of a position whose nim-value is not known, and `Outcome` says who wins a position in
+//!   normal play, where that is known.
+//! - `laws` says what holds of all blocks and claims of a game.
 #![tactic(auto)]
 
+mod breaks;
+mod claim;
+mod far;
+mod game;
 pub mod laws;
-mod outcome;
 mod status;
+#[cfg(test)]
+mod tests;
 mod unknown;
+mod values;
+mod winner;
+mod winning;
 
-pub use outcome::Outcome;
+pub use breaks::period_status;
+pub use claim::PeriodClaim;
+pub use game::Game;
 pub use status::PeriodStatus;
 pub use unknown::Unknown;
+pub use values::{heap_value, position_value};
+pub use winner::Outcome;
+pub use winning::outcome;

@@ -1,0 +1,16 @@
+use Rattle.std.proofs.Common.{ap, ◌∙◌}
+use Rattle.std.specs.Option.{option_map}
+use Rattle.oct_ops.specs.Sets as sets
+use Rattle.oct_period.specs.Claims.{Claim}
+use Rattle.oct_period.specs.GameContent.{GameContent}
+use Rattle.oct_period.specs.Periods.{heap_value_by}
+use Rattle.oct_verify.specs.Filing.{blocks_in}
+use Rattle.oct_period.proofs.FirstProved.{heap_value-first}
+use Rattle.oct_period.proofs.game.Game.heap_value.Goals as goal
+
+pub returns-clause-value : goal.returns-clause-value
+returns-clause-value g c =
+    let game = c.args.self.now in
+    c.heap_value_by.ensures.value
+    ∙ ap (λ (h : GameContent). heap_value_by h.code (blocks_in h.blocks) (option_map (λ (d : Claim). d.1) c.proved_claim.result) c.args.heap) c.self.view_is
+    ∙ heap_value-first (blocks_in game.blocks) (sets.listed game.claims) game.code c.proved_claim.result c.args.heap c.proved_claim.ensures.value

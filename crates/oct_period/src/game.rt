@@ -1,0 +1,169 @@
+//! What is known of a game.
+
+ghost use Rattle.std.specs.Prelude.{◌≡◌, true, IfErr, IfOk, IfSome, OnErr, OnOk};
+ghost use Rattle.oct_mex.specs.NimValues.{nim_value, position_value as nim_sum};
+ghost use Rattle.oct_ops.specs.Sets as sets;
+ghost use Rattle.oct_period.specs.Claims.{AreOfGame, claims_in, first_proved};
+ghost use Rattle.oct_period.specs.FarBlocks.{block_status};
+ghost use Rattle.oct_period.specs.GameContent.{ledger_of};
+ghost use Rattle.oct_period.specs.Outcomes.{outcome, IsOutcomeOf};
+ghost use Rattle.oct_period.specs.Periods.{heap_value, position_value};
+ghost use Rattle.oct_period.specs.Proved.{IsProvedBy};
+ghost use Rattle.oct_verify.specs.Filing.{blocks_in};
+
+use crate::claim::PeriodClaim;
+use crate::far::verdict_by;
+use crate::unknown::Unknown;
+use crate::values::{heap_value_by, is_proved, position_value_by};
+use crate::winner::Outcome;
+use crate::winning::outcome_of;
+use oct_code::Code;
+use oct_ops::{Block, Dot, Period};
+use oct_verify::{Ledger, Status};
+use std::alloc::{AllocError, Allocator};
+use std::collections::{BTreeSet, btree_set};
+use std::marker::Model;
+
+/// The blocks and the period claims of one game, each under its dot, with what is known from them. Only `add_block` and
+/// `add_period` ask for memory.
+#[derive(Drop)]
+pub struct Game<A: Allocator + Copy> {
+    ledger: Ledger<A>,
+    claims: BTreeSet<PeriodClaim, A>,
+}
+
+impl<A: Allocator + Copy> Model for Game<A> {
+    ghost use Rattle.oct_period.specs.GameContent.{GameContent, game_content_code};
+
+    ghost Value = { GameContent };
+
+    ghost coded = { game_content_code };
+
+    ghost use Rattle.oct_period.specs.GameKept.{content_of, IsGame};
+
+    ghost view = { content_of };
+
+    ghost invariant = { IsGame };
+}
+
+impl<A: Allocator + Copy> Game<A> {
+    /// A game without blocks and claims. Takes no memory.
+    pub fn new(alloc: A, code: Code) -> Game<A>
+        ensures { result ≡ record { code = code; blocks = sets.empty; claims = sets.empty } }
+    {
+        Game {
+            ledger: Ledger::new(alloc, code),
+            claims: BTreeSet::new(alloc),
+        }
+    }
+
+    /// The code of the game.
+    pub fn code(&self) -> Code
+        ensures { result ≡ self.now.code }
+    {
+        self.ledger.code()
+    }
+
+    /// Adds a block of the game under its dot. A pair that is there changes nothing. Where memory is refused, nothing changes,
+    /// and the block is handed back.
+    pub fn add_block(&mut self, dot: Dot, block: Block<A>) -> Result<(), (AllocError, Block<A>)>
+        requires { block.code ≡ self.old.code }
+        ensures ok { OnOk result (self.new ≡ record self.old { blocks = sets.insert self.old.blocks (dot, block) }) }
+        ensures err { OnErr result (self.new ≡ self.old) }
+        ensures returned { IfErr result (λ refused. refused.1 ≡ block) }
+    {
+        self.ledger.add(dot, block)
+    }
+
+    /// Adds a claim of the game under its dot. A pair that is there changes nothing. Where memory is refused, nothing changes,
+    /// and the claim is handed back.
+    pub fn add_period(&mut self, dot: Dot, period: Period) -> Result<(), (AllocError, Period)>
+        requires { period.code ≡ self.old.code }
+        ensures ok { OnOk result (self.new ≡ record self.old { claims = sets.insert self.old.claims (dot, period) }) }
+        ensures err { OnErr result (self.new ≡ self.old) }
+        ensures returned { IfErr result (λ refused. refused.1 ≡ period) }
+    {
+        match self.claims.insert(PeriodClaim { dot, period }) {
+            Ok(_) => Ok(()),
+            Err(_) => Err((AllocError, period)),
+        }
+    }
+
+    /// The blocks of the game.
+    pub fn ledger(&self) -> &Ledger<A>
+        ensures { result.now ≡ ledger_of self.now }
+    {
+        &self.ledger
+    }
+
+    /// The claims in the order of the operations.
+    pub fn claims(&self) -> btree_set::Iter<'_, PeriodClaim>
+        ensures value { result ≡ sets.listed self.now.claims }
+        ensures game { AreOfGame self.now.code (sets.listed self.now.claims) }
+    {
+        self.claims.iter()
+    }
+
+    /// The first claim, in the order of the operations, that is proved. This is one pass over the claims.
+    pub fn proved_claim(&self) -> Option<PeriodClaim>
+        ensures value { result ≡ first_proved (blocks_in self.now.blocks) (sets.listed self.now.claims) }
+        ensures proved { IsProvedBy self.now.code (blocks_in self.now.blocks) result }
+    {
+        for claim in self.claims() {
+            if is_proved(&self.ledger, claim) {
+                return Some(*claim);
+            }
+        }
+        None
+    }
+
+    /// The nim-value of a heap of any size: by the blocks below the known length, and otherwise by a proved claim.
+    pub fn heap_value(&self, heap: u64) -> Option<u32>
+        ensures value { result ≡ heap_value self.now.code (blocks_in self.now.blocks) (claims_in self.now.claims) heap }
+        ensures right { IfSome result (λ value. value ≡ nim_value self.now.code heap) }
+    {
+        heap_value_by(&self.ledger, self.proved_claim(), heap)
+    }
+
+    /// The exclusive or of the nim-values of a position's heaps, or the first heap that has none.
+    pub fn position_value(&self, heaps: &[u64]) -> Result<u32, Unknown>
+        ensures value { result ≡ position_value self.now.code (blocks_in self.now.blocks) (claims_in self.now.claims) heaps.now }
+        ensures right { IfOk result (λ value. value ≡ nim_sum self.now.code heaps.now) }
+    {
+        position_value_by(&self.ledger, &self.proved_claim(), heaps)
+    }
+
+    /// Who wins a position in normal play: the player to move loses exactly where its nim-value is known and no move leads to
+    /// a position in which the next player loses. Where the nim-value of some heap is not known, the first such heap is named.
+    pub fn outcome(&self, heaps: &[u64]) -> Outcome
+        ensures value { result ≡ outcome self.now.code (blocks_in self.now.blocks) (claims_in self.now.claims) heaps.now }
+        ensures play { IsOutcomeOf self.now.code heaps.now (position_value self.now.code (blocks_in self.now.blocks) (claims_in self.now.claims) heaps.now) result }
+    {
+        outcome_of(self.position_value(heaps))
+    }
+
+    /// The status of a block that is here under this dot: pending if it starts past the known length and no claim is proved,
+    /// else proved, or refuted at its least wrong place. What is compared here is not counted by the ledger.
+    pub fn block_status(&self, dot: &Dot, block: &Block<A>) -> Status
+        requires { sets.contains self.now.blocks (dot.now, block.now) ≡ true }
+        ensures { result ≡ block_status (blocks_in self.now.blocks) (claims_in self.now.claims) block.now }
+    {
+        self.block_status_by(self.proved_claim(), dot, block)
+    }
+
+    /// The status of a block that is here under this dot, where `claim` is the answer of `proved_claim`, so that it is looked
+    /// for once for many blocks.
+    pub fn block_status_by(&self, claim: Option<PeriodClaim>, dot: &Dot, block: &Block<A>) -> Status
+        requires here { sets.contains self.now.blocks (dot.now, block.now) ≡ true }
+        requires first { claim ≡ first_proved (blocks_in self.now.blocks) (sets.listed self.now.claims) }
+        ensures { result ≡ block_status (blocks_in self.now.blocks) (claims_in self.now.claims) block.now }
+    {
+        if block.start() <= self.ledger.known() {
+            return self.ledger.status(dot, block);
+        }
+        match claim {
+            Some(claim) => verdict_by(&self.ledger, &claim.period, block),
+            None => Status::Pending,
+        }
+    }
+}
