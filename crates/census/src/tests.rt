@@ -25,7 +25,7 @@ fn outcome_of(rt: &HostRuntime, words: &[&str], input: &[u8]) -> Outcome {
 fn folds_the_empty_delta(rt: HostRuntime) -> Result<(), Fail> {
     let done = outcome_of(&rt, &["fold"], b"zz\n4f47443100000000\n");
     assert_eq!(rt; done.status, 0);
-    assert_eq!(rt; done.output.as_slice(), b"census 1\nend\n".as_slice());
+    assert_eq!(rt; done.output.as_slice(), b"census 2\nend\n".as_slice());
     assert_eq!(rt; done.errors.as_slice(), b"refused 1\n".as_slice());
     Ok(())
 }

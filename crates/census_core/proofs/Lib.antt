@@ -1,4 +1,5 @@
 mod Building
 mod FiledLaws
 mod LineLemmas
+mod Noting
 mod Taking

@@ -10,10 +10,8 @@ use Rattle.oct_delta.specs.Decoding.{read_delta}
 use Rattle.oct_ops.specs.Body.{Operation}
 use Rattle.oct_ops.specs.Operations.{Operations, empty, insert, listed, set_of, union}
 use Rattle.oct_ops.specs.OrderLaws.{op_cmp_total, op_cmp_exact}
-use Rattle.oct_ops.specs.SetLaws.{and_both, and_first, and_second, union-empty, union-insert, union-insert_left, union_assoc, union_comm}
-use Rattle.oct_pages.specs.Parts.{is_block}
-use Rattle.oct_pages.proofs.Members.{any-listed}
-use Rattle.census_core.specs.Folded.{filled_lines, if_blocks, is_filled, is_refused, operations_of_line, taken_of_line, unhexed}
+use Rattle.oct_ops.specs.SetLaws.{union-empty, union-insert, union-insert_left, union_assoc, union_comm}
+use Rattle.census_core.specs.Folded.{filled_lines, is_filled, is_refused, operations_of_line, taken_of_line, unhexed}
 
 -- one operation more from the front of a list
 pub insert_next : (s : Operations) (o : Operation) (rest : List Operation) → union s (set_of (o ∷ rest)) ≡ union (insert s o) (set_of rest)
@@ -32,37 +30,6 @@ pub line_next : (s : Operations) (line : Bytes) (rest : List Bytes)
 line_next s line rest =
     ap (union s) (set_of-append (taken_of_line line) (flat_map taken_of_line rest))
     ∙ sym (union_assoc op_cmp_total op_cmp_exact s (set_of (taken_of_line line)) (set_of (flat_map taken_of_line rest)))
-
--- ---- what is taken are blocks
-
-all-any : (p : Operation → Bool) (xs : List Operation) → list_all p xs ≡ not (list_any (λ x. not (p x)) xs)
-all-any p [] = refl
-all-any p (x ∷ xs) = elim (p x) as (λ b. (b && list_all p xs) ≡ not (not b || list_any (λ y. not (p y)) xs)) [ true ↦ all-any p xs | false ↦ refl ]
-
-listed_blocks : (ops : List Operation) → list_all is_block (listed (set_of ops)) ≡ list_all is_block ops
-listed_blocks ops =
-    all-any is_block (listed (set_of ops))
-    ∙ ap not (any-listed op_cmp_total op_cmp_exact (λ o. not (is_block o)) ops)
-    ∙ sym (all-any is_block ops)
-
-all-append : (xs ys : List Operation) → list_all is_block xs ≡ true → list_all is_block ys ≡ true → list_all is_block (xs ++ ys) ≡ true
-all-append [] ys h k = k
-all-append (x ∷ xs) ys h k = and_both (is_block x) (list_all is_block (xs ++ ys)) (and_first (is_block x) (list_all is_block xs) h) (all-append xs ys (and_second (is_block x) (list_all is_block xs) h) k)
-
-tested_blocks : (ops : List Operation) (t : Bool) → list_all is_block ops ≡ t → list_all is_block (unwrap_or (cond t (Some ops) None) []) ≡ true
-tested_blocks ops true is = is
-tested_blocks ops false is = refl
-
-read_blocks : (read : Option (List Operation)) → list_all is_block (unwrap_or (option_and_then if_blocks read) []) ≡ true
-read_blocks None = refl
-read_blocks (Some ops) = tested_blocks ops (list_all is_block ops) refl
-
-line_blocks : (lines : List Bytes) → list_all is_block (flat_map taken_of_line lines) ≡ true
-line_blocks [] = refl
-line_blocks (line ∷ rest) = all-append (taken_of_line line) (flat_map taken_of_line rest) (read_blocks (option_and_then read_delta (unhexed line))) (line_blocks rest)
-
-pub taken_blocks : (lines : List Bytes) → list_all is_block (listed (set_of (flat_map taken_of_line lines))) ≡ true
-taken_blocks lines = listed_blocks (flat_map taken_of_line lines) ∙ line_blocks lines
 
 -- ---- one line
 

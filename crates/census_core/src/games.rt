@@ -1,82 +1,117 @@
-//! The ledgers of a set of blocks, one for each game.
+//! The games of a set of operations.
 
-ghost use Rattle.std.specs.Prelude.{◌≡◌, ◌∷◌, [], true, Some, OnOk, OnErr, IfOk, IfSome};
-ghost use Rattle.std.specs.List.{list_all};
+ghost use Rattle.std.specs.Prelude.{◌≡◌, Some, OnOk, IfOk};
 ghost use Rattle.std.specs.BTreeMap as tree;
 ghost use Rattle.oct_code.specs.Code as octal;
 ghost use Rattle.oct_ops.specs.Operations.{listed};
 ghost use Rattle.oct_ops.specs.Sets as sets;
-ghost use Rattle.oct_pages.specs.Parts.{AreParts, is_block};
-ghost use Rattle.census_core.specs.Filed.{after, filed, HasOwnCode};
+ghost use Rattle.oct_pages.specs.Parts.{AreGamesOf};
+ghost use Rattle.census_core.specs.Filed.{after, filed, or_new, with_block, with_claim, HasOwnCode};
 
 use oct_code::Code;
-use oct_ops::{Block, Body, Dot};
+use oct_ops::{Block, Body, Dot, Op, Period};
+use oct_period::Game;
 use oct_store::Store;
-use oct_verify::Ledger;
 use std::alloc::{AllocError, Allocator};
 use std::collections::BTreeMap;
 
-/// The ledger of each game that has a block in the store, whose operations are all blocks.
+/// Each game that has a block or a claim in the store, with its blocks and claims.
 pub(crate) fn games_of<A: Allocator + Copy>(
     alloc: A,
     store: &Store<A>,
-) -> Result<BTreeMap<Code, Ledger<A>, A>, AllocError>
-    requires { list_all is_block (listed store.now) ≡ true }
-    ensures { IfOk result (AreParts (listed store.now)) }
+) -> Result<BTreeMap<Code, Game<A>, A>, AllocError>
+    ensures { IfOk result (AreGamesOf (listed store.now)) }
 {
     let mut games = BTreeMap::new(alloc);
     for op in store.iter() {
-        if let Body::Block(block) = op.body() {
-            file(&mut games, alloc, op.dot(), block.copy(alloc)?)?;
-        }
+        file(&mut games, alloc, op)?;
     }
     prove!(games.len() <= usize::MAX);
     Ok(games)
 }
 
-// Files the block in the ledger of its game, which is made where there is none.
+// Files a block or a claim in its game, and another operation nowhere.
 fn file<A: Allocator + Copy>(
-    games: &mut BTreeMap<Code, Ledger<A>, A>,
+    games: &mut BTreeMap<Code, Game<A>, A>,
+    alloc: A,
+    op: &Op<A>,
+) -> Result<(), AllocError>
+    requires { HasOwnCode (tree.get octal.code_cmp games.old) }
+    ensures { OnOk result ((q : octal.Code) → tree.get octal.code_cmp games.new q ≡ filed (tree.get octal.code_cmp games.old) op.now q) }
+{
+    match op.body() {
+        Body::Block(block) => file_block(games, alloc, op.dot(), block.copy(alloc)?),
+        Body::Period(period) => file_claim(games, alloc, op.dot(), *period),
+        _ => Ok(()),
+    }
+}
+
+// Files the block in its game, which is made where there is none.
+fn file_block<A: Allocator + Copy>(
+    games: &mut BTreeMap<Code, Game<A>, A>,
     alloc: A,
     dot: Dot,
     block: Block<A>,
 ) -> Result<(), AllocError>
     requires { HasOwnCode (tree.get octal.code_cmp games.old) }
-    ensures { OnOk result ((q : octal.Code) → tree.get octal.code_cmp games.new q ≡ after (tree.get octal.code_cmp games.old) block.code (Some (filed (tree.get octal.code_cmp games.old block.code) dot block)) q) }
+    ensures { OnOk result ((q : octal.Code) → tree.get octal.code_cmp games.new q ≡ after (tree.get octal.code_cmp games.old) block.code (Some (with_block (or_new block.code (tree.get octal.code_cmp games.old block.code)) dot block)) q) }
 {
     let code = block.code();
-    if let Some(ledger) = games.get_mut(&code) {
-        return file_in(ledger, dot, block);
+    if let Some(game) = games.get_mut(&code) {
+        return add_block(game, dot, block);
     }
-    let ledger = first_ledger(alloc, dot, block)?;
-    games.insert(code, ledger)?;
+    let mut game = Game::new(alloc, code);
+    add_block(&mut game, dot, block)?;
+    games.insert(code, game)?;
     Ok(())
 }
 
-// Files the block in this ledger.
-fn file_in<A: Allocator + Copy>(
-    ledger: &mut Ledger<A>,
+// Files the claim in its game, which is made where there is none.
+fn file_claim<A: Allocator + Copy>(
+    games: &mut BTreeMap<Code, Game<A>, A>,
+    alloc: A,
+    dot: Dot,
+    period: Period,
+) -> Result<(), AllocError>
+    requires { HasOwnCode (tree.get octal.code_cmp games.old) }
+    ensures { OnOk result ((q : octal.Code) → tree.get octal.code_cmp games.new q ≡ after (tree.get octal.code_cmp games.old) period.code (Some (with_claim (or_new period.code (tree.get octal.code_cmp games.old period.code)) dot period)) q) }
+{
+    let code = period.code();
+    if let Some(game) = games.get_mut(&code) {
+        return add_claim(game, dot, period);
+    }
+    let mut game = Game::new(alloc, code);
+    add_claim(&mut game, dot, period)?;
+    games.insert(code, game)?;
+    Ok(())
+}
+
+// Adds a block to its game.
+fn add_block<A: Allocator + Copy>(
+    game: &mut Game<A>,
     dot: Dot,
     block: Block<A>,
 ) -> Result<(), AllocError>
-    requires { block.code ≡ ledger.old.code }
-    ensures { OnOk result (ledger.new ≡ record { code = ledger.old.code; blocks = sets.insert ledger.old.blocks (dot, block) }) }
+    requires { block.code ≡ game.old.code }
+    ensures { OnOk result (game.new ≡ with_block game.old dot block) }
 {
-    match ledger.add(dot, block) {
+    match game.add_block(dot, block) {
         Ok(()) => Ok(()),
         Err((refused, _)) => Err(refused),
     }
 }
 
-// A ledger with this block alone.
-fn first_ledger<A: Allocator + Copy>(
-    alloc: A,
+// Adds a claim to its game.
+fn add_claim<A: Allocator + Copy>(
+    game: &mut Game<A>,
     dot: Dot,
-    block: Block<A>,
-) -> Result<Ledger<A>, AllocError>
-    ensures { IfOk result (λ ledger. ledger ≡ record { code = block.code; blocks = sets.insert sets.empty (dot, block) }) }
+    period: Period,
+) -> Result<(), AllocError>
+    requires { period.code ≡ game.old.code }
+    ensures { OnOk result (game.new ≡ with_claim game.old dot period) }
 {
-    let mut ledger = Ledger::new(alloc, block.code());
-    file_in(&mut ledger, dot, block)?;
-    Ok(ledger)
+    match game.add_period(dot, period) {
+        Ok(()) => Ok(()),
+        Err((refused, _)) => Err(refused),
+    }
 }

@@ -6,6 +6,7 @@ mod fold;
 mod games;
 mod input;
 mod lines;
+mod notes;
 mod output;
 mod taken;
 

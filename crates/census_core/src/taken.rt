@@ -1,15 +1,13 @@
 //! What is taken of the lines of an input.
 
 ghost use Rattle.std.specs.Prelude.{◌≡◌, ◌+◌, ◌<◌, ◌^◌, cond, is_none, unwrap_or, [], IfOk, OnOk, IfErr};
-ghost use Rattle.std.specs.List.{list_all};
 ghost use Rattle.oct_ops.specs.Operations.{set_of, union};
-ghost use Rattle.oct_pages.specs.Parts.{is_block};
 ghost use Rattle.census_core.specs.Folded.{is_refused, operations_of_line, refused, taken, taken_of_line};
 
 use crate::fault::Fault;
 use crate::lines::split_line;
 use oct_delta::{DeltaError, decode};
-use oct_ops::{Body, Op, OpList};
+use oct_ops::OpList;
 use oct_store::Store;
 use std::alloc::{AllocError, Allocator};
 
@@ -43,7 +41,7 @@ pub(crate) fn take_lines<A: Allocator + Copy>(alloc: A, input: &[u8]) -> Result<
     Ok(lines)
 }
 
-// Takes the line, or counts it where it may not be taken.
+// Takes the operations of the line, or counts it where it spells none.
 fn take_line<A: Allocator + Copy>(alloc: A, lines: &mut Lines<A>, line: &[u8]) -> Result<(), Fault>
     requires { lines.old.refused + 1 < 2 ^ 64 }
     ensures taken { OnOk result (lines.new.store ≡ union lines.old.store (set_of (taken_of_line line.now))) }
@@ -69,7 +67,7 @@ fn take_list<A: Allocator + Copy>(store: &mut Store<A>, list: OpList<A>) -> Resu
     Ok(())
 }
 
-// The operations that the line spells, where it may be taken.
+// The operations that the line spells, where it is the text of a delta.
 fn operations_of_line<A: Allocator + Copy>(
     alloc: A,
     line: &[u8],
@@ -82,31 +80,9 @@ fn operations_of_line<A: Allocator + Copy>(
         Err(hex::FromHexError::OutOfMemory) => return Err(Fault::OutOfMemory),
         Err(_) => return Ok(None),
     };
-    let list = match decode(alloc, &bytes) {
-        Ok(list) => list,
-        Err(DeltaError::OutOfMemory) => return Err(Fault::OutOfMemory),
-        Err(_) => return Ok(None),
-    };
-    if are_blocks(list.as_slice()) {
-        Ok(Some(list))
-    } else {
-        Ok(None)
-    }
-}
-
-// Whether the operations are blocks.
-fn are_blocks<A: Allocator>(ops: &[Op<A>]) -> bool
-    ensures { result ≡ list_all is_block ops.now }
-{
-    ops.iter().all(|op| is_block(op))
-}
-
-// Whether the operation is a block.
-fn is_block<A: Allocator>(op: &Op<A>) -> bool
-    ensures { result ≡ is_block op.now }
-{
-    match op.body() {
-        Body::Block(_) => true,
-        _ => false,
+    match decode(alloc, &bytes) {
+        Ok(list) => Ok(Some(list)),
+        Err(DeltaError::OutOfMemory) => Err(Fault::OutOfMemory),
+        Err(_) => Ok(None),
     }
 }

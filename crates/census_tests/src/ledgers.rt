@@ -32,11 +32,7 @@ fn add<A: Allocator + Copy>(
 
 // Adds the block that settles two parked ones, with so many requests granted. Says whether that was enough; a refusal
 // changes nothing, and the block that came back can be added.
-fn settles_with(
-    rt: &impl Abort,
-    heap: &Metered<Global>,
-    grants: u64,
-) -> Result<bool, Fail> {
+fn settles_with(rt: &impl Abort, heap: &Metered<Global>, grants: u64) -> Result<bool, Fail> {
     heap.arm(u64::MAX);
     let mut ledger = Ledger::new(heap, Code::parse(b"0.77")?);
     add(&mut ledger, heap, 3, 3, &[3, 1, 4, 3, 2])?;

@@ -1,22 +1,19 @@
 -- The blocks of each game, as operations are grouped one after another.
-use Rattle.std.proofs.Common.{◌≡◌, ◌<◌, ◌+◌, ℕ, suc, length, drop, get_or, add-one, Bool, true, false, ◌&&◌, List, [], ◌∷◌, ◌++◌, map, cond, Option, Some, None, refl, sym, ap, ◌∙◌, subst, append_assoc}
+use Rattle.std.proofs.Common.{◌≡◌, Bool, true, false, List, [], ◌∷◌, ◌++◌, map, cond, Option, Some, None, refl, sym, ap, ◌∙◌, append_assoc}
 use Rattle.std.specs.Borrow.{Bor}
-use Rattle.std.specs.Prelude.{Vec, is_some, filter}
+use Rattle.std.specs.Prelude.{Vec, filter, unwrap_or}
 use Rattle.std.specs.List.{cons_option}
 use Rattle.std.specs.Ordering.{eq_by_cmp}
 use Rattle.std.specs.Cmp.{Equal-is}
 use Rattle.std.proofs.lemmas.List.{append-nil}
-use Rattle.std.proofs.Math.Seq.{drop-cons}
 use Rattle.oct_code.specs.Code.{Code, code_cmp, code_eq}
 use Rattle.oct_code.specs.CodeOrder.{code_cmp_exact}
 use Rattle.oct_ops.specs.Body.{Body, Operation}
 use Rattle.oct_ops.specs.Body as kind
-use Rattle.oct_ops.specs.Operation.{Dot, Block}
-use Rattle.oct_ops.specs.Views.{content}
-use Rattle.oct_ops.specs.declared.op.Body.{Body as HeldBody}
-use Rattle.oct_ops.specs.declared.op.Body.TheVariants as variant
-use Rattle.oct_pages.specs.Catalogue.{Text, block_in, block_of_game, blocks_of, if_some, under}
-use Rattle.oct_pages.specs.Groups.{Groups, after, blocks_among, found, group_of, grown, if_any, lent, or_none}
+use Rattle.oct_ops.specs.Operation.{Dot, Period}
+use Rattle.oct_store.specs.Summary.{is_of_game, of_code}
+use Rattle.oct_pages.specs.Catalogue.{Text, block_in, block_of_game, blocks_of, claim_in, claim_of_game, claims_of, game_of_body, if_some, under}
+use Rattle.oct_pages.specs.Groups.{Groups, after, among, found, group_of, grown, if_any, lent, or_none}
 
 -- the groups are those of some first operations, and the rest is still to be grouped
 pub record Grouping (ops rest : List Operation) (groups : Groups) : Type 0 where
@@ -42,75 +39,102 @@ any-end : (ops : List Operation) (o : Operation) → if_any (ops ++ o ∷ []) �
 any-end [] o = refl
 any-end (p ∷ ops) o = refl
 
-tested : (o : Operation) (b : Block) (t : Bool) → is_some (under o.dot (if_some t b)) ≡ t
-tested o b true = refl
-tested o b false = refl
+of_game : (q : Code) (o : Operation) (code : Code) → Some code ≡ game_of_body o.body → of_code q o ≡ code_eq code q
+of_game q o code is = of_body q o.body code is
+  where
+    of_body : (q : Code) (body : Body) (code : Code) → Some code ≡ game_of_body body → is_of_game q body ≡ code_eq code q
+    of_body q (kind.Block b) code is = ap (λ m. code_eq (unwrap_or m code) q) (sym is)
+    of_body q (kind.Period p) code is = ap (λ m. code_eq (unwrap_or m code) q) (sym is)
+    of_body q (kind.Note n) code is = cc
+    of_body q (kind.Removal r) code is = cc
 
-is_block_of : (q : Code) (o : Operation) (b : Block) → o.body ≡ kind.Block b → is_some (block_in q o) ≡ code_eq b.code q
-is_block_of q o b is_block = ap (λ body. is_some (under o.dot (block_of_game q body))) is_block ∙ tested o b (code_eq b.code q)
+of_none : (q : Code) (o : Operation) → None ≡ game_of_body o.body → of_code q o ≡ false
+of_none q o none = of_body q o.body none
+  where
+    of_body : (q : Code) (body : Body) → None ≡ game_of_body body → is_of_game q body ≡ false
+    of_body q (kind.Block b) none = cc
+    of_body q (kind.Period p) none = cc
+    of_body q (kind.Note n) none = refl
+    of_body q (kind.Removal r) none = refl
 
 -- what is found after the block was added, by whether it is one of the game
 found_next : (done : List Operation) (q : Code) (o : Operation) (code : Code) (t : Bool) → code_eq code q ≡ t
-    → if_any (blocks_among q done ++ cond t (o ∷ []) []) ≡ cond t (grown (group_of done code) o) (group_of done q)
+    → if_any (among q done ++ cond t (o ∷ []) []) ≡ cond t (grown (group_of done code) o) (group_of done q)
 found_next done q o code true same =
     let is : code ≡ q = code_cmp_exact code q ((Equal-is (code_cmp code q)).0 same) in
-    any-end (blocks_among q done) o
-    ∙ sym (grown-any (blocks_among q done) o)
+    any-end (among q done) o
+    ∙ sym (grown-any (among q done) o)
     ∙ ap (λ c. grown (group_of done c) o) (sym is)
-found_next done q o code false apart = ap if_any (append-nil (blocks_among q done))
+found_next done q o code false apart = ap if_any (append-nil (among q done))
 
-pub grouped_next : (ops rest : List Operation) (groups new : Groups) (o : Operation) (b : Block) → o.body ≡ kind.Block b → Grouping ops (o ∷ rest) groups
-    → ((q : Code) → new q ≡ after groups b.code (grown (groups b.code) o) q) → Grouping ops rest new
-grouped_next ops rest groups new o b is_block grouping changed = record {
+pub grouped_next : (ops rest : List Operation) (groups new : Groups) (o : Operation) (code : Code) → Some code ≡ game_of_body o.body → Grouping ops (o ∷ rest) groups
+    → ((q : Code) → new q ≡ after groups code (grown (groups code) o) q) → Grouping ops rest new
+grouped_next ops rest groups new o code is_of grouping changed = record {
   done = grouping.done ++ o ∷ [];
   is = append_assoc grouping.done (o ∷ []) rest ∙ grouping.is;
   holds = λ q.
       changed q
-      ∙ (λ i. cond (code_eq b.code q) (grown (grouping.holds b.code i) o) (grouping.holds q i))
-      ∙ sym (found_next grouping.done q o b.code (code_eq b.code q) refl)
-      ∙ sym (ap if_any (filter-append (λ o. is_some (block_in q o)) grouping.done (o ∷ [])
-      ∙ ap (λ t. blocks_among q grouping.done ++ cond t (o ∷ []) []) (is_block_of q o b is_block)));
+      ∙ (λ i. cond (code_eq code q) (grown (grouping.holds code i) o) (grouping.holds q i))
+      ∙ sym (found_next grouping.done q o code (code_eq code q) refl)
+      ∙ sym (ap if_any (filter-append (of_code q) grouping.done (o ∷ [])
+      ∙ ap (λ t. among q grouping.done ++ cond t (o ∷ []) []) (of_game q o code is_of)));
 }
 
--- an operation that is no block is in no group
-pub passed_over : (ops rest : List Operation) (groups : Groups) (o : Operation) → ((q : Code) → block_in q o ≡ None) → Grouping ops (o ∷ rest) groups → Grouping ops rest groups
+-- an operation of no game is in no group
+pub passed_over : (ops rest : List Operation) (groups : Groups) (o : Operation) → None ≡ game_of_body o.body → Grouping ops (o ∷ rest) groups → Grouping ops rest groups
 passed_over ops rest groups o none grouping = record {
   done = grouping.done ++ o ∷ [];
   is = append_assoc grouping.done (o ∷ []) rest ∙ grouping.is;
   holds = λ q.
       grouping.holds q
-      ∙ sym (ap if_any (filter-append (λ o. is_some (block_in q o)) grouping.done (o ∷ [])
-      ∙ ap (λ m. blocks_among q grouping.done ++ cond (is_some m) (o ∷ []) []) (none q) ∙ append-nil (blocks_among q grouping.done)));
+      ∙ sym (ap if_any (filter-append (of_code q) grouping.done (o ∷ [])
+      ∙ ap (λ t. among q grouping.done ++ cond t (o ∷ []) []) (of_none q o none) ∙ append-nil (among q grouping.done)));
 }
-
-pub other_body : {A : Type 0} (body : HeldBody A) → ((b : Block) → body ≡ variant.Block b → ⊥) → (q : Code) → block_of_game q (content body) ≡ None
-other_body (variant.Block b) not q = absurd (not b refl)
-other_body (variant.Period p) not q = refl
-other_body (variant.Note n) not q = refl
-other_body (variant.Removal r) not q = refl
 
 pub all_grouped : (ops rest : List Operation) (groups : Groups) → rest ≡ [] → Grouping ops rest groups → (q : Code) → groups q ≡ group_of ops q
 all_grouped ops rest groups none grouping q =
     grouping.holds q ∙ ap (λ done. group_of done q) (sym (append-nil grouping.done) ∙ ap (λ r. grouping.done ++ r) (sym none) ∙ grouping.is)
 
--- ---- the blocks of a group are those of the game
+-- ---- the blocks and claims of a group are those of the game
 
-among_next : (c : Code) (o : Operation) (among ops : List Operation) (m : Option (Dot × Block)) → block_in c o ≡ m → blocks_of c among ≡ blocks_of c ops
-    → blocks_of c (cond (is_some m) (o ∷ among) among) ≡ cons_option m (blocks_of c ops)
-among_next c o among ops None is rest = rest
-among_next c o among ops (Some b) is rest = λ i. cons_option (is i) (rest i)
+blocks_next : (c : Code) (o : Operation) (group ops : List Operation) (t : Bool) → of_code c o ≡ t → blocks_of c group ≡ blocks_of c ops → blocks_of c (cond t (o ∷ group) group) ≡ cons_option (block_in c o) (blocks_of c ops)
+blocks_next c o group ops true is rest = ap (cons_option (block_in c o)) rest
+blocks_next c o group ops false is rest = rest ∙ ap (λ m. cons_option m (blocks_of c ops)) (sym (no_block c o.dot o.body is))
+  where
+    no_block : (c : Code) (d : Dot) (body : Body) → is_of_game c body ≡ false → under d (block_of_game c body) ≡ None
+    no_block c d (kind.Block b) is = ap (λ t. under d (if_some t b)) is
+    no_block c d (kind.Period p) is = refl
+    no_block c d (kind.Note n) is = refl
+    no_block c d (kind.Removal r) is = refl
 
-pub blocks_of-among : (c : Code) (ops : List Operation) → blocks_of c (blocks_among c ops) ≡ blocks_of c ops
+pub blocks_of-among : (c : Code) (ops : List Operation) → blocks_of c (among c ops) ≡ blocks_of c ops
 blocks_of-among c [] = refl
-blocks_of-among c (o ∷ ops) = among_next c o (blocks_among c ops) ops (block_in c o) refl (blocks_of-among c ops)
+blocks_of-among c (o ∷ ops) = blocks_next c o (among c ops) ops (of_code c o) refl (blocks_of-among c ops)
+
+claims_next : (c : Code) (o : Operation) (group ops : List Operation) (t : Bool) → of_code c o ≡ t → claims_of c group ≡ claims_of c ops → claims_of c (cond t (o ∷ group) group) ≡ cons_option (claim_in c o) (claims_of c ops)
+claims_next c o group ops true is rest = ap (cons_option (claim_in c o)) rest
+claims_next c o group ops false is rest = rest ∙ ap (λ m. cons_option m (claims_of c ops)) (sym (no_claim c o.dot o.body is))
+  where
+    no_claim : (c : Code) (d : Dot) (body : Body) → is_of_game c body ≡ false → under d (claim_of_game c body) ≡ None
+    no_claim c d (kind.Block b) is = refl
+    no_claim c d (kind.Period p) is = ap (λ t. under d (if_some t p)) is
+    no_claim c d (kind.Note n) is = refl
+    no_claim c d (kind.Removal r) is = refl
+
+pub claims_of-among : (c : Code) (ops : List Operation) → claims_of c (among c ops) ≡ claims_of c ops
+claims_of-among c [] = refl
+claims_of-among c (o ∷ ops) = claims_next c o (among c ops) ops (of_code c o) refl (claims_of-among c ops)
 
 any-or_none : (ops : List Operation) → or_none (if_any ops) ≡ ops
 any-or_none [] = refl
 any-or_none (o ∷ ops) = refl
 
 -- what is in a game's group is the game's
-pub in_group : (c : Code) (ops group : List Operation) → group ≡ or_none (group_of ops c) → blocks_of c group ≡ blocks_of c ops
-in_group c ops group is = ap (blocks_of c) (is ∙ any-or_none (blocks_among c ops)) ∙ blocks_of-among c ops
+pub blocks_in_group : (c : Code) (ops group : List Operation) → group ≡ or_none (group_of ops c) → blocks_of c group ≡ blocks_of c ops
+blocks_in_group c ops group is = ap (blocks_of c) (is ∙ any-or_none (among c ops)) ∙ blocks_of-among c ops
+
+pub claims_in_group : (c : Code) (ops group : List Operation) → group ≡ or_none (group_of ops c) → claims_of c group ≡ claims_of c ops
+claims_in_group c ops group is = ap (claims_of c) (is ∙ any-or_none (among c ops)) ∙ claims_of-among c ops
 
 -- ---- references in groups
 
@@ -138,14 +162,22 @@ added_first old code q new o none pushed =
     ∙ ap (λ m. cond (eq_by_cmp code_cmp code q) m (lent (old q)))
     (ap (λ xs. Some (map (λ o. o.now) xs)) pushed ∙ ap (λ m. grown (lent m) o.now) none)
 
--- the first of those that are left
-pub lent_next : (ops : List (Bor Operation)) (i : ℕ) (o : Bor Operation) → i < length ops → o ≡ get_or ops i o → drop i ops ≡ o ∷ drop (i + 1) ops
-lent_next ops i o within is = rw add-one (drop-cons ops i o within ∙ ap (λ p. p ∷ drop (suc i) ops) (sym is))
+-- the operations that the references lead to
+abbrev pub lent_ops : List (Bor Operation) → List Operation
+lent_ops = map (λ o. o.now)
 
--- what a game's lines are of the first operation, and of the rest
-lines_next : (f : Dot × Block → Text) (m : Option (Dot × Block)) (rest : List (Dot × Block)) → map f (cons_option m rest) ≡ map f (cons_option m []) ++ map f rest
+-- what lines are of the first operation, and of the rest
+pub lines_next : {X : Type 0} (f : X → Text) (m : Option X) (rest : List X) → map f (cons_option m rest) ≡ map f (cons_option m []) ++ map f rest
 lines_next f None rest = refl
 lines_next f (Some b) rest = refl
 
-pub blocks_of-next : (f : Dot × Block → Text) (c : Code) (o : Operation) (rest : List Operation) → map f (blocks_of c (o ∷ rest)) ≡ map f (blocks_of c (o ∷ [])) ++ map f (blocks_of c rest)
-blocks_of-next f c o rest = lines_next f (block_in c o) (blocks_of c rest)
+-- a claim of the game has its code
+pub claim_code : (c : Code) (body : Body) (p : Period) → Some p ≡ claim_of_game c body → p.code ≡ c
+claim_code c (kind.Block b) p is = cc
+claim_code c (kind.Period q) p is = tested q (code_eq q.code c) refl is
+  where
+    tested : (q : Period) (t : Bool) → code_eq q.code c ≡ t → Some p ≡ if_some t q → p.code ≡ c
+    tested q true same is = ap (λ m. let r = unwrap_or m p in r.code) is ∙ code_cmp_exact q.code c ((Equal-is (code_cmp q.code c)).0 same)
+    tested q false same is = cc
+claim_code c (kind.Note n) p is = cc
+claim_code c (kind.Removal r) p is = cc

@@ -3,8 +3,7 @@ mod Growing
 mod Ranges
 mod Held
 mod Lines
-mod GameBlocks
+mod GameParts
 pub mod Members
 mod GroupLaws
 mod Windows
-mod Wholes

@@ -33,7 +33,7 @@ abbrev removal : ℕ → ℕ → List Dot → Operation
 removal author number dots = record { dot = dot_of author number; body = kind.Removal (removing dots) }
 
 kayles_five : catalogue (block 1 1 kayles 0 (0 ∷ 1 ∷ 2 ∷ 3 ∷ 1 ∷ []) ∷ []) ≡
-    codes "census 1\n"
+    codes "census 2\n"
     ++ codes "game 0.77 known 5\n"
     ++ codes "values 0 0 1 2 3 1\n"
     ++ codes "block 1.1 at 0 count 5 proved\n"
@@ -43,12 +43,12 @@ unfolding digits nim_value
 kayles_five = refl
 
 nothing : catalogue [] ≡
-    codes "census 1\n"
+    codes "census 2\n"
     ++ codes "end\n"
 nothing = refl
 
 two_blocks_meet : catalogue (block 1 1 kayles 0 (0 ∷ 1 ∷ 2 ∷ 3 ∷ 1 ∷ []) ∷ block 2 1 kayles 5 (4 ∷ 3 ∷ 2 ∷ []) ∷ []) ≡
-    codes "census 1\n"
+    codes "census 2\n"
     ++ codes "game 0.77 known 8\n"
     ++ codes "values 0 0 1 2 3 1 4 3 2\n"
     ++ codes "block 1.1 at 0 count 5 proved\n"
@@ -60,7 +60,7 @@ unfolding digits nim_value
 two_blocks_meet = refl
 
 the_second_waits : catalogue (block 2 1 kayles 5 (4 ∷ 3 ∷ 2 ∷ []) ∷ []) ≡
-    codes "census 1\n"
+    codes "census 2\n"
     ++ codes "game 0.77 known 1\n"
     ++ codes "values 0 0\n"
     ++ codes "block 2.1 at 5 count 3 pending\n"
@@ -70,7 +70,7 @@ unfolding digits nim_value
 the_second_waits = refl
 
 from_the_first_heap : catalogue (block 1 1 kayles 1 (1 ∷ 2 ∷ 3 ∷ 1 ∷ []) ∷ []) ≡
-    codes "census 1\n"
+    codes "census 2\n"
     ++ codes "game 0.77 known 5\n"
     ++ codes "values 0 0 1 2 3 1\n"
     ++ codes "block 1.1 at 1 count 4 proved\n"
@@ -80,7 +80,7 @@ unfolding digits nim_value
 from_the_first_heap = refl
 
 blocks_overlap : catalogue (block 1 1 kayles 0 (0 ∷ 1 ∷ 2 ∷ 3 ∷ 1 ∷ []) ∷ block 1 2 kayles 2 (2 ∷ 3 ∷ []) ∷ block 1 3 kayles 3 (3 ∷ 1 ∷ 4 ∷ 3 ∷ 2 ∷ []) ∷ []) ≡
-    codes "census 1\n"
+    codes "census 2\n"
     ++ codes "game 0.77 known 8\n"
     ++ codes "values 0 0 1 2 3 1 4 3 2\n"
     ++ codes "block 1.1 at 0 count 5 proved\n"
@@ -92,7 +92,7 @@ unfolding digits nim_value
 blocks_overlap = refl
 
 a_wrong_place : catalogue (block 1 1 kayles 1 (1 ∷ 2 ∷ 3 ∷ 1 ∷ 5 ∷ 0 ∷ []) ∷ []) ≡
-    codes "census 1\n"
+    codes "census 2\n"
     ++ codes "game 0.77 known 1\n"
     ++ codes "values 0 0\n"
     ++ codes "block 1.1 at 1 count 6 refuted at 5 claimed 5 true 4\n"
@@ -102,7 +102,7 @@ unfolding digits nim_value
 a_wrong_place = refl
 
 a_proved_period : catalogue (block 1 1 by_turns 0 (0 ∷ 1 ∷ 0 ∷ 1 ∷ 0 ∷ 1 ∷ 0 ∷ []) ∷ claim 1 2 by_turns 1 2 ∷ []) ≡
-    codes "census 1\n"
+    codes "census 2\n"
     ++ codes "game 0.3 known 7\n"
     ++ codes "values 0 0 1 0 1 0 1 0\n"
     ++ codes "block 1.1 at 0 count 7 proved\n"
@@ -113,7 +113,7 @@ unfolding digits nim_value
 a_proved_period = refl
 
 one_value_too_few : catalogue (block 1 1 by_turns 0 (0 ∷ 1 ∷ 0 ∷ 1 ∷ 0 ∷ 1 ∷ []) ∷ claim 1 2 by_turns 1 2 ∷ []) ≡
-    codes "census 1\n"
+    codes "census 2\n"
     ++ codes "game 0.3 known 6\n"
     ++ codes "values 0 0 1 0 1 0 1\n"
     ++ codes "block 1.1 at 0 count 6 proved\n"
@@ -124,7 +124,7 @@ unfolding digits nim_value
 one_value_too_few = refl
 
 splitting_alone : catalogue (block 1 1 splitting 0 (0 ∷ 0 ∷ 1 ∷ 0 ∷ 1 ∷ 0 ∷ 1 ∷ []) ∷ claim 1 2 splitting 1 2 ∷ []) ≡
-    codes "census 1\n"
+    codes "census 2\n"
     ++ codes "game 4.0 known 7\n"
     ++ codes "values 0 0 0 1 0 1 0 1\n"
     ++ codes "block 1.1 at 0 count 7 proved\n"
@@ -135,7 +135,7 @@ unfolding digits nim_value
 splitting_alone = refl
 
 far_away : catalogue (block 1 1 kayles 4095 (0 ∷ []) ∷ []) ≡
-    codes "census 1\n"
+    codes "census 2\n"
     ++ codes "game 0.77 known 1\n"
     ++ codes "values 0 0\n"
     ++ codes "block 1.1 at 4095 count 1 pending\n"
@@ -145,7 +145,7 @@ unfolding digits nim_value
 far_away = refl
 
 two_contents : catalogue (block 1 1 kayles 0 (0 ∷ 1 ∷ 2 ∷ 3 ∷ 1 ∷ []) ∷ block 1 1 kayles 1 (1 ∷ 2 ∷ 3 ∷ 1 ∷ []) ∷ []) ≡
-    codes "census 1\n"
+    codes "census 2\n"
     ++ codes "game 0.77 known 5\n"
     ++ codes "values 0 0 1 2 3 1\n"
     ++ codes "block 1.1 at 0 count 5 proved\n"
@@ -157,7 +157,7 @@ unfolding digits nim_value
 two_contents = refl
 
 a_removed_note : catalogue (note 1 1 (codes "kayles") (codes "early") ∷ note 1 2 (codes "kayles") (codes "later") ∷ removal 2 1 (dot_of 1 1 ∷ []) ∷ []) ≡
-    codes "census 1\n"
+    codes "census 2\n"
     ++ codes "note kayles 1.2 later\n"
     ++ codes "author 1 through 2 last 2\n"
     ++ codes "author 2 through 1 last 1\n"
@@ -166,7 +166,7 @@ unfolding digits nim_value
 a_removed_note = refl
 
 notes_without_text : catalogue (note 5 1 (codes "a") [] ∷ note 5 3 (codes "a") [] ∷ []) ≡
-    codes "census 1\n"
+    codes "census 2\n"
     ++ codes "note a 5.1 \n"
     ++ codes "note a 5.3 \n"
     ++ codes "author 5 through 1 last 3\n"

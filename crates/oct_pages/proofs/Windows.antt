@@ -1,11 +1,11 @@
 -- What is shown of lines, one after another.
-use Rattle.std.proofs.Common.{arith, ◌≡◌, ◌≤◌, ℕ, zero, suc, ◌+◌, ◌-◌, Bool, true, false, List, [], ◌∷◌, ◌++◌, map, length, take, drop, refl, sym, ap, ◌∙◌, append_assoc}
+use Rattle.std.proofs.Common.{arith, ◌≡◌, ◌≤◌, ℕ, zero, suc, ◌-◌, Bool, true, false, List, [], ◌∷◌, ◌++◌, length, take, drop, refl, sym, ap, ◌∙◌, append_assoc}
 use Rattle.std.specs.Prelude.{nat_lt}
 use Rattle.std.specs.List.{concat}
 use Rattle.std.proofs.lemmas.List.{append-nil, drop_all}
 use Rattle.std.proofs.lemmas.Bool.Decides.{nat_tests}
 use Rattle.oct_pages.specs.Catalogue.{Text}
-use Rattle.oct_pages.specs.Window.{shows_at, shows, passed_at, passed, seen_line, seen, after, is_reached, Shown}
+use Rattle.oct_pages.specs.Window.{shows, passed, seen_line, seen, after, is_reached, Shown}
 use Rattle.oct_pages.specs.declared.window.Window.{Window}
 use Rattle.oct_pages.specs.declared.window.Window.TheVariants.{All, Page}
 

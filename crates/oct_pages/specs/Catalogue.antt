@@ -11,12 +11,13 @@ use Rattle.oct_ops.specs.Body as kind
 use Rattle.oct_ops.specs.Body.{Body, Operation}
 use Rattle.oct_store.specs.Summary as summary
 use Rattle.oct_notes.specs.Notes.{live_notes}
-use Rattle.oct_verify.specs.Known.{known, status}
+use Rattle.oct_verify.specs.Known.{known}
 use Rattle.oct_verify.specs.declared.status.Status.{Status}
-use Rattle.oct_verify.specs.declared.status.Status.TheVariants as block_status
+use Rattle.oct_verify.specs.declared.status.Status.TheVariants as of_block
+use Rattle.oct_period.specs.FarBlocks.{block_status}
 use Rattle.oct_period.specs.Periods.{period_status}
 use Rattle.oct_period.specs.declared.status.PeriodStatus.{PeriodStatus}
-use Rattle.oct_period.specs.declared.status.PeriodStatus.TheVariants as claim_status
+use Rattle.oct_period.specs.declared.status.PeriodStatus.TheVariants as of_claim
 
 abbrev pub Text : Type 0
 Text = List ℕ
@@ -31,8 +32,14 @@ dot_text d = decimal d.author ++ codes "." ++ decimal d.number
 -- ---- games
 
 -- the game of a block or a claim
+abbrev pub game_of_body : Body → Option Code
+game_of_body (kind.Block b) = Some b.code
+game_of_body (kind.Period p) = Some p.code
+game_of_body (kind.Note n) = None
+game_of_body (kind.Removal r) = None
+
 abbrev pub game_of : Operation → Option Code
-game_of o = elim o.body [ kind.Block b ↦ Some b.code | kind.Period p ↦ Some p.code | kind.Note n ↦ None | kind.Removal r ↦ None ]
+game_of o = game_of_body o.body
 
 -- the games that have a block or a claim, by head, then by k, then by the digits
 abbrev pub games : List Operation → List Code
@@ -81,9 +88,9 @@ abbrev pub refutation_text : ℕ → ℕ → ℕ → Text
 refutation_text place claimed truth = labelled (codes " refuted at ") place ++ labelled (codes " claimed ") claimed ++ labelled (codes " true ") truth
 
 abbrev pub status_text : Status → Text
-status_text block_status.Proved = codes " proved"
-status_text (block_status.Refuted place claimed truth) = refutation_text place claimed truth
-status_text block_status.Pending = codes " pending"
+status_text of_block.Proved = codes " proved"
+status_text (of_block.Refuted place claimed truth) = refutation_text place claimed truth
+status_text of_block.Pending = codes " pending"
 
 abbrev pub claim_text : Dot → Block → Text
 claim_text d b = codes "block " ++ dot_text d ++ labelled (codes " at ") b.start ++ labelled (codes " count ") (length b.values)
@@ -91,16 +98,19 @@ claim_text d b = codes "block " ++ dot_text d ++ labelled (codes " at ") b.start
 abbrev pub block_text : Dot → Block → Status → Text
 block_text d b s = claim_text d b ++ status_text s ++ codes "\n"
 
-abbrev pub block_line : List Block → Dot × Block → Text
-block_line blocks b = block_text b.0 b.1 (status blocks b.1)
+abbrev pub block_line : List Block → List Period → Dot × Block → Text
+block_line blocks claims b = block_text b.0 b.1 (block_status blocks claims b.1)
 
 abbrev pub period_status_text : PeriodStatus → Text
-period_status_text claim_status.Proved = codes " proved"
-period_status_text (claim_status.Refuted place) = labelled (codes " refuted at ") place
-period_status_text (claim_status.Pending count) = labelled (codes " pending needs ") count
+period_status_text of_claim.Proved = codes " proved"
+period_status_text (of_claim.Refuted place) = labelled (codes " refuted at ") place
+period_status_text (of_claim.Pending count) = labelled (codes " pending needs ") count
+
+abbrev pub repetition_text : Dot → Period → Text
+repetition_text d p = codes "period " ++ dot_text d ++ labelled (codes " from ") p.start ++ labelled (codes " by ") p.period
 
 abbrev pub period_text : Dot → Period → PeriodStatus → Text
-period_text d p s = codes "period " ++ dot_text d ++ labelled (codes " from ") p.start ++ labelled (codes " by ") p.period ++ period_status_text s ++ codes "\n"
+period_text d p s = repetition_text d p ++ period_status_text s ++ codes "\n"
 
 abbrev pub period_line : List Block → Dot × Period → Text
 period_line blocks p = period_text p.0 p.1 (period_status blocks p.1)
@@ -127,8 +137,9 @@ abbrev pub game_lines : List Operation → Code → List Text
 game_lines ops c =
     let pairs = blocks_of c ops in
     let blocks = map (λ (b : Dot × Block). b.1) pairs in
+    let claims = map (λ (p : Dot × Period). p.1) (claims_of c ops) in
     game_text c (known blocks)
-    ∷ values_lines (nim_values c (known blocks)) ++ map (block_line blocks) pairs ++ map (period_line blocks) (claims_of c ops)
+    ∷ values_lines (nim_values c (known blocks)) ++ map (block_line blocks claims) pairs ++ map (period_line blocks) (claims_of c ops)
 
 -- ---- notes, forks, authors
 
@@ -155,7 +166,7 @@ author_line ops a = author_text a (summary.through ops a) (summary.last ops a)
 
 -- the first line, which names the rules of the text
 abbrev pub heading : Text
-heading = codes "census 1\n"
+heading = codes "census 2\n"
 
 abbrev pub ending : Text
 ending = codes "end\n"

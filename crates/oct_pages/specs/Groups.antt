@@ -1,22 +1,24 @@
--- The blocks of each game among operations.
-use Rattle.std.specs.Prelude.{Bool, is_some, List, [], ◌∷◌, ◌++◌, map, filter, cond, Option, Some, None, Vec}
+-- The operations of each game.
+use Rattle.std.specs.Prelude.{List, [], ◌∷◌, ◌++◌, map, filter, cond, Option, Some, None, Vec}
 use Rattle.std.specs.Borrow.{Bor}
 use Rattle.std.specs.Ordering.{eq_by_cmp}
 use Rattle.oct_code.specs.Code.{Code, code_cmp}
 use Rattle.oct_ops.specs.Body.{Operation}
-use Rattle.oct_ops.specs.Operation.{Dot, Block}
 use Rattle.oct_mex.specs.NimValues.{nim_values}
-use Rattle.oct_verify.specs.Filing.{GameBlocks, blocks_in}
+use Rattle.oct_store.specs.Summary.{of_code}
+use Rattle.oct_verify.specs.Filing.{blocks_in}
 use Rattle.oct_verify.specs.Known.{known}
-use Rattle.oct_pages.specs.Catalogue.{Text, block_in, block_line, game_text, values_lines}
+use Rattle.oct_period.specs.Claims.{claims_in}
+use Rattle.oct_period.specs.GameContent.{GameContent}
+use Rattle.oct_pages.specs.Catalogue.{Text, block_line, blocks_of, claims_of, game_text, period_line, values_lines}
 
 -- operations by their games
 abbrev pub Groups : Type 0
 Groups = Code → Option (List Operation)
 
--- the operations that are blocks of the game
-abbrev pub blocks_among : Code → List Operation → List Operation
-blocks_among c ops = filter (λ o. is_some (block_in c o)) ops
+-- the blocks and claims of the game
+abbrev pub among : Code → List Operation → List Operation
+among c ops = filter (of_code c) ops
 
 abbrev pub if_any : List Operation → Option (List Operation)
 if_any [] = None
@@ -24,7 +26,7 @@ if_any (o ∷ ops) = Some (o ∷ ops)
 
 -- the same, where there are any
 abbrev pub group_of : List Operation → Groups
-group_of ops c = if_any (blocks_among c ops)
+group_of ops c = if_any (among c ops)
 
 -- what the references lead to
 abbrev pub lent : {A : Type 0} → Option (Vec (Bor Operation) A) → Option (List Operation)
@@ -48,8 +50,15 @@ abbrev pub or_none : Option (List Operation) → List Operation
 or_none None = []
 or_none (Some ops) = ops
 
--- a game's lines from what its ledger says of these blocks
-abbrev pub lines_by : Code → GameBlocks → List (Dot × Block) → List Text
-lines_by c game blocks =
+-- the lines of the blocks and of the claims among the operations, by what the game says
+abbrev pub block_lines : Code → GameContent → List Operation → List Text
+block_lines c game ops = map (block_line (blocks_in game.blocks) (claims_in game.claims)) (blocks_of c ops)
+
+abbrev pub claim_lines : Code → GameContent → List Operation → List Text
+claim_lines c game ops = map (period_line (blocks_in game.blocks)) (claims_of c ops)
+
+-- a game's lines, by what the game says of these operations
+abbrev pub lines_by : Code → GameContent → List Operation → List Text
+lines_by c game ops =
     let k = known (blocks_in game.blocks) in
-    game_text c k ∷ values_lines (nim_values game.code k) ++ map (block_line (blocks_in game.blocks)) blocks
+    game_text c k ∷ values_lines (nim_values game.code k) ++ block_lines c game ops ++ claim_lines c game ops

@@ -1,28 +1,38 @@
 -- What a catalogue is made from.
-use Rattle.std.specs.Prelude.{◌≡◌, Bool, true, false, List}
-use Rattle.std.specs.List.{AllByRecursion, list_all}
+use Rattle.std.specs.Prelude.{◌≡◌, List}
+use Rattle.std.specs.List.{AllByRecursion}
 use Rattle.std.specs.BTreeMap.{BTreeMap, keys}
 use Rattle.oct_code.specs.Code.{Code}
-use Rattle.oct_ops.specs.Body.{Body, Operation}
-use Rattle.oct_ops.specs.Body as kind
+use Rattle.oct_ops.specs.Body.{Operation}
+use Rattle.oct_ops.specs.Operations.{Operations, listed}
 use Rattle.oct_ops.specs.Sets as sets
-use Rattle.oct_verify.specs.Filing.{Filings, GameBlocks}
-use Rattle.oct_pages.specs.Catalogue.{games, blocks_of}
+use Rattle.oct_notes.specs.Notes.{notes_of}
+use Rattle.oct_verify.specs.Filing.{Filings}
+use Rattle.oct_period.specs.Claims.{Claims}
+use Rattle.oct_period.specs.GameContent.{GameContent}
+use Rattle.oct_pages.specs.Catalogue.{blocks_of, claims_of}
+use Rattle.oct_pages.specs.Catalogue.{games as games_of}
 
 -- the blocks of a game, each under its dot
 abbrev pub filings_of : List Operation → Code → Filings
 filings_of ops c = sets.set_of (blocks_of c ops)
 
--- the ledger has exactly the game's blocks
-pub record IsLedgerOf (ops : List Operation) (c : Code) (ledger : GameBlocks) : Type 0 where
-  pub code : ledger.code ≡ c
-  pub blocks : ledger.blocks ≡ filings_of ops c
+-- the claims of a game, each under its dot
+abbrev pub claims_set : List Operation → Code → Claims
+claims_set ops c = sets.set_of (claims_of c ops)
 
-abbrev pub is_block : Operation → Bool
-is_block o = elim o.body [ kind.Block b ↦ true | kind.Period p ↦ false | kind.Note n ↦ false | kind.Removal r ↦ false ]
+-- the game has exactly its blocks and its claims among the operations
+pub record IsGameOf (ops : List Operation) (c : Code) (game : GameContent) : Type 0 where
+  pub code : game.code ≡ c
+  pub blocks : game.blocks ≡ filings_of ops c
+  pub claims : game.claims ≡ claims_set ops c
 
--- the operations are blocks, and the ledgers are those of their games
-pub record AreParts (ops : List Operation) (ledgers : BTreeMap Code GameBlocks) : Type 0 where
-  pub blocks : list_all is_block ops ≡ true
-  pub codes : keys ledgers ≡ games ops
-  pub each : AllByRecursion (λ e. IsLedgerOf ops e.0 e.1) ledgers.entries
+-- the games are those that have a block or a claim among the operations
+pub record AreGamesOf (ops : List Operation) (all : BTreeMap Code GameContent) : Type 0 where
+  pub codes : keys all ≡ games_of ops
+  pub each : AllByRecursion (λ e. IsGameOf ops e.0 e.1) all.entries
+
+-- games and notes are those of the operations
+pub record AreParts (ops : Operations) (all : BTreeMap Code GameContent) (held : Operations) : Type 0 where
+  pub games : AreGamesOf (listed ops) all
+  pub notes : held ≡ notes_of ops

@@ -9,21 +9,24 @@ ghost use Rattle.oct_pages.specs.Window.{Shown};
 
 use crate::authors::{append_authors, append_forks};
 use crate::games::append_games;
+use crate::notes::append_notes;
 use crate::window::Window;
 use oct_code::Code;
+use oct_notes::Notes;
+use oct_period::Game;
 use oct_store::Store;
-use oct_verify::Ledger;
 use std::alloc::{AllocError, Allocator};
 use std::collections::BTreeMap;
 
-/// What a catalogue is made from: the operations, which are all blocks, and beside them the ledger of each game that
-/// they have a block of.
+/// What a catalogue is made from: the operations, and beside them what is kept of them for each game and of the notes.
 #[derive(Clone, Copy)]
 pub struct Parts<'a, A: Allocator + Copy> {
     /// The operations.
     pub store: &'a Store<A>,
-    /// The ledgers by the code of their game. Each holds exactly the game's blocks in the store, under their dots.
-    pub games: &'a BTreeMap<Code, Ledger<A>, A>,
+    /// Each game that has a block or a claim in the store, by its code, with exactly its blocks and claims.
+    pub games: &'a BTreeMap<Code, Game<A>, A>,
+    /// Exactly the notes and removals of the store.
+    pub notes: &'a Notes<A>,
 }
 
 /// Appends the catalogue of the store's operations to `out`, as `specs/Catalogue` spells it. The one error is that
@@ -33,7 +36,7 @@ pub fn write_catalogue<A: Allocator + Copy>(
     parts: &Parts<'_, A>,
     out: &mut Vec<u8, A>,
 ) -> Result<(), AllocError>
-    requires { AreParts (listed parts.now.store.now) parts.now.games.now }
+    requires { AreParts parts.now.store.now parts.now.games.now parts.now.notes.now }
     ensures ok { OnOk result (out.new.items ≡ out.old.items ++ catalogue (listed parts.now.store.now)) }
     ensures err { OnErr result (out.new.items ≡ out.old.items) }
 {
@@ -48,7 +51,7 @@ pub fn write_page<A: Allocator + Copy>(
     page: u32,
     out: &mut Vec<u8, A>,
 ) -> Result<bool, AllocError>
-    requires { AreParts (listed parts.now.store.now) parts.now.games.now }
+    requires { AreParts parts.now.store.now parts.now.games.now parts.now.notes.now }
     ensures found { IfOk result (λ found. found ≡ has_page (listed parts.now.store.now) page) }
     ensures ok { OnOk result (out.new.items ≡ out.old.items ++ page_text (listed parts.now.store.now) page) }
     ensures none { IfOk result (λ found. found ≡ false → out.new.items ≡ out.old.items) }
@@ -66,12 +69,12 @@ fn append_shown<A: Allocator + Copy>(
     window: &mut Window,
     out: &mut Vec<u8, A>,
 ) -> Result<(), AllocError>
-    requires { AreParts (listed parts.now.store.now) parts.now.games.now }
+    requires { AreParts parts.now.store.now parts.now.games.now parts.now.notes.now }
     ensures ok { OnOk result (Shown window.old window.new out.old.items out.new.items (lines (listed parts.now.store.now))) }
     ensures err { OnErr result (out.new.items ≡ out.old.items) }
 {
     let before = out.len();
-    let written = append_lines(alloc, out, window, parts.store, parts.games);
+    let written = append_lines(alloc, out, window, parts);
     if written.is_err() {
         out.truncate(before);
     }
@@ -83,17 +86,17 @@ fn append_lines<A: Allocator + Copy>(
     alloc: A,
     out: &mut Vec<u8, A>,
     window: &mut Window,
-    store: &Store<A>,
-    games: &BTreeMap<Code, Ledger<A>, A>,
+    parts: &Parts<'_, A>,
 ) -> Result<(), AllocError>
-    requires { AreParts (listed store.now) games.now }
-    ensures ok { OnOk result (Shown window.old window.new out.old.items out.new.items (lines (listed store.now))) }
+    requires { AreParts parts.now.store.now parts.now.games.now parts.now.notes.now }
+    ensures ok { OnOk result (Shown window.old window.new out.old.items out.new.items (lines (listed parts.now.store.now))) }
     ensures grown { Extends out.old.items out.new.items }
 {
-    show_line(out, window, b"census 1\n")?;
-    append_games(alloc, out, window, store, games)?;
-    append_forks(out, window, store)?;
-    append_authors(out, window, store)?;
+    show_line(out, window, b"census 2\n")?;
+    append_games(alloc, out, window, parts.store, parts.games)?;
+    append_notes(out, window, parts.notes)?;
+    append_forks(out, window, parts.store)?;
+    append_authors(out, window, parts.store)?;
     show_line(out, window, b"end\n")
 }
 

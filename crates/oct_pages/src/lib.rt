@@ -3,7 +3,7 @@
 //! The text is read off the set alone, so replicas with the same operations print the same bytes. For the first values
 //! of Kayles, claimed from heap 0 on, it is:
 //!
-//!     census 1
+//!     census 2
 //!     game 0.77 known 5
 //!     values 0 0 1 2 3 1
 //!     block 1.1 at 0 count 5 proved
@@ -13,11 +13,8 @@
 //! Each game comes with its known nim-values, its blocks and its period claims, each with its status. Then come the
 //! live notes by name, the dots that came with several contents, and the authors. A page is 64 lines of it.
 //!
-//! So far the catalogue of a set of blocks alone is written, and whole: claims, notes and removals are defined, but no
-//! function takes them yet.
-//!
 //! - `write_catalogue` appends the text, `write_page` one page of it.
-//! - `Parts` is what they read: the operations, and the ledger of each of their games.
+//! - `Parts` is what they read: the operations, and beside them each game and the notes.
 //!
 //! `specs/Catalogue` is this text, line by line.
 #![tactic(auto)]
@@ -25,8 +22,10 @@
 mod authors;
 mod blocks;
 mod catalogue;
+mod claims;
 mod games;
 mod groups;
+mod notes;
 mod values;
 mod window;
 mod words;

@@ -20,12 +20,11 @@ use Rattle.oct_ops.specs.Body as kind
 use Rattle.oct_store.specs.Summary as summary
 use Rattle.oct_notes.specs.Notes.{live_notes}
 use Rattle.oct_verify.specs.Known.{known}
-use Rattle.oct_verify.proofs.KnownLaws.{settled_stays}
 use Rattle.oct_period.proofs.Statuses.{settled_claims_stay}
 use Rattle.oct_pages.specs.Catalogue.{Text, game_of, games, if_some, under, block_in, claim_in, blocks_of, claims_of, block_line, period_line, block_text, period_text, values_lines, game_text, heading, ending, game_lines, note_line, fork_line, author_line, lines}
-use Rattle.oct_replica.specs.Settled.{blocks_in, BlockLinesStay, ClaimLinesStay}
+use Rattle.oct_replica.specs.Settled.{blocks_in, claims_in, BlockLinesStay, ClaimLinesStay}
 use Rattle.oct_replica.proofs.Members.{In, In-among, among-In, In-map, In-listed, Has-listed, any_source, any-In, equal}
-use Rattle.oct_replica.proofs.Settled.{In-filter_map, In-filter_map_source, blocks_grow, start_some}
+use Rattle.oct_replica.proofs.Settled.{In-filter_map, In-filter_map_source, block_stays, blocks_grow, start_some}
 
 -- a list in order has what the list has
 pub In-arranged : {K : Type 0} {R : K → K → Ordering} (total : IsTotalOrder R) (exact : IsAntisymmetric R) (xs : List K) (x : K) → In x xs → In x (arranged R xs)
@@ -76,33 +75,37 @@ game_line_in ops c text game h =
 game_blocks : Code → List Operation → List Block
 game_blocks c ops = map (λ (b : Dot × Block). b.1) (blocks_of c ops)
 
+game_claims : Code → List Operation → List Period
+game_claims c ops = map (λ (p : Dot × Period). p.1) (claims_of c ops)
+
 first_lines : List Operation → Code → List Text
 first_lines ops c = game_text c (known (game_blocks c ops)) ∷ values_lines (nim_values c (known (game_blocks c ops)))
 
-block_line_in : (ops : List Operation) (c : Code) (b : Dot × Block) → In b (blocks_of c ops) → In (block_line (game_blocks c ops) b) (game_lines ops c)
-unfolding game_blocks first_lines
+block_line_in : (ops : List Operation) (c : Code) (b : Dot × Block) → In b (blocks_of c ops) → In (block_line (game_blocks c ops) (game_claims c ops) b) (game_lines ops c)
+unfolding game_blocks game_claims first_lines
 block_line_in ops c b h =
-    members.In-append_left (block_line (game_blocks c ops) b) (first_lines ops c ++ map (block_line (game_blocks c ops)) (blocks_of c ops)) (map (period_line (game_blocks c ops)) (claims_of c ops))
-    (members.In-append_right (block_line (game_blocks c ops) b) (first_lines ops c) (map (block_line (game_blocks c ops)) (blocks_of c ops)) (In-map (block_line (game_blocks c ops)) b (blocks_of c ops) h))
+    let line = block_line (game_blocks c ops) (game_claims c ops) in
+    members.In-append_left (line b) (first_lines ops c ++ map line (blocks_of c ops)) (map (period_line (game_blocks c ops)) (claims_of c ops))
+    (members.In-append_right (line b) (first_lines ops c) (map line (blocks_of c ops)) (In-map line b (blocks_of c ops) h))
 
 claim_line_in : (ops : List Operation) (c : Code) (p : Dot × Period) → In p (claims_of c ops) → In (period_line (game_blocks c ops) p) (game_lines ops c)
-unfolding game_blocks first_lines
+unfolding game_blocks game_claims first_lines
 claim_line_in ops c p h =
-    members.In-append_right (period_line (game_blocks c ops) p) (first_lines ops c ++ map (block_line (game_blocks c ops)) (blocks_of c ops)) (map (period_line (game_blocks c ops)) (claims_of c ops))
+    members.In-append_right (period_line (game_blocks c ops) p) (first_lines ops c ++ map (block_line (game_blocks c ops) (game_claims c ops)) (blocks_of c ops)) (map (period_line (game_blocks c ops)) (claims_of c ops))
     (In-map (period_line (game_blocks c ops)) p (claims_of c ops) h)
 
 pub block_lines_stay : BlockLinesStay
-unfolding game_blocks
-block_lines_stay ops more c b sub among settled =
+unfolding game_blocks game_claims
+block_lines_stay ops more c b valid sub among settled =
     let op = In-filter_map_source (block_in c) (listed ops) b (In-among (blocks_of c (listed ops)) b among) in
     let later : In op.0 (listed more) = In-listed more op.0 (sub op.0 (Has-listed ops op.0 op.1)) in
     let game = In-games c (listed more) op.0 later (block_game c op.0.dot op.0.body b op.2) in
-    let stays = settled_stays (blocks_in c ops) (blocks_in c more) b.1 (blocks_grow c ops more sub) settled in
-    let same : block_line (blocks_in c more) b ≡ block_line (blocks_in c ops) b =
+    let stays = block_stays c ops more b.1 valid sub settled in
+    let same : block_line (blocks_in c more) (claims_in c more) b ≡ block_line (blocks_in c ops) (claims_in c ops) b =
     ap (block_text b.0 b.1) stays in
-    among-In (lines (listed more)) (block_line (blocks_in c ops) b)
+    among-In (lines (listed more)) (block_line (blocks_in c ops) (claims_in c ops) b)
     (subst (λ t. In t (lines (listed more))) same
-    (game_line_in (listed more) c (block_line (blocks_in c more) b) game (block_line_in (listed more) c b (In-filter_map (block_in c) (listed more) op.0 b later op.2))))
+    (game_line_in (listed more) c (block_line (blocks_in c more) (claims_in c more) b) game (block_line_in (listed more) c b (In-filter_map (block_in c) (listed more) op.0 b later op.2))))
 
 pub claim_lines_stay : ClaimLinesStay
 unfolding game_blocks

@@ -1,6 +1,7 @@
 -- What is proved or refuted stays so when operations are added.
-use Rattle.std.proofs.Common.{◌≡◌, ℕ, ◌≤◌, Bool, true, false, cond, ◌||◌, ◌==◌, List, [], ◌∷◌, Option, Some, None, inl, inr, refl, sym, ap, ◌∙◌, subst, arith}
-use Rattle.std.specs.List.{Contains, filter_map, cons_option}
+use Rattle.std.proofs.Common.{◌≡◌, ◌≢◌, ℕ, ◌≤◌, Bool, true, false, cond, ◌||◌, ◌==◌, List, [], ◌∷◌, Option, Some, None, inl, inr, refl, sym, ap, ◌∙◌, subst, arith}
+use Rattle.std.specs.List.{All, Contains, filter_map, cons_option}
+use Rattle.std.proofs.lemmas.List.Elements.{All-weaker}
 use Rattle.std.proofs.lemmas.Bool.{cases_eq, eq-eqb, or_left}
 use Rattle.oct_code.specs.Code.{Code}
 use Rattle.oct_ops.specs.Operation.{Dot, Block, Period}
@@ -8,12 +9,15 @@ use Rattle.oct_ops.specs.Operations.{Operations, IsSubset, listed}
 use Rattle.oct_ops.specs.Valid.{IsPeriod}
 use Rattle.oct_mex.proofs.Members as members
 use Rattle.oct_verify.specs.Laws.{AreAmong}
-use Rattle.oct_verify.specs.declared.status.Status.TheVariants as block_status
-use Rattle.oct_verify.proofs.KnownLaws.{settled_stays}
-use Rattle.oct_period.specs.declared.status.PeriodStatus.TheVariants as claim_status
+use Rattle.oct_verify.specs.declared.status.Status.TheVariants as of_block
+use Rattle.oct_period.specs.FarBlocks.{block_status}
+use Rattle.oct_period.specs.FarLaws.{ClaimsAreAmong}
+use Rattle.oct_period.specs.Laws.{IsLater}
+use Rattle.oct_period.proofs.FarLaws as far
+use Rattle.oct_period.specs.declared.status.PeriodStatus.TheVariants as of_claim
 use Rattle.oct_period.proofs.Statuses as claims
-use Rattle.oct_pages.specs.Catalogue.{block_in, blocks_of}
-use Rattle.oct_replica.specs.Settled.{blocks_in, SettledBlocksStay, SettledClaimsStay}
+use Rattle.oct_pages.specs.Catalogue.{block_in, blocks_of, claim_in, claims_of}
+use Rattle.oct_replica.specs.Settled.{blocks_in, claims_in, SettledBlocksStay, SettledClaimsStay}
 use Rattle.oct_replica.proofs.Members.{In, In-among, among-In, In-map, Has-listed, In-listed}
 
 -- ---- parts of lists
@@ -50,20 +54,6 @@ blocks_grow c ops more sub b h =
     let stays : In pair.0 (blocks_of c (listed more)) = In-filter_map (block_in c) (listed more) op.0 pair.0 (In-listed more op.0 (sub op.0 (Has-listed ops op.0 op.1))) op.2 in
     contains-In (blocks_in c more) b (subst (λ a. In a (blocks_in c more)) (sym pair.2) (In-map (λ (q : Dot × Block). q.1) pair.0 (blocks_of c (listed more)) stays))
 
-pub settled_blocks_stay : SettledBlocksStay
-settled_blocks_stay ops more c b sub =
-    let among = blocks_grow c ops more sub in
-    record {
-      proved = λ is. settled_stays (blocks_in c ops) (blocks_in c more) b among (λ pending. clash (sym is ∙ pending)) ∙ is;
-      refuted = λ place claimed truth is. settled_stays (blocks_in c ops) (blocks_in c more) b among (λ pending. clash_refuted (sym is ∙ pending)) ∙ is;
-    }
-  where
-    clash : block_status.Proved ≡ block_status.Pending → ⊥
-    clash e = cc
-
-    clash_refuted : {place claimed truth : ℕ} → block_status.Refuted place claimed truth ≡ block_status.Pending → ⊥
-    clash_refuted e = cc
-
 zero_fault : {E : Type 0} (fault : E) (b : Bool) (rest : Option E) → b ≡ true → cond b (Some fault) rest ≡ None → ⊥
 zero_fault fault true rest h none = cc
 zero_fault fault false rest h none = cc
@@ -75,6 +65,32 @@ start_some p valid = elim (cases_eq p.start 0) [
   | inl none ↦ absurd (zero_fault _ ((p.start == 0) || (p.period == 0)) _ (or_left (p.start == 0) (p.period == 0) (eq-eqb p.start 0 none)) valid.faultless)
 ]
 
+pub claims_grow : (c : Code) (ops more : Operations) → IsSubset ops more → ClaimsAreAmong (claims_in c ops) (claims_in c more)
+claims_grow c ops more sub p h =
+    let pair = members.In-map_source (λ (q : Dot × Period). q.1) p (claims_of c (listed ops)) (In-contains (claims_in c ops) p h) in
+    let op = In-filter_map_source (claim_in c) (listed ops) pair.0 pair.1 in
+    let stays : In pair.0 (claims_of c (listed more)) = In-filter_map (claim_in c) (listed more) op.0 pair.0 (In-listed more op.0 (sub op.0 (Has-listed ops op.0 op.1))) op.2 in
+    contains-In (claims_in c more) p (subst (λ a. In a (claims_in c more)) (sym pair.2) (In-map (λ (q : Dot × Period). q.1) pair.0 (claims_of c (listed more)) stays))
+
+-- the status of a block that is not pending stays
+pub block_stays : (c : Code) (ops more : Operations) (b : Block) → All IsPeriod (claims_in c ops) → IsSubset ops more → block_status (blocks_in c ops) (claims_in c ops) b ≢ of_block.Pending
+    → block_status (blocks_in c more) (claims_in c more) b ≡ block_status (blocks_in c ops) (claims_in c ops) b
+block_stays c ops more b valid sub settled =
+    far.settled_blocks_stay (blocks_in c ops) (blocks_in c more) (claims_in c ops) (claims_in c more) b (blocks_grow c ops more sub) (claims_grow c ops more sub)
+    (All-weaker IsPeriod IsLater start_some (claims_in c ops) valid) settled
+
+pub settled_blocks_stay : SettledBlocksStay
+settled_blocks_stay ops more c b valid sub = record {
+  proved = λ is. block_stays c ops more b valid sub (λ pending. clash (sym is ∙ pending)) ∙ is;
+  refuted = λ place claimed truth is. block_stays c ops more b valid sub (λ pending. clash_refuted (sym is ∙ pending)) ∙ is;
+}
+  where
+    clash : of_block.Proved ≡ of_block.Pending → ⊥
+    clash e = cc
+
+    clash_refuted : {place claimed truth : ℕ} → of_block.Refuted place claimed truth ≡ of_block.Pending → ⊥
+    clash_refuted e = cc
+
 pub settled_claims_stay : SettledClaimsStay
 settled_claims_stay ops more c p valid sub =
     let among = blocks_grow c ops more sub in
@@ -83,8 +99,8 @@ settled_claims_stay ops more c p valid sub =
       refuted = λ place is. claims.settled_claims_stay (blocks_in c ops) (blocks_in c more) p among (start_some p valid) (λ n pending. clash_refuted place n (sym is ∙ pending)) ∙ is;
     }
   where
-    clash : (n : ℕ) → claim_status.Proved ≡ claim_status.Pending n → ⊥
+    clash : (n : ℕ) → of_claim.Proved ≡ of_claim.Pending n → ⊥
     clash n e = cc
 
-    clash_refuted : (place n : ℕ) → claim_status.Refuted place ≡ claim_status.Pending n → ⊥
+    clash_refuted : (place n : ℕ) → of_claim.Refuted place ≡ of_claim.Pending n → ⊥
     clash_refuted place n e = cc

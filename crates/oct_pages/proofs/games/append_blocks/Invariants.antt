@@ -1,24 +1,16 @@
-use Rattle.std.proofs.Common.{◌≡◌, List, true, map, drop}
-use Rattle.std.specs.Borrow.{Bor}
+use Rattle.std.proofs.Common.{◌≡◌, true, drop}
 use Rattle.std.specs.List.{list_all}
-use Rattle.oct_code.specs.Code.{Code}
-use Rattle.oct_ops.specs.Body.{Operation}
-use Rattle.oct_ops.specs.Operation.{Dot, Block}
 use Rattle.oct_ops.specs.Sets.{contains}
-use Rattle.oct_verify.specs.Filing.{blocks_in}
-use Rattle.oct_pages.specs.Catalogue.{block_line, blocks_of}
+use Rattle.oct_pages.specs.Catalogue.{blocks_of}
+use Rattle.oct_pages.specs.Groups.{block_lines}
 use Rattle.oct_pages.specs.Growth.{Extends}
+use Rattle.oct_pages.proofs.GroupLaws.{lent_ops}
 use Rattle.oct_pages.proofs.Windows.{Showing}
 use Rattle.oct_pages.proofs.games.append_blocks.Given as goal
 
--- the blocks of the game that the references lead to
-abbrev pub lent_blocks : Code → List (Bor Operation) → List (Dot × Block)
-lent_blocks c ops = blocks_of c (map (λ o. o.now) ops)
-
 abbrev pub invariant-loop-op : goal.invariant-loop-op
 invariant-loop-op g l = record {
-  shown : Showing l.fn.window l.window l.fn.out.items l.out.items
-      (map (block_line (blocks_in l.ledger.blocks)) (lent_blocks l.code l.blocks)) (map (block_line (blocks_in l.ledger.blocks)) (lent_blocks l.code (drop l.op-index l.blocks)));
-  held : list_all (contains l.ledger.blocks) (lent_blocks l.code (drop l.op-index l.blocks)) ≡ true;
+  shown : Showing l.fn.window l.window l.fn.out.items l.out.items (block_lines l.code l.game (lent_ops l.ops)) (block_lines l.code l.game (lent_ops (drop l.op-index l.ops)));
+  held : list_all (contains l.game.blocks) (blocks_of l.code (lent_ops (drop l.op-index l.ops))) ≡ true;
   grown : Extends l.fn.out.items l.out.items;
 }

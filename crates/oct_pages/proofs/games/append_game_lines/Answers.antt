@@ -1,10 +1,12 @@
-use Rattle.std.proofs.Common.{arith, List, [], ◌∷◌, ◌++◌, map, subst}
+use Rattle.std.proofs.Common.{arith, [], ◌∷◌, ◌++◌, subst, ap, ◌∙◌}
 use Rattle.std.proofs.lemmas.Result.{on_ok_weaker}
-use Rattle.std.specs.Borrow.{Bor}
-use Rattle.oct_ops.specs.Body.{Operation}
+use Rattle.oct_mex.specs.NimValues.{nim_values}
 use Rattle.oct_verify.specs.Filing.{blocks_in}
-use Rattle.oct_pages.specs.Catalogue.{block_line, blocks_of, game_text, values_lines}
+use Rattle.oct_verify.specs.Known.{known}
+use Rattle.oct_pages.specs.Catalogue.{game_text, values_lines}
+use Rattle.oct_pages.specs.Groups.{block_lines, claim_lines}
 use Rattle.oct_pages.specs.Window.{Shown}
+use Rattle.oct_pages.proofs.GroupLaws.{lent_ops}
 use Rattle.oct_pages.proofs.Windows.{shown_then}
 use Rattle.oct_pages.proofs.games.append_game_lines.Goals as goal
 
@@ -13,9 +15,15 @@ append_values-requires g c = omega (arith, c.known_values.ensures.within)
 
 pub returns-clause-ok : goal.returns-clause-ok
 returns-clause-ok g c =
-    let lines = map (block_line (blocks_in c.args.ledger.now.blocks)) (blocks_of c.args.code.now (map (λ (o : Bor Operation). o.now) c.args.blocks.now)) in
-    on_ok_weaker c.append_blocks.result (λ last.
-    subst (Shown c.args.window.now c.append_blocks.new.window c.args.out.now.items c.append_blocks.new.out.items)
-    (λ i. game_text c.args.code.now (c.known.ensures.value i) ∷ values_lines (c.known_values.ensures.values i) ++ lines)
-    (shown_then _ _ _ _ _ _ (game_text c.args.code.now c.known.result ∷ values_lines c.known_values.result.now) lines
-    (shown_then _ _ _ _ _ _ (game_text c.args.code.now c.known.result ∷ []) (values_lines c.known_values.result.now) c.in_ok-show_game.ensures.ok c.in_ok-append_values.ensures.ok) last)) c.append_blocks.ensures.ok
+    let game = c.args.game.now in
+    let blocks = block_lines c.args.code.now game (lent_ops c.args.ops.now) in
+    let claims = claim_lines c.args.code.now game (lent_ops c.args.ops.now) in
+    let count = c.known.ensures.value ∙ ap (λ l. known (blocks_in l.blocks)) c.ledger-ledger.ensures in
+    let values = c.known_values.ensures.values ∙ ap (λ l. nim_values l.code (known (blocks_in l.blocks))) c.ledger-ledger.ensures in
+    on_ok_weaker c.append_claims.result (λ last.
+    subst (Shown c.args.window.now c.append_claims.new.window c.args.out.now.items c.append_claims.new.out.items)
+    (λ i. game_text c.args.code.now (count i) ∷ values_lines (values i) ++ blocks ++ claims)
+    (shown_then _ _ _ _ _ _ (game_text c.args.code.now c.known.result ∷ values_lines c.known_values.result.now ++ blocks) claims
+    (shown_then _ _ _ _ _ _ (game_text c.args.code.now c.known.result ∷ values_lines c.known_values.result.now) blocks
+    (shown_then _ _ _ _ _ _ (game_text c.args.code.now c.known.result ∷ []) (values_lines c.known_values.result.now) c.in_ok-show_game.ensures.ok c.in_ok-append_values.ensures.ok)
+    c.in_ok-append_blocks.ensures.ok) last)) c.append_claims.ensures.ok

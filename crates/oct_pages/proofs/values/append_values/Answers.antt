@@ -1,4 +1,4 @@
-use Rattle.std.proofs.Common.{arith, ◌≡◌, ℕ, suc, ◌+◌, ◌-◌, ◌/◌, [], ◌∷◌, map, length, refl, ap}
+use Rattle.std.proofs.Common.{arith, ◌≡◌, suc, ◌+◌, ◌-◌, ◌/◌, [], ◌∷◌, map, length, ap}
 use Rattle.std.specs.List.{range_with_len}
 use Rattle.oct_pages.specs.Catalogue.{values_line, values_lines}
 use Rattle.oct_pages.proofs.Growing.{extends_trans}

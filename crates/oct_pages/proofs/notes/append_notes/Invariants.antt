@@ -1,0 +1,11 @@
+use Rattle.std.proofs.Common.{map, drop}
+use Rattle.oct_pages.specs.Catalogue.{note_line}
+use Rattle.oct_pages.specs.Growth.{Extends}
+use Rattle.oct_pages.proofs.Windows.{Showing}
+use Rattle.oct_pages.proofs.notes.append_notes.Given as goal
+
+abbrev pub invariant-loop-op : goal.invariant-loop-op
+invariant-loop-op g l = record {
+  shown : Showing l.fn.window l.window l.fn.out.items l.out.items (map note_line l.op-items) (map note_line (drop l.op-index l.op-items));
+  grown : Extends l.fn.out.items l.out.items;
+}

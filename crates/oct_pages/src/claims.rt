@@ -1,0 +1,74 @@
+//! The lines of a game's period claims.
+
+ghost use Rattle.std.specs.Prelude.{◌≡◌, ◌++◌, ◌∷◌, [], OnOk};
+ghost use Rattle.oct_pages.specs.Catalogue.{period_status_text, period_text, repetition_text};
+ghost use Rattle.oct_pages.specs.Growth.{Extends};
+ghost use Rattle.oct_pages.specs.Window.{Shown};
+
+use crate::window::Window;
+use crate::words::{append_dot, append_labelled};
+use oct_ops::{Dot, Period};
+use oct_period::PeriodStatus;
+use std::alloc::{AllocError, Allocator};
+
+// Appends the line of a claim, where it is shown.
+pub(crate) fn show_claim<A: Allocator>(
+    out: &mut Vec<u8, A>,
+    window: &mut Window,
+    dot: Dot,
+    period: &Period,
+    status: &PeriodStatus,
+) -> Result<(), AllocError>
+    ensures ok { OnOk result (Shown window.old window.new out.old.items out.new.items (period_text dot period.now status.now ∷ [])) }
+    ensures grown { Extends out.old.items out.new.items }
+{
+    if !window.pass() {
+        return Ok(());
+    }
+    append_claim(out, dot, period, status)
+}
+
+// Appends the line of a claim.
+fn append_claim<A: Allocator>(
+    out: &mut Vec<u8, A>,
+    dot: Dot,
+    period: &Period,
+    status: &PeriodStatus,
+) -> Result<(), AllocError>
+    ensures ok { OnOk result (out.new.items ≡ out.old.items ++ period_text dot period.now status.now) }
+    ensures grown { Extends out.old.items out.new.items }
+{
+    append_repetition(out, dot, period)?;
+    append_status(out, status)?;
+    out.extend_from_slice(b"\n")
+}
+
+// Appends which claim it is, and from where on it says that the values repeat.
+fn append_repetition<A: Allocator>(
+    out: &mut Vec<u8, A>,
+    dot: Dot,
+    period: &Period,
+) -> Result<(), AllocError>
+    ensures ok { OnOk result (out.new.items ≡ out.old.items ++ repetition_text dot period.now) }
+    ensures grown { Extends out.old.items out.new.items }
+{
+    out.extend_from_slice(b"period ")?;
+    append_dot(out, dot)?;
+    append_labelled(out, b" from ", period.start())?;
+    append_labelled(out, b" by ", period.period())
+}
+
+// Appends a space and the words of a status.
+fn append_status<A: Allocator>(
+    out: &mut Vec<u8, A>,
+    status: &PeriodStatus,
+) -> Result<(), AllocError>
+    ensures ok { OnOk result (out.new.items ≡ out.old.items ++ period_status_text status.now) }
+    ensures grown { Extends out.old.items out.new.items }
+{
+    match status {
+        PeriodStatus::Proved => out.extend_from_slice(b" proved"),
+        PeriodStatus::Refuted { at } => append_labelled(out, b" refuted at ", *at),
+        PeriodStatus::Pending { needs } => append_labelled(out, b" pending needs ", *needs),
+    }
+}
