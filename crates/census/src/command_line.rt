@@ -20,10 +20,10 @@ pub fn command<'a>(alloc: Global) -> Result<Command<'a>, AllocError> {
 }
 
 const FOLD_HELP: &str = "\
-Each line of the input is the hexadecimal text of one delta. The first line that is
-a delta of blocks of one game under different dots, or of no operation, is taken, and
-the catalogue of its operations is printed. Every other line that is not empty is
-refused; standard error says how many were.
+Each line of the input is the hexadecimal text of one delta: blocks of values, period
+claims, notes and removals of notes. The catalogue of the operations of all lines is
+printed. Every other line that is not empty is refused; standard error says how many
+were.
 
 Exit status: 0 done (also where lines were refused), 2 command line, 3 input or output, 4 memory
 
