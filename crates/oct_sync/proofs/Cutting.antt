@@ -16,16 +16,16 @@ use Rattle.oct_sync.proofs.Splitting.{IsWhole, step, whole_parts, longer, field-
 
 -- ---- after a fault nothing changes
 
-fold_failed : (role : Role) (s : Session) (f : SyncError) (frames : List Frame) → fold (on_frame role) (failed s f) frames ≡ failed s f
+pub fold_failed : (role : Role) (s : Session) (f : SyncError) (frames : List Frame) → fold (on_frame role) (failed s f) frames ≡ failed s f
 fold_failed role s f [] = refl
 fold_failed role s f (g ∷ frames) = fold_failed role s f frames
 
-split_failed : (role : Role) (s : Session) (f : SyncError) (split : Split) → on_split role (failed s f) split ≡ failed s f
+pub split_failed : (role : Role) (s : Session) (f : SyncError) (split : Split) → on_split role (failed s f) split ≡ failed s f
 split_failed role s f split = ap (λ (t : Session). on_rest_in t.phase t split.rest) (fold_failed role s f split.frames)
 
 -- ---- the fault that first bytes show
 
-abbrev shown : Bool → Bool → Bool → Option SyncError → Option SyncError
+abbrev pub shown : Bool → Bool → Bool → Option SyncError → Option SyncError
 shown long is longer head = elim long [ false ↦ None | true ↦ elim is [ false ↦ Some fault.Frame | true ↦ elim longer [ false ↦ None | true ↦ head ] ] ]
 
 still_shown : (a b c a' b' c' : Bool) (h h' : Option SyncError) (f : SyncError) → (a ≡ true → a' ≡ true) → (a ≡ true → b' ≡ b) → (c ≡ true → c' ≡ true) → (c ≡ true → h' ≡ h) → shown a b c h ≡ Some f → shown a' b' c' h' ≡ Some f
@@ -47,7 +47,7 @@ fault-append phase r y f e =
 head_shown : (a b c : Bool) (h : Option SyncError) (f : SyncError) → a ≡ true → b ≡ true → c ≡ true → shown a b c h ≡ Some f → h ≡ Some f
 head_shown a b c h f long is more e = sym (λ i. shown (long i) (is i) (more i) h) ∙ e
 
-payload_length : (b : Bytes) → IsWhole b → 1 + length (take (length_field b - 1) (drop 5 b)) ≡ length_field b
+pub payload_length : (b : Bytes) → IsWhole b → 1 + length (take (length_field b - 1) (drop 5 b)) ≡ length_field b
 payload_length b w =
     let long = w.long in
     let some = w.some in
@@ -66,14 +66,14 @@ whole_fault phase b f w e =
 -- ---- a rest with a fault, and more bytes
 
 -- a phase in which frames are due
-record IsOpen (role : Role) (t : Session) : Type 0 where
-  frame : (g : Frame) → on_frame role t g ≡ on_head role t g (head_fault t.phase (1 + length g.payload) g.tag)
-  rest : (r : Bytes) → on_rest_in t.phase t r ≡ failed_if t (rest_fault t.phase r)
+pub record IsOpen (role : Role) (t : Session) : Type 0 where
+  pub frame : (g : Frame) → on_frame role t g ≡ on_head role t g (head_fault t.phase (1 + length g.payload) g.tag)
+  pub rest : (r : Bytes) → on_rest_in t.phase t r ≡ failed_if t (rest_fault t.phase r)
 
 abbrev begun_with : Role → Session → Bytes → Bool → Session
 begun_with role t b whole = on_split role t (step (length b) b whole)
 
-open_fails : (role : Role) (t : Session) (b : Bytes) (f : SyncError) → IsOpen role t → rest_fault t.phase b ≡ Some f → on_split role t (split_frames b) ≡ failed t f
+pub open_fails : (role : Role) (t : Session) (b : Bytes) (f : SyncError) → IsOpen role t → rest_fault t.phase b ≡ Some f → on_split role t (split_frames b) ≡ failed t f
 open_fails role t b f is e =
     ap (on_split role t) (split_is b)
     ∙ elim (begins_whole b) as (λ whole. begins_whole b ≡ whole → begun_with role t b whole ≡ failed t f) [
@@ -94,7 +94,7 @@ open_persists role t r y is =
     ] refl
 
 -- after the end each byte is out of order
-done_fails : (role : Role) (t : Session) (b : ℕ) (bytes : Bytes) → t.phase ≡ IsDone → on_split role t (split_frames (b ∷ bytes)) ≡ failed t fault.Order
+pub done_fails : (role : Role) (t : Session) (b : ℕ) (bytes : Bytes) → t.phase ≡ IsDone → on_split role t (split_frames (b ∷ bytes)) ≡ failed t fault.Order
 done_fails role t b bytes done =
     ap (on_split role t) (split_is (b ∷ bytes))
     ∙ elim (begins_whole (b ∷ bytes)) as (λ whole. begun_with role t (b ∷ bytes) whole ≡ failed t fault.Order) [

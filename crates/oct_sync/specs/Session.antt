@@ -3,11 +3,11 @@ use Rattle.std.specs.Prelude.{ℕ, ◌+◌, ◌-◌, Bool, true, false, ◌&&◌
 use Rattle.std.specs.List.{fold}
 use Rattle.oct_ops.specs.Body.{Operation}
 use Rattle.oct_ops.specs.Operations.{Operations, listed, union, set_of}
-use Rattle.oct_join.specs.Clock.{Clock}
+use Rattle.oct_join.specs.Clock.{Clock, entries}
 use Rattle.oct_delta.specs.Clocks.{entries_bytes, read_clock}
 use Rattle.oct_delta.specs.Decoding.{read_delta}
 use Rattle.oct_delta.specs.Text.{Bytes}
-use Rattle.oct_store.specs.Summary.{clock_entries, beyond}
+use Rattle.oct_store.specs.Summary.{clock_of, beyond}
 use Rattle.oct_sync.specs.Frames.{Frame, Split, frame_bytes, end_frame, delta_frames, clock_tag, delta_tag, end_tag, is_length, length_field, tag_field, split_frames}
 use Rattle.oct_sync.specs.declared.error.SyncError.{SyncError}
 use Rattle.oct_sync.specs.declared.error.SyncError.TheVariants as fault
@@ -33,8 +33,9 @@ pub record Session : Type 0 where
 abbrev pub max_authors : ℕ
 max_authors = 65536
 
+-- the clock of the set, cut to its first authors
 abbrev pub clock_frame : Operations → Bytes
-clock_frame held = frame_bytes clock_tag (entries_bytes (take max_authors (clock_entries (listed held))))
+clock_frame held = frame_bytes clock_tag (entries_bytes (take max_authors (entries (clock_of (listed held)))))
 
 -- the operations that a clock does not cover, and an end
 abbrev pub missing_frames : Operations → Clock → Bytes

@@ -1,5 +1,9 @@
 //! Why a session ended early.
 
+ghost use Rattle.std.specs.Prelude.{◌≡◌};
+
+use std::alloc::AllocError;
+
 /// Why a session ended early. Of the faults that one frame shows, the first of `Frame`, `Order`, `Clock` and `Delta` is
 /// answered.
 #[derive(Clone, Copy, Debug, PartialEq, Eq, Drop)]
@@ -24,4 +28,14 @@ pub enum SyncError {
     Write,
     /// More reads would be needed than a session may make.
     Turns,
+}
+
+impl From<AllocError> for SyncError {
+    ghost use Rattle.oct_sync.specs.declared.error.SyncError.TheVariants as errors;
+
+    ghost from_gives = { λ _ e. e ≡ errors.OutOfMemory };
+
+    fn from(_e: AllocError) -> SyncError {
+        SyncError::OutOfMemory
+    }
 }

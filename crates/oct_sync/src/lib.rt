@@ -12,13 +12,34 @@
 //! Each frame is a length of four bytes, which counts what follows it, a tag of one byte and a payload. Bytes may come
 //! in pieces of any size: what a side holds and sends follows from the bytes alone, and not from how they were cut.
 //!
-//! `specs/Frames` says what frames are and how operations are packed into them, `specs/Session` what each side does.
-//! `SyncError` says why a session ended early, and `laws` what holds of all sessions.
+//! - `Session` is one side, which is fed the other side's bytes and adds what it sends to a vector.
+//! - `Peer` is whoever a side speaks for: it keeps a set of operations, as a `Store` does.
+//! - `drive` runs a session to its end over a reader and a writer.
+//! - `SyncError` says why a session ended early, and `laws` what holds of all sessions.
+//!
+//! `specs/Frames` says what frames are and how operations are packed into them, `specs/Session` what each side does, and
+//! `specs/Driven` what was read and written where a session was driven.
 #![tactic(auto)]
 
+mod deltas;
+mod driver;
 mod error;
+mod frame;
+mod heads;
 pub mod laws;
+mod peer;
+mod progress;
+mod receiving;
 mod role;
+mod sending;
+mod session;
+mod state;
+#[cfg(test)]
+mod tests;
 
+pub use driver::{MAX_READS, drive};
 pub use error::SyncError;
+pub use peer::Peer;
+pub use progress::Progress;
 pub use role::Role;
+pub use session::Session;

@@ -1,0 +1,177 @@
+-- What holds at each turn of a driver.
+use Rattle.std.proofs.Common.{◌≡◌, ℕ, ◌+◌, List, [], ◌++◌, take, length, Option, Some, None, refl, sym, ◌∙◌, ap, subst, append_assoc}
+use Rattle.std.specs.Io.KnownBytes.{Appends, Consumes, Keeps}
+use Rattle.std.proofs.KnownBytes.{Appends-nil, Appends-trans, Consumes-nil, Consumes-trans, Consumes-kept}
+use Rattle.std.proofs.lemmas.List.{append-nil, take_at, drop_at}
+use Rattle.std.proofs.Math.Seq.{take-add}
+use Rattle.oct_delta.specs.Text.{Bytes}
+use Rattle.oct_ops.specs.Operations.{Operations}
+use Rattle.oct_sync.specs.Driven.{AppendsPrefix, Breaks, Completes, after, begun}
+use Rattle.oct_sync.specs.Session.{Phase, AwaitsClock, AwaitsDeltas, AwaitsEnd, IsDone, HasFailed, Session, Point, fed}
+use Rattle.oct_sync.specs.Standing.{Ends, IsAt, Standing, StandsAt, at_start, ended, progress_in, progress_of}
+use Rattle.oct_sync.specs.declared.error.SyncError.{SyncError}
+use Rattle.oct_sync.specs.declared.error.SyncError.TheVariants as fault
+use Rattle.oct_sync.specs.declared.progress.Progress.TheVariants.{More, Done}
+use Rattle.oct_sync.specs.declared.role.Role.{Role}
+use Rattle.oct_sync.specs.declared.role.Role.TheVariants.{Client, Server}
+use Rattle.oct_sync.proofs.Cutting.{any_cutting}
+use Rattle.oct_sync.proofs.Owing.{past, fed_past}
+
+abbrev start : Role → Operations → Point
+start role held = record { session = begun role held; rest = [] }
+
+-- these bytes were read, and all that the session sends for them was written, but for what is owed
+pub record IsRunning (role : Role) (reader reader' writer writer' : Option Bytes) (before : Operations) (s : Option Standing) (held : Operations) (owed : Bytes) : Type 0 where
+  pub bytes : Bytes
+  pub read : Consumes reader reader' bytes
+  pub written : Bytes
+  pub put : Appends writer writer' written
+  pub at : StandsAt role s held (written ++ owed) (fed role (record { session = begun role before; rest = [] }) bytes)
+
+started : (role : Role) (held : Operations) (owed : Bytes) → owed ≡ (begun role held).sent → IsAt role (at_start role) held owed (fed role (record { session = begun role held; rest = [] }) [])
+started Client held owed e = record { role_is = refl; session = ap (λ sent. record { phase = AwaitsClock; held = held; sent = sent }) (sym e); rest = refl }
+started Server held owed e = record { role_is = refl; session = ap (λ sent. record { phase = AwaitsClock; held = held; sent = sent }) (sym e); rest = refl }
+
+pub IsRunning-begun : (role : Role) (reader writer : Option Bytes) (held : Operations) (s : Option Standing) (none owed : Bytes) → s ≡ Some (at_start role) → none ≡ [] → owed ≡ none ++ (begun role held).sent → IsRunning role reader reader writer writer held s held owed
+IsRunning-begun role reader writer held s none owed same empty greets = record {
+  bytes = [];
+  read = Consumes-nil reader;
+  written = [];
+  put = Appends-nil writer;
+  at = subst (λ t. StandsAt role t held owed (fed role (start role held) [])) (sym same) (started role held owed (greets ∙ ap (λ z. z ++ (begun role held).sent) empty));
+}
+
+take_past : (xs ys : Bytes) (n : ℕ) → take (length xs + n) (xs ++ ys) ≡ xs ++ take n ys
+take_past xs ys n = rw (take-add, take_at xs ys (length xs) refl, drop_at xs ys (length xs) refl) refl
+
+-- what stands there
+held_at : (role : Role) (s : Option Standing) (held : Operations) (sent : Bytes) (p : Point) → StandsAt role s held sent p → (p.session.held ≡ held) × (p.session.sent ≡ sent)
+held_at role None held sent p at = absurd at
+held_at role (Some s) held sent p at = (ap (λ (t : Session). t.held) at.session, ap (λ (t : Session). t.sent) at.session)
+
+done_phase : (phase : Phase) → progress_in phase ≡ Done → phase ≡ IsDone
+done_phase AwaitsClock e = cc
+done_phase (AwaitsDeltas t) e = cc
+done_phase AwaitsEnd e = cc
+done_phase IsDone e = refl
+done_phase (HasFailed f) e = cc
+
+done_at : (role : Role) (s : Option Standing) (held : Operations) (sent : Bytes) (p : Point) → progress_of s ≡ Done → StandsAt role s held sent p → p.session.phase ≡ IsDone
+done_at role None held sent p done at = absurd at
+done_at role (Some s) held sent p done at = ap (λ (t : Session). t.phase) at.session ∙ done_phase s.phase done
+
+module _ (role : Role) (r r' w w' : Option Bytes) (before : Operations) (s : Option Standing) (held : Operations) (owed : Bytes) (running : IsRunning role r r' w w' before s held owed) where
+  abbrev here : Point
+  here = fed role (record { session = begun role before; rest = [] }) running.bytes
+
+  -- what is owed is written
+  pub IsRunning-sent : (w'' : Option Bytes) → Appends w' w'' owed → IsRunning role r r' w w'' before s held []
+  IsRunning-sent w'' put = record {
+    bytes = running.bytes;
+    read = running.read;
+    written = running.written ++ owed;
+    put = Appends-trans w w' w'' running.written owed running.put put;
+    at = subst (λ z. StandsAt role s held z here) (sym (append-nil (running.written ++ owed))) running.at;
+  }
+
+  -- a part of what is owed is written, and the writer fails
+  pub Breaks-sending : (w'' : Option Bytes) → AppendsPrefix w' w'' owed → Breaks role r r' w w'' before held
+  Breaks-sending w'' put = record {
+    bytes = running.bytes;
+    read = running.read;
+    held_is = sym (held_at role s held (running.written ++ owed) here running.at).0;
+    written = (
+      length running.written + put.0,
+      subst (λ z. Appends w w'' z) (sym (ap (take (length running.written + put.0)) (held_at role s held (running.written ++ owed) here running.at).1 ∙ take_past running.written owed put.0))
+          (Appends-trans w w' w'' running.written (take put.0 owed) running.put put.1),
+    );
+  }
+
+  -- the reader fails, and keeps what it has
+  pub Breaks-reading : (r'' : Option Bytes) → Keeps r' r'' → Breaks role r r'' w w' before held
+  Breaks-reading r'' kept = record {
+    bytes = running.bytes;
+    read = Consumes-kept r r' r'' running.bytes running.read kept;
+    held_is = sym (held_at role s held (running.written ++ owed) here running.at).0;
+    written = (
+      length running.written,
+      subst (λ z. Appends w w' z) (sym (ap (take (length running.written)) (held_at role s held (running.written ++ owed) here running.at).1 ∙ take_at running.written owed (length running.written) refl)) running.put,
+    );
+  }
+
+  -- all is written, and the session is done
+  pub completed : owed ≡ [] → progress_of s ≡ Done → Completes role r r' w w' before held
+  completed none done = record {
+    bytes = running.bytes;
+    read = running.read;
+    done = done_at role s held (running.written ++ owed) here done running.at;
+    held_is = sym (held_at role s held (running.written ++ owed) here running.at).0;
+    written = subst (λ z. Appends w w' z) (sym ((held_at role s held (running.written ++ owed) here running.at).1 ∙ ap (λ z. running.written ++ z) none ∙ append-nil running.written)) running.put;
+  }
+
+-- ---- a piece is read and fed, where nothing is owed
+
+abbrev unsent : Bytes → Point → Point
+unsent none p = record { session = record p.session { sent = none }; rest = p.rest }
+
+unsent_at : (role : Role) (s : Option Standing) (held : Operations) (sent none : Bytes) (p : Point) → StandsAt role s held sent p → StandsAt role s held none (unsent none p)
+unsent_at role None held sent none p at = at
+unsent_at role (Some s) held sent none p at = record {
+  role_is = at.role_is;
+  session = ap (λ (t : Session). record t { sent = none }) at.session;
+  rest = at.rest;
+}
+
+-- what it sends for a piece, with what it had sent before
+with_past : (role : Role) (written none : Bytes) (p : Point) (piece : Bytes) → none ≡ [] → p.session.sent ≡ written ++ [] → fed role p piece ≡ record { session = past written (fed role (unsent none p) piece).session; rest = (fed role (unsent none p) piece).rest }
+with_past role written none p piece empty sent =
+    (λ i. fed role (record { session = record p.session { sent = (sent ∙ ap (λ z. written ++ z) (sym empty)) i }; rest = p.rest }) piece)
+    ∙ fed_past written role (record p.session { sent = none }) p.rest piece
+
+past_at : (role : Role) (s : Option Standing) (held : Operations) (written owed : Bytes) (q : Point) → StandsAt role s held owed q → StandsAt role s held (written ++ owed) (record { session = past written q.session; rest = q.rest })
+past_at role None held written owed q at = at
+past_at role (Some s) held written owed q at = record { role_is = at.role_is; session = ap (past written) at.session; rest = at.rest }
+
+pub ends_session : (role : Role) (q : Point) (piece : Bytes) (e : SyncError) (held : Operations) (sent : Bytes) → (e ≡ fault.OutOfMemory → ⊥) → Ends role q piece e held sent → (fed role q piece).session ≡ ended e held sent
+ends_session role q piece fault.Frame held sent m h = h
+ends_session role q piece fault.Order held sent m h = h
+ends_session role q piece fault.Clock held sent m h = h
+ends_session role q piece fault.Delta held sent m h = h
+ends_session role q piece fault.OutOfMemory held sent m h = absurd (m refl)
+ends_session role q piece fault.Failed held sent m h = absurd h
+ends_session role q piece fault.Cut held sent m h = h
+ends_session role q piece fault.Read held sent m h = h
+ends_session role q piece fault.Write held sent m h = h
+ends_session role q piece fault.Turns held sent m h = h
+
+module _ (role : Role) (r r' r'' w w' : Option Bytes) (before : Operations) (s : Option Standing) (held : Operations) (none piece : Bytes) (running : IsRunning role r r' w w' before s held []) (quiet : none ≡ []) (read : Consumes r' r'' piece) where
+  abbrev now : Point
+  now = fed role (record { session = begun role before; rest = [] }) running.bytes
+
+  whole : fed role (record { session = begun role before; rest = [] }) (running.bytes ++ piece) ≡ record { session = past running.written (fed role (unsent none now) piece).session; rest = (fed role (unsent none now) piece).rest }
+  whole = sym (any_cutting role (record { session = begun role before; rest = [] }) running.bytes piece)
+      ∙ with_past role running.written none now piece quiet (held_at role s held (running.written ++ []) now running.at).1
+
+  pub IsRunning-fed : (s' : Option Standing) (held' : Operations) (owed : Bytes) → ((t : Role) (p : Point) → StandsAt t s held none p → StandsAt t s' held' owed (fed t p piece)) → IsRunning role r r'' w w' before s' held' owed
+  IsRunning-fed s' held' owed feeds = record {
+    bytes = running.bytes ++ piece;
+    read = Consumes-trans r r' r'' running.bytes piece running.read read;
+    written = running.written;
+    put = running.put;
+    at = subst (λ p. StandsAt role s' held' (running.written ++ owed) p) (sym whole)
+        (past_at role s' held' running.written owed (fed role (unsent none now) piece) (feeds role (unsent none now) (unsent_at role s held (running.written ++ []) none now running.at)));
+  }
+
+  pub Breaks-feeding : (e : SyncError) (held' : Operations) (owed : Bytes) → (e ≡ fault.OutOfMemory → ⊥) → ((t : Role) (p : Point) → StandsAt t s held none p → Ends t p piece e held' owed) → Breaks role r r'' w w' before held'
+  Breaks-feeding e held' owed memory feeds =
+      let ends = ends_session role (unsent none now) piece e held' owed memory (feeds role (unsent none now) (unsent_at role s held (running.written ++ []) none now running.at)) in
+      let session : (fed role (record { session = begun role before; rest = [] }) (running.bytes ++ piece)).session ≡ past running.written (ended e held' owed) = ap (λ (p : Point). p.session) whole ∙ ap (past running.written) ends in
+      record {
+        bytes = running.bytes ++ piece;
+        read = Consumes-trans r r' r'' running.bytes piece running.read read;
+        held_is = sym (ap (λ (t : Session). t.held) session);
+        written = (
+          length running.written,
+          subst (λ z. Appends w w' z) (sym (ap (λ (t : Session). take (length running.written) t.sent) session ∙ take_at running.written owed (length running.written) refl)) running.put,
+        );
+      }

@@ -1,0 +1,13 @@
+use Rattle.std.proofs.Common.{◌≡◌, ◌+◌, ◌++◌, List, ℕ, length, sym, ap, ◌∙◌, eqb, arith}
+use Rattle.oct_delta.specs.Delta.{encoded}
+use Rattle.oct_sync.proofs.Written.{framed_after, length-encoded, pack_frame-some}
+use Rattle.oct_sync.proofs.deltas.put_pack.Goals as goal
+
+pub returns-in-Ok-clause-ok : goal.returns-in-Ok-clause-ok
+returns-in-Ok-clause-ok g c =
+    let pack = c.args.pack.items in
+    let counts : 8 + c.args.size ≡ length (encoded pack) = let e = length-encoded pack in let s = c.requires.is in omega (arith, e, s) in
+    let len : length c.args.pack.items ≡ c.args.pack.len = omega (arith, c.args.pack.ok) in
+    framed_after 2 (8 + c.args.size) (encoded pack) c.args.out.now.items c.put_head.new.out.items _ counts c.in_ok-put_head.ensures.ok
+    (c.in-Ok.ensures.ok ∙ ap (λ ops. c.put_head.new.out.items ++ encoded ops) c.rising.ensures)
+    ∙ ap (λ (z : List ℕ). c.args.out.now.items ++ z) (sym (pack_frame-some pack (ap (λ n. eqb n 0) len ∙ sym c.is_empty.ensures ∙ c.if-is_empty.false)))

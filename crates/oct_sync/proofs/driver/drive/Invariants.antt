@@ -1,0 +1,11 @@
+use Rattle.std.proofs.Common.{◌≡◌}
+use Rattle.oct_sync.specs.Standing.{progress_of}
+use Rattle.oct_sync.proofs.Running.{IsRunning}
+use Rattle.oct_sync.proofs.driver.drive.Given as goal
+
+abbrev pub invariant-loop : goal.invariant-loop
+invariant-loop g l = record {
+  running : IsRunning l.fn.role (g.R.Read.remaining l.fn.reader) (g.R.Read.remaining l.reader) (g.W.Write.contents l.fn.writer) (g.W.Write.contents l.writer)
+      (g.P.Peer.held l.fn.peer) l.session (g.P.Peer.held l.peer) l.owed.items;
+  progress : l.progress ≡ progress_of l.session;
+}

@@ -1,0 +1,41 @@
+use Rattle.std.proofs.Common.{◌≡◌, ◌+◌, ◌-◌, length, Result, Ok, Err, arith, sym, ◌∙◌}
+use Rattle.oct_delta.specs.declared.error.DeltaError.{DeltaError}
+use Rattle.oct_delta.specs.declared.error.DeltaError.TheVariants as errors
+use Rattle.oct_sync.proofs.Payloads.{fed_rest}
+use Rattle.oct_sync.proofs.receiving.feed_delta.Goals as goal
+
+ok_not : {r : Result (Unit {0}) DeltaError} {u : Unit {0}} → r ≡ Ok u → r ≡ Err errors.OutOfMemory → ⊥
+ok_not is h = cc
+
+version_not : {r : Result (Unit {0}) DeltaError} {e : DeltaError} → r ≡ Err e → e ≡ errors.Version → r ≡ Err errors.OutOfMemory → ⊥
+version_not is same h = cc
+
+refused_not : {r : Result (Unit {0}) DeltaError} {e : DeltaError} → r ≡ Err e → e ≡ errors.Refused → r ≡ Err errors.OutOfMemory → ⊥
+refused_not is same h = cc
+
+failed_not : {r : Result (Unit {0}) DeltaError} {e : DeltaError} → r ≡ Err e → e ≡ errors.Failed → r ≡ Err errors.OutOfMemory → ⊥
+failed_not is same h = cc
+
+pub returns-in-Ok-clause-rest : goal.returns-in-Ok-clause-rest
+returns-in-Ok-clause-rest g c rest is =
+    let counts : c.args.delta.missing - length c.args.piece.now + length c.args.piece.now ≡ c.args.delta.missing = omega (arith, c.requires.fits) in
+    fed_rest c.args.delta.head.items c.args.delta.missing _ c.args.piece.now rest counts (λ i. let byte = c.type_inv.piece i in omega (arith, byte)) c.feed-fed.result c.args.delta.reader c.feed-fed.new.self (ok_not c.in-Ok.is) c.requires.counted
+    c.feed-fed.ensures.ok c.feed-fed.ensures.version c.feed-fed.ensures.refused c.feed-fed.ensures.failed c.feed-fed.ensures.err is
+
+pub returns-in-Version-clause-rest : goal.returns-in-Version-clause-rest
+returns-in-Version-clause-rest g c rest is =
+    let counts : c.args.delta.missing - length c.args.piece.now + length c.args.piece.now ≡ c.args.delta.missing = omega (arith, c.requires.fits) in
+    fed_rest c.args.delta.head.items c.args.delta.missing _ c.args.piece.now rest counts (λ i. let byte = c.type_inv.piece i in omega (arith, byte)) c.feed-fed.result c.args.delta.reader c.feed-fed.new.self (version_not c.in-Err.is c.in-Version.is) c.requires.counted
+    c.feed-fed.ensures.ok c.feed-fed.ensures.version c.feed-fed.ensures.refused c.feed-fed.ensures.failed c.feed-fed.ensures.err is
+
+pub returns-in-Refused-clause-rest : goal.returns-in-Refused-clause-rest
+returns-in-Refused-clause-rest g c rest is =
+    let counts : c.args.delta.missing - length c.args.piece.now + length c.args.piece.now ≡ c.args.delta.missing = omega (arith, c.requires.fits) in
+    fed_rest c.args.delta.head.items c.args.delta.missing _ c.args.piece.now rest counts (λ i. let byte = c.type_inv.piece i in omega (arith, byte)) c.feed-fed.result c.args.delta.reader c.feed-fed.new.self (refused_not c.in-Err.is c.in-Refused.is) c.requires.counted
+    c.feed-fed.ensures.ok c.feed-fed.ensures.version c.feed-fed.ensures.refused c.feed-fed.ensures.failed c.feed-fed.ensures.err is
+
+pub returns-in-Failed-clause-rest : goal.returns-in-Failed-clause-rest
+returns-in-Failed-clause-rest g c rest is =
+    let counts : c.args.delta.missing - length c.args.piece.now + length c.args.piece.now ≡ c.args.delta.missing = omega (arith, c.requires.fits) in
+    fed_rest c.args.delta.head.items c.args.delta.missing _ c.args.piece.now rest counts (λ i. let byte = c.type_inv.piece i in omega (arith, byte)) c.feed-fed.result c.args.delta.reader c.feed-fed.new.self (failed_not c.in-Err.is c.in-Failed.is) c.requires.counted
+    c.feed-fed.ensures.ok c.feed-fed.ensures.version c.feed-fed.ensures.refused c.feed-fed.ensures.failed c.feed-fed.ensures.err is
