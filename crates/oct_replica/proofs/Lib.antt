@@ -1,8 +1,15 @@
 mod Authors
+mod Beside
+mod Headline
+mod Inserting
 mod Lines
 mod Members
+mod Parts
 mod Places
 mod Rows
 mod Schedules
 mod Settled
+mod StateTexts
+mod Taking
 mod Worlds
+mod Written

@@ -20,11 +20,12 @@ use Rattle.oct_ops.specs.Body as kind
 use Rattle.oct_store.specs.Summary as summary
 use Rattle.oct_notes.specs.Notes.{live_notes}
 use Rattle.oct_verify.specs.Known.{known}
+use Rattle.oct_period.proofs.FarLaws as far
 use Rattle.oct_period.proofs.Statuses.{settled_claims_stay}
 use Rattle.oct_pages.specs.Catalogue.{Text, game_of, games, if_some, under, block_in, claim_in, blocks_of, claims_of, block_line, period_line, block_text, period_text, values_lines, game_text, heading, ending, game_lines, note_line, fork_line, author_line, lines}
 use Rattle.oct_replica.specs.Settled.{blocks_in, claims_in, BlockLinesStay, ClaimLinesStay}
 use Rattle.oct_replica.proofs.Members.{In, In-among, among-In, In-map, In-listed, Has-listed, any_source, any-In, equal}
-use Rattle.oct_replica.proofs.Settled.{In-filter_map, In-filter_map_source, block_stays, blocks_grow, start_some}
+use Rattle.oct_replica.proofs.Settled.{In-filter_map, In-filter_map_source, blocks_grow, claims_grow, claims_later, start_some}
 
 -- a list in order has what the list has
 pub In-arranged : {K : Type 0} {R : K → K → Ordering} (total : IsTotalOrder R) (exact : IsAntisymmetric R) (xs : List K) (x : K) → In x xs → In x (arranged R xs)
@@ -84,9 +85,8 @@ first_lines ops c = game_text c (known (game_blocks c ops)) ∷ values_lines (ni
 block_line_in : (ops : List Operation) (c : Code) (b : Dot × Block) → In b (blocks_of c ops) → In (block_line (game_blocks c ops) (game_claims c ops) b) (game_lines ops c)
 unfolding game_blocks game_claims first_lines
 block_line_in ops c b h =
-    let line = block_line (game_blocks c ops) (game_claims c ops) in
-    members.In-append_left (line b) (first_lines ops c ++ map line (blocks_of c ops)) (map (period_line (game_blocks c ops)) (claims_of c ops))
-    (members.In-append_right (line b) (first_lines ops c) (map line (blocks_of c ops)) (In-map line b (blocks_of c ops) h))
+    members.In-append_left (block_line (game_blocks c ops) (game_claims c ops) b) (first_lines ops c ++ map (block_line (game_blocks c ops) (game_claims c ops)) (blocks_of c ops)) (map (period_line (game_blocks c ops)) (claims_of c ops))
+    (members.In-append_right (block_line (game_blocks c ops) (game_claims c ops) b) (first_lines ops c) (map (block_line (game_blocks c ops) (game_claims c ops)) (blocks_of c ops)) (In-map (block_line (game_blocks c ops) (game_claims c ops)) b (blocks_of c ops) h))
 
 claim_line_in : (ops : List Operation) (c : Code) (p : Dot × Period) → In p (claims_of c ops) → In (period_line (game_blocks c ops) p) (game_lines ops c)
 unfolding game_blocks game_claims first_lines
@@ -100,7 +100,7 @@ block_lines_stay ops more c b valid sub among settled =
     let op = In-filter_map_source (block_in c) (listed ops) b (In-among (blocks_of c (listed ops)) b among) in
     let later : In op.0 (listed more) = In-listed more op.0 (sub op.0 (Has-listed ops op.0 op.1)) in
     let game = In-games c (listed more) op.0 later (block_game c op.0.dot op.0.body b op.2) in
-    let stays = block_stays c ops more b.1 valid sub settled in
+    let stays = far.settled_blocks_stay (blocks_in c ops) (blocks_in c more) (claims_in c ops) (claims_in c more) b.1 (blocks_grow c ops more sub) (claims_grow c ops more sub) (claims_later c ops valid) settled in
     let same : block_line (blocks_in c more) (claims_in c more) b ≡ block_line (blocks_in c ops) (claims_in c ops) b =
     ap (block_text b.0 b.1) stays in
     among-In (lines (listed more)) (block_line (blocks_in c ops) (claims_in c ops) b)
@@ -108,7 +108,7 @@ block_lines_stay ops more c b valid sub among settled =
     (game_line_in (listed more) c (block_line (blocks_in c more) (claims_in c more) b) game (block_line_in (listed more) c b (In-filter_map (block_in c) (listed more) op.0 b later op.2))))
 
 pub claim_lines_stay : ClaimLinesStay
-unfolding game_blocks
+unfolding game_blocks game_claims
 claim_lines_stay ops more c p valid sub among settled =
     let op = In-filter_map_source (claim_in c) (listed ops) p (In-among (claims_of c (listed ops)) p among) in
     let later : In op.0 (listed more) = In-listed more op.0 (sub op.0 (Has-listed ops op.0 op.1)) in

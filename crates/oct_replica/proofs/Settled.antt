@@ -1,23 +1,24 @@
 -- What is proved or refuted stays so when operations are added.
-use Rattle.std.proofs.Common.{◌≡◌, ◌≢◌, ℕ, ◌≤◌, Bool, true, false, cond, ◌||◌, ◌==◌, List, [], ◌∷◌, Option, Some, None, inl, inr, refl, sym, ap, ◌∙◌, subst, arith}
-use Rattle.std.specs.List.{All, Contains, filter_map, cons_option}
-use Rattle.std.proofs.lemmas.List.Elements.{All-weaker}
+use Rattle.std.proofs.Common.{◌≡◌, ℕ, ◌≤◌, Bool, true, false, cond, ◌||◌, ◌==◌, List, [], ◌∷◌, Option, Some, None, inl, inr, refl, sym, ap, ◌∙◌, subst, arith}
+use Rattle.std.specs.List.{All, AllByRecursion, Contains, filter_map, cons_option}
+use Rattle.std.proofs.lemmas.List.Elements.{All-from_recursion}
 use Rattle.std.proofs.lemmas.Bool.{cases_eq, eq-eqb, or_left}
-use Rattle.oct_code.specs.Code.{Code}
+use Rattle.oct_code.specs.Code.{Code, code_eq}
 use Rattle.oct_ops.specs.Operation.{Dot, Block, Period}
 use Rattle.oct_ops.specs.Operations.{Operations, IsSubset, listed}
-use Rattle.oct_ops.specs.Valid.{IsPeriod}
+use Rattle.oct_ops.specs.Body.{Body, Operation}
+use Rattle.oct_ops.specs.Body as kind
+use Rattle.oct_ops.specs.Valid.{IsBody, IsPeriod}
 use Rattle.oct_mex.proofs.Members as members
 use Rattle.oct_verify.specs.Laws.{AreAmong}
 use Rattle.oct_verify.specs.declared.status.Status.TheVariants as of_block
-use Rattle.oct_period.specs.FarBlocks.{block_status}
 use Rattle.oct_period.specs.FarLaws.{ClaimsAreAmong}
 use Rattle.oct_period.specs.Laws.{IsLater}
-use Rattle.oct_period.proofs.FarLaws as far
 use Rattle.oct_period.specs.declared.status.PeriodStatus.TheVariants as of_claim
+use Rattle.oct_period.proofs.FarLaws as far
 use Rattle.oct_period.proofs.Statuses as claims
-use Rattle.oct_pages.specs.Catalogue.{block_in, blocks_of, claim_in, claims_of}
-use Rattle.oct_replica.specs.Settled.{blocks_in, claims_in, SettledBlocksStay, SettledClaimsStay}
+use Rattle.oct_pages.specs.Catalogue.{block_in, blocks_of, claim_in, claims_of, if_some, under}
+use Rattle.oct_replica.specs.Settled.{AreValid, blocks_in, claims_in, SettledBlocksStay, SettledClaimsStay}
 use Rattle.oct_replica.proofs.Members.{In, In-among, among-In, In-map, Has-listed, In-listed}
 
 -- ---- parts of lists
@@ -54,6 +55,13 @@ blocks_grow c ops more sub b h =
     let stays : In pair.0 (blocks_of c (listed more)) = In-filter_map (block_in c) (listed more) op.0 pair.0 (In-listed more op.0 (sub op.0 (Has-listed ops op.0 op.1))) op.2 in
     contains-In (blocks_in c more) b (subst (λ a. In a (blocks_in c more)) (sym pair.2) (In-map (λ (q : Dot × Block). q.1) pair.0 (blocks_of c (listed more)) stays))
 
+pub claims_grow : (c : Code) (ops more : Operations) → IsSubset ops more → ClaimsAreAmong (claims_in c ops) (claims_in c more)
+claims_grow c ops more sub p h =
+    let pair = members.In-map_source (λ (q : Dot × Period). q.1) p (claims_of c (listed ops)) (In-contains (claims_in c ops) p h) in
+    let op = In-filter_map_source (claim_in c) (listed ops) pair.0 pair.1 in
+    let stays : In pair.0 (claims_of c (listed more)) = In-filter_map (claim_in c) (listed more) op.0 pair.0 (In-listed more op.0 (sub op.0 (Has-listed ops op.0 op.1))) op.2 in
+    contains-In (claims_in c more) p (subst (λ a. In a (claims_in c more)) (sym pair.2) (In-map (λ (q : Dot × Period). q.1) pair.0 (claims_of c (listed more)) stays))
+
 zero_fault : {E : Type 0} (fault : E) (b : Bool) (rest : Option E) → b ≡ true → cond b (Some fault) rest ≡ None → ⊥
 zero_fault fault true rest h none = cc
 zero_fault fault false rest h none = cc
@@ -65,25 +73,35 @@ start_some p valid = elim (cases_eq p.start 0) [
   | inl none ↦ absurd (zero_fault _ ((p.start == 0) || (p.period == 0)) _ (or_left (p.start == 0) (p.period == 0) (eq-eqb p.start 0 none)) valid.faultless)
 ]
 
-pub claims_grow : (c : Code) (ops more : Operations) → IsSubset ops more → ClaimsAreAmong (claims_in c ops) (claims_in c more)
-claims_grow c ops more sub p h =
-    let pair = members.In-map_source (λ (q : Dot × Period). q.1) p (claims_of c (listed ops)) (In-contains (claims_in c ops) p h) in
-    let op = In-filter_map_source (claim_in c) (listed ops) pair.0 pair.1 in
-    let stays : In pair.0 (claims_of c (listed more)) = In-filter_map (claim_in c) (listed more) op.0 pair.0 (In-listed more op.0 (sub op.0 (Has-listed ops op.0 op.1))) op.2 in
-    contains-In (claims_in c more) p (subst (λ a. In a (claims_in c more)) (sym pair.2) (In-map (λ (q : Dot × Period). q.1) pair.0 (claims_of c (listed more)) stays))
+-- what is found is the claim of the operation
+claim_of_if : (c : Code) (d : Dot) (t : Bool) (p : Period) (q : Dot × Period) → under d (if_some t p) ≡ Some q → p ≡ q.1
+claim_of_if c d true p q h = cc
+claim_of_if c d false p q h = cc
 
--- the status of a block that is not pending stays
-pub block_stays : (c : Code) (ops more : Operations) (b : Block) → All IsPeriod (claims_in c ops) → IsSubset ops more → block_status (blocks_in c ops) (claims_in c ops) b ≢ of_block.Pending
-    → block_status (blocks_in c more) (claims_in c more) b ≡ block_status (blocks_in c ops) (claims_in c ops) b
-block_stays c ops more b valid sub settled =
-    far.settled_blocks_stay (blocks_in c ops) (blocks_in c more) (claims_in c ops) (claims_in c more) b (blocks_grow c ops more sub) (claims_grow c ops more sub)
-    (All-weaker IsPeriod IsLater start_some (claims_in c ops) valid) settled
+claim_is_valid : (c : Code) (d : Dot) (body : Body) (q : Dot × Period) → IsBody body → claim_in c (record { dot = d; body = body }) ≡ Some q → IsPeriod q.1
+claim_is_valid c d (kind.Block b) q valid h = cc
+claim_is_valid c d (kind.Period p) q valid h = subst IsPeriod (claim_of_if c d (code_eq p.code c) p q h) valid
+claim_is_valid c d (kind.Note n) q valid h = cc
+claim_is_valid c d (kind.Removal r) q valid h = cc
+
+all_in : {X : Type 0} (P : X → Type 0) (xs : List X) → ((x : X) → In x xs → P x) → AllByRecursion P xs
+all_in P [] each = tt
+all_in P (x ∷ xs) each = (each x (inl refl), all_in P xs (λ y h. each y (inr h)))
+
+pub claims_later : (c : Code) (ops : Operations) → AreValid ops → All IsLater (claims_in c ops)
+claims_later c ops valid = All-from_recursion IsLater (claims_in c ops) (all_in IsLater (claims_in c ops) (λ p h.
+    let pair = members.In-map_source (λ (q : Dot × Period). q.1) p (claims_of c (listed ops)) h in
+    let op = In-filter_map_source (claim_in c) (listed ops) pair.0 pair.1 in
+    let is_op = valid op.0 (Has-listed ops op.0 op.1) in
+    start_some p (subst IsPeriod (sym pair.2) (claim_is_valid c op.0.dot op.0.body pair.0 is_op.body op.2))))
 
 pub settled_blocks_stay : SettledBlocksStay
-settled_blocks_stay ops more c b valid sub = record {
-  proved = λ is. block_stays c ops more b valid sub (λ pending. clash (sym is ∙ pending)) ∙ is;
-  refuted = λ place claimed truth is. block_stays c ops more b valid sub (λ pending. clash_refuted (sym is ∙ pending)) ∙ is;
-}
+settled_blocks_stay ops more c b valid sub =
+    let stays = far.settled_blocks_stay (blocks_in c ops) (blocks_in c more) (claims_in c ops) (claims_in c more) b (blocks_grow c ops more sub) (claims_grow c ops more sub) (claims_later c ops valid) in
+    record {
+      proved = λ is. stays (λ pending. clash (sym is ∙ pending)) ∙ is;
+      refuted = λ place claimed truth is. stays (λ pending. clash_refuted (sym is ∙ pending)) ∙ is;
+    }
   where
     clash : of_block.Proved ≡ of_block.Pending → ⊥
     clash e = cc

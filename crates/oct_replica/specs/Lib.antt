@@ -1,4 +1,10 @@
 pub use Rattle.oct_ops.specs.Operations
 pub use Rattle.oct_store.specs.Summary
+pub mod Beside
+pub mod Content
+pub mod Headline
+pub mod Kept
 pub mod Settled
+pub mod States
+pub mod Taking
 pub mod World

@@ -1,7 +1,21 @@
-//! What holds of any replicas after any events, whatever was lost, repeated, reordered or cut.
+//! What holds of any replicas, whatever was handed to them, lost, repeated, reordered or cut.
 
+ghost use Rattle.oct_replica.specs.Headline.{UnionIsPrinted, SameIsPrinted, ShownValuesAreNimValues, NimValuesAreTheSequence, RefutedAtFirstWrong, RefutedAtFirstBreak, ProvedPeriodsHold};
 ghost use Rattle.oct_replica.specs.World.{EachIsIssued, NoForks, EqualClocksEqualSets, EqualClocksEqualCatalogues, AbroadIsSaved};
 ghost use Rattle.oct_replica.specs.Settled.{SettledBlocksStay, SettledClaimsStay, BlockLinesStay, ClaimLinesStay};
+
+/// For every list of byte strings handed to a replica, its catalogue is the one defined for the union of their operations,
+/// so replicas that took the same operations in any order, batching and repetition print identical bytes; there every value
+/// shown is the game's mex value, every refutation names the first wrong place, and every proved period holds for all heaps.
+pub fn same_operations_same_bytes()
+    ensures union { UnionIsPrinted }
+    ensures same { SameIsPrinted }
+    ensures values { ShownValuesAreNimValues }
+    ensures mex { NimValuesAreTheSequence }
+    ensures blocks { RefutedAtFirstWrong }
+    ensures claims { RefutedAtFirstBreak }
+    ensures periods { ProvedPeriodsHold }
+{}
 
 /// Each operation in a set, a saved set or a packet was issued by the author that it names.
 pub fn each_is_issued()

@@ -1,9 +1,32 @@
 //! Replicas of a census: an author and a set of operations, which is saved, sent, taken in and joined.
 //!
+//!     let mut replica = Replica::new(alloc, 7)?;
+//!     replica.take(bytes)?;                 // takes in a delta, and says how many operations were new
+//!     replica.issue(body)                   // the dot of the author's next operation
+//!     replica.join(&other)?;                // the union
+//!     replica.value(kayles, &[5, 6])        // the exclusive or of the heaps' nim-values
+//!     replica.catalogue(&mut out)?;         // all that is known, as text
+//!     replica.save(&mut out)?;              // `OGS1`, the author, and the delta of all operations
+//!     Replica::load(alloc, &out)?           // the replica again
+//!
+//! Beside the set a replica keeps its games and its notes, so `take` costs only what the new operations cost, and `game`,
+//! `value` and `outcome` take no memory. Store, games and notes agree at the end of every call, also of a refused one.
+//!
 //! Replicas act apart, and what they send may be lost, repeated, reordered or cut; they stop and begin again from what
 //! they last saved. `specs/World` says what may happen in a world of such replicas, event by event, and what then holds
 //! after any events: each operation was issued by the author that it names, no dot has two contents, and replicas with
-//! equal clocks and no gaps hold the same set. `laws` states this of every number of replicas and every list of events.
+//! equal clocks and no gaps hold the same set. `laws` states this of every number of replicas and every list of events,
+//! and that replicas which took the same operations print the same bytes.
 #![tactic(auto)]
 
+mod error;
+mod games;
 pub mod laws;
+mod replica;
+mod state;
+
+pub use error::{AuthorError, IssueError, LoadError, TakeError};
+pub use replica::Replica;
+
+#[cfg(test)]
+mod tests;

@@ -1,0 +1,214 @@
+-- Games and notes beside a set, after an insertion.
+use Rattle.std.proofs.Common.{◌≡◌, Bool, true, false, not, ◌&&◌, ◌||◌, cond, List, [], ◌∷◌, Option, Some, None, refl, sym, ap, ◌∙◌, subst}
+use Rattle.std.specs.Prelude.{IfSome}
+use Rattle.std.specs.List.{list_any, filter, filter_map, cons_option}
+use Rattle.std.specs.Ordering.{eq_by_cmp}
+use Rattle.std.specs.Cmp.{Equal-is}
+use Rattle.std.specs.BTreeSet.{insert_key}
+use Rattle.oct_code.specs.Code.{Code, code_cmp, code_eq}
+use Rattle.oct_code.specs.CodeOrder.{code_cmp_exact}
+use Rattle.oct_ops.specs.Body as kind
+use Rattle.oct_ops.specs.Body.{Body, Operation}
+use Rattle.oct_ops.specs.Operation.{Dot, Block, Period}
+use Rattle.oct_ops.specs.Operations.{Operations, contains, empty, insert, listed, remove}
+use Rattle.oct_ops.specs.Order.{op_cmp}
+use Rattle.oct_ops.specs.OrderLaws.{op_cmp_total, op_cmp_exact}
+use Rattle.oct_ops.specs.Sets as sets
+use Rattle.oct_ops.specs.SetLaws.{contains-insert, contains-remove, listed-empty, listed-insert, same_set}
+use Rattle.oct_store.specs.Summary.{of_code}
+use Rattle.oct_notes.specs.Notes.{concerns_notes, notes_of}
+use Rattle.oct_verify.specs.Filing.{filing_cmp}
+use Rattle.oct_verify.specs.FilingLaws.{filing_cmp_total, filing_cmp_exact}
+use Rattle.oct_period.specs.Claims.{claim_cmp}
+use Rattle.oct_period.specs.ClaimLaws.{claim_cmp_total, claim_cmp_exact}
+use Rattle.oct_period.specs.GameContent.{GameContent}
+use Rattle.oct_pages.specs.Catalogue.{blocks_of, block_in, claims_of, claim_in, if_some, under}
+use Rattle.oct_replica.specs.Beside.{Games, content_in, has_game, game_in, AreBeside, HasOwnCode, new_game, game_at, with_block, with_period, filed, noted}
+use Rattle.oct_replica.proofs.Inserting.{insert_option, filter_map-insert, if_true, filter-map, any-insert}
+
+-- ---- the empty set
+
+no_blocks : (c : Code) → has_game empty c ≡ false
+no_blocks c = ap (list_any (of_code c)) (listed-empty op_cmp_total op_cmp_exact)
+
+pub beside_nothing : (found : Games) (held : Operations) → ((c : Code) → found c ≡ None) → held ≡ empty → AreBeside empty found held
+beside_nothing found held none no_notes = record {
+  games = λ c. none c ∙ ap (λ b. cond b (Some (content_in empty c)) None) (sym (no_blocks c));
+  notes = no_notes ∙ sym (ap (λ ops. sets.set_of (filter (λ (o : Operation). concerns_notes o.body) ops)) (listed-empty op_cmp_total op_cmp_exact));
+}
+
+-- ---- the code of a game
+
+own_code : (ops : Operations) (c : Code) (b : Bool) → IfSome (cond b (Some (content_in ops c)) None) (λ (game : GameContent). game.code ≡ c)
+own_code ops c true = refl
+own_code ops c false = tt
+
+pub own_codes : (ops : Operations) (found : Games) (held : Operations) → AreBeside ops found held → HasOwnCode found
+own_codes ops found held beside c = subst (λ o. IfSome o (λ (game : GameContent). game.code ≡ c)) (sym (beside.games c)) (own_code ops c (has_game ops c))
+
+-- ---- a game that is changed where it is found
+
+pub put_back : (old : Games) (code : Code) (held new : GameContent) → Some held ≡ old code → new ≡ held → (q : Code) → cond (eq_by_cmp code_cmp code q) (Some new) (old q) ≡ old q
+put_back old code held new found same q =
+    elim (eq_by_cmp code_cmp code q) as (λ b. eq_by_cmp code_cmp code q ≡ b → cond b (Some new) (old q) ≡ old q) [
+      | true ↦ λ tied. ap Some same ∙ found ∙ ap old (code_cmp_exact code q ((Equal-is (code_cmp code q)).0 tied))
+      | false ↦ λ _. refl
+    ] refl
+
+-- ---- the games of a set
+
+left_false : (a b : Bool) → (a || b) ≡ false → a ≡ false
+left_false true b h = cc
+left_false false b h = refl
+
+right_false : (a b : Bool) → (a || b) ≡ false → b ≡ false
+right_false true b h = cc
+right_false false b h = h
+
+-- an operation of no part in the game
+no_block : (c : Code) (o : Operation) → of_code c o ≡ false → block_in c o ≡ None
+no_block c o h = by o.dot o.body h
+  where
+    test : (d : Dot) (b : Block) (t : Bool) → t ≡ false → under d (if_some t b) ≡ None
+    test d b true e = cc
+    test d b false e = refl
+
+    by : (d : Dot) (body : Body) → of_code c (record { dot = d; body = body }) ≡ false → block_in c (record { dot = d; body = body }) ≡ None
+    by d (kind.Block b) e = test d b (code_eq b.code c) e
+    by d (kind.Period p) e = refl
+    by d (kind.Note n) e = refl
+    by d (kind.Removal r) e = refl
+
+no_claim : (c : Code) (o : Operation) → of_code c o ≡ false → claim_in c o ≡ None
+no_claim c o h = by o.dot o.body h
+  where
+    test : (d : Dot) (p : Period) (t : Bool) → t ≡ false → under d (if_some t p) ≡ None
+    test d p true e = cc
+    test d p false e = refl
+
+    by : (d : Dot) (body : Body) → of_code c (record { dot = d; body = body }) ≡ false → claim_in c (record { dot = d; body = body }) ≡ None
+    by d (kind.Block b) e = refl
+    by d (kind.Period p) e = test d p (code_eq p.code c) e
+    by d (kind.Note n) e = refl
+    by d (kind.Removal r) e = refl
+
+none_of : {X : Type 0} (c : Code) (f : Operation → Option X) → ((o : Operation) → of_code c o ≡ false → f o ≡ None) → (ops : List Operation) → list_any (of_code c) ops ≡ false → filter_map f ops ≡ []
+none_of c f none [] h = refl
+none_of c f none (o ∷ ops) h =
+    (λ i. cons_option (none o (left_false (of_code c o) (list_any (of_code c) ops) h) i) (none_of c f none ops (right_false (of_code c o) (list_any (of_code c) ops) h) i))
+
+no_game : (ops : Operations) (c : Code) → has_game ops c ≡ false → content_in ops c ≡ new_game c
+no_game ops c none = λ i. record {
+  code = c;
+  blocks = sets.set_of (none_of c (block_in c) (no_block c) (listed ops) none i);
+  claims = sets.set_of (none_of c (claim_in c) (no_claim c) (listed ops) none i);
+}
+
+game_at-in : (ops : Operations) (c : Code) → game_at (game_in ops) c ≡ content_in ops c
+game_at-in ops c = by (has_game ops c) refl
+  where
+    by : (b : Bool) → has_game ops c ≡ b → Rattle.std.specs.Prelude.unwrap_or (cond b (Some (content_in ops c)) None) (new_game c) ≡ content_in ops c
+    by true e = refl
+    by false e = sym (no_game ops c e)
+
+-- ---- a game after an insertion
+
+abbrev grown : Operations → Operation → Code → GameContent
+grown ops o c = record {
+  code = c;
+  blocks = insert_option (sets.set_of (blocks_of c (listed ops))) (block_in c o);
+  claims = insert_option (sets.set_of (claims_of c (listed ops))) (claim_in c o);
+}
+
+content-insert : (ops : Operations) (o : Operation) (c : Code) → content_in (insert ops o) c ≡ grown ops o c
+content-insert ops o c =
+    let rows = listed-insert op_cmp_total op_cmp_exact ops o in
+    let blocks : sets.set_of {R = filing_cmp} (blocks_of c (listed (insert ops o))) ≡ insert_option (sets.set_of (blocks_of c (listed ops))) (block_in c o) =
+    ap (λ xs. sets.set_of (blocks_of c xs)) rows ∙ filter_map-insert op_cmp_exact filing_cmp_total filing_cmp_exact (block_in c) (listed ops) o in
+    let claims : sets.set_of {R = claim_cmp} (claims_of c (listed (insert ops o))) ≡ insert_option (sets.set_of (claims_of c (listed ops))) (claim_in c o) =
+    ap (λ xs. sets.set_of (claims_of c xs)) rows ∙ filter_map-insert op_cmp_exact claim_cmp_total claim_cmp_exact (claim_in c) (listed ops) o in
+    λ i. record { code = c; blocks = blocks i; claims = claims i }
+
+has_game-insert : (ops : Operations) (o : Operation) (c : Code) → has_game (insert ops o) c ≡ (of_code c o || has_game ops c)
+has_game-insert ops o c = ap (list_any (of_code c)) (listed-insert op_cmp_total op_cmp_exact ops o) ∙ any-insert op_cmp_exact (of_code c) (listed ops) o
+
+game_in-insert : (ops : Operations) (o : Operation) (c : Code) → game_in (insert ops o) c ≡ cond (of_code c o || has_game ops c) (Some (grown ops o c)) None
+game_in-insert ops o c = λ i. cond (has_game-insert ops o c i) (Some (content-insert ops o c i)) None
+
+-- what was put in, by whether it is of the game
+block_next : (ops : Operations) (d : Dot) (b : Block) (q : Code) (t : Bool) → code_eq b.code q ≡ t
+    → cond t (Some (with_block (game_at (game_in ops) b.code) d b)) (game_in ops q)
+    ≡ cond (t || has_game ops q) (Some (record { code = q; blocks = insert_option (sets.set_of (blocks_of q (listed ops))) (under d (if_some t b)); claims = sets.set_of (claims_of q (listed ops)) })) None
+block_next ops d b q true tied =
+    let same : b.code ≡ q = code_cmp_exact b.code q ((Equal-is (code_cmp b.code q)).0 tied) in
+    ap (λ game. Some (with_block game d b)) (game_at-in ops b.code) ∙ ap (λ c. Some (with_block (content_in ops c) d b)) same
+block_next ops d b q false apart = refl
+
+claim_next : (ops : Operations) (d : Dot) (p : Period) (q : Code) (t : Bool) → code_eq p.code q ≡ t
+    → cond t (Some (with_period (game_at (game_in ops) p.code) d p)) (game_in ops q)
+    ≡ cond (t || has_game ops q) (Some (record { code = q; blocks = sets.set_of (blocks_of q (listed ops)); claims = insert_option (sets.set_of (claims_of q (listed ops))) (under d (if_some t p)) })) None
+claim_next ops d p q true tied =
+    let same : p.code ≡ q = code_cmp_exact p.code q ((Equal-is (code_cmp p.code q)).0 tied) in
+    ap (λ game. Some (with_period game d p)) (game_at-in ops p.code) ∙ ap (λ c. Some (with_period (content_in ops c) d p)) same
+claim_next ops d p q false apart = refl
+
+filed_next : (ops : Operations) (d : Dot) (body : Body) (q : Code) → filed (game_in ops) d body q ≡ cond (of_code q (record { dot = d; body = body }) || has_game ops q) (Some (grown ops (record { dot = d; body = body }) q)) None
+filed_next ops d (kind.Block b) q = block_next ops d b q (code_eq b.code q) refl
+filed_next ops d (kind.Period p) q = claim_next ops d p q (code_eq p.code q) refl
+filed_next ops d (kind.Note n) q = refl
+filed_next ops d (kind.Removal r) q = refl
+
+notes-insert : (ops : Operations) (o : Operation) → notes_of (insert ops o) ≡ noted (notes_of ops) o
+notes-insert ops o =
+    let p : Operation → Bool = λ (x : Operation). concerns_notes x.body in
+    ap (λ xs. sets.set_of (filter p xs)) (listed-insert op_cmp_total op_cmp_exact ops o)
+    ∙ ap sets.set_of (filter-map p (insert_key op_cmp (listed ops) o))
+    ∙ filter_map-insert op_cmp_exact op_cmp_total op_cmp_exact (λ x. if_true (p x) x) (listed ops) o
+    ∙ ap (λ xs. insert_option (sets.set_of xs) (if_true (p o) o)) (sym (filter-map p (listed ops)))
+    ∙ by (p o)
+  where
+    by : (b : Bool) → insert_option (notes_of ops) (if_true b o) ≡ cond b (insert (notes_of ops) o) (notes_of ops)
+    by true = refl
+    by false = refl
+
+-- games and notes after an operation was put into each of the three
+pub beside_more : (ops : Operations) (old new : Games) (held more : Operations) (o : Operation) → AreBeside ops old held
+    → ((q : Code) → new q ≡ filed old o.dot o.body q) → more ≡ noted held o → AreBeside (insert ops o) new more
+beside_more ops old new held more o beside games notes = record {
+  games = λ q.
+      let are : old ≡ game_in ops = λ i c. beside.games c i in
+      games q ∙ ap (λ found. filed found o.dot o.body q) are ∙ filed_next ops o.dot o.body q ∙ sym (game_in-insert ops o q);
+  notes = notes ∙ ap (λ n. noted n o) beside.notes ∙ sym (notes-insert ops o);
+}
+
+-- games and notes that are what they were
+pub beside_same : (ops : Operations) (old new : Games) (held more : Operations) → AreBeside ops old held → ((q : Code) → new q ≡ old q) → more ≡ held → AreBeside ops new more
+beside_same ops old new held more beside games notes = record { games = λ q. games q ∙ beside.games q; notes = notes ∙ beside.notes }
+
+-- ---- an operation that is taken out again
+
+taken_out : (e h : Bool) → (e ≡ true → h ≡ false) → (not e && (e || h)) ≡ h
+taken_out true h absent = sym (absent refl)
+taken_out false h absent = refl
+
+pub remove-insert : (ops : Operations) (o : Operation) → contains ops o ≡ false → remove (insert ops o) o ≡ ops
+remove-insert ops o absent = same_set op_cmp_total op_cmp_exact (remove (insert ops o) o) ops (λ p.
+    contains-remove op_cmp_total op_cmp_exact (insert ops o) o p
+    ∙ ap (λ b. not (eq_by_cmp op_cmp p o) && b) (contains-insert op_cmp_total op_cmp_exact ops o p)
+    ∙ taken_out (eq_by_cmp op_cmp p o) (contains ops p) (λ tied. ap (contains ops) (op_cmp_exact p o ((Equal-is (op_cmp p o)).0 tied)) ∙ absent))
+
+-- ---- the game that is found
+
+pub found_is : (ops : Operations) (c : Code) (game : GameContent) → Some game ≡ game_in ops c → game ≡ content_in ops c
+found_is ops c game found = by (has_game ops c) found
+  where
+    by : (b : Bool) → Some game ≡ cond b (Some (content_in ops c)) None → game ≡ content_in ops c
+    by true e = cc
+    by false e = cc
+
+pub none_is : (ops : Operations) (c : Code) → None ≡ game_in ops c → new_game c ≡ content_in ops c
+none_is ops c none = by (has_game ops c) refl
+  where
+    by : (b : Bool) → has_game ops c ≡ b → new_game c ≡ content_in ops c
+    by false e = sym (no_game ops c e)
+    by true e = let clash : None ≡ Some (content_in ops c) = none ∙ ap (λ b. cond b (Some (content_in ops c)) None) e in cc

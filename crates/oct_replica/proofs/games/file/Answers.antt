@@ -1,0 +1,14 @@
+use Rattle.std.proofs.Common.{sym, ap, ◌∙◌}
+use Rattle.std.proofs.lemmas.Result.{on_ok_weaker}
+use Rattle.std.specs.BTreeMap as tree
+use Rattle.oct_code.specs.Code.{code_cmp}
+use Rattle.oct_ops.specs.Body as kind
+use Rattle.oct_ops.specs.Views.{content}
+use Rattle.oct_replica.specs.Beside.{filed}
+use Rattle.oct_replica.proofs.games.file.Goals as goal
+
+pub returns-in_ok-copy-in-Block-clause-games : goal.returns-in_ok-copy-in-Block-clause-games
+returns-in_ok-copy-in-Block-clause-games g c =
+    let found = tree.get code_cmp c.args.games.now in
+    let body = sym (sym c.body.ensures.value ∙ ap content c.in-Block.is ∙ ap kind.Block (sym c.in_ok-copy-in-Block.ensures)) in
+    on_ok_weaker c.file_block.result (λ more q. more q ∙ (λ i. filed found (c.dot.ensures.value i) (body i) q)) c.file_block.ensures.ok

@@ -1,0 +1,34 @@
+use Rattle.std.proofs.Common.{refl, sym, ap, subst, ◌∙◌}
+use Rattle.oct_ops.specs.Operations.{Operations, IsSubset, union}
+use Rattle.oct_ops.specs.OrderLaws.{op_cmp_total, op_cmp_exact}
+use Rattle.oct_join.specs.Order.{IsBetween}
+use Rattle.oct_join.proofs.SetMerging.{joins_start, joins_next, joins_done, joins_between}
+use Rattle.oct_replica.specs.Content.{ReplicaContent}
+use Rattle.oct_replica.proofs.replica.Replica.join.Goals as goal
+
+pub loop-op-init : goal.loop-op-init
+loop-op-init g c = record {
+  along =
+      joins_start op_cmp_total op_cmp_exact c.args.self.now.ops c.args.other.now.ops c.into_iter-op-iterator.result
+      (c.into_iter-op-iterator.ensures.into_iter_gives ∙ c.iter-op-items.ensures ∙ ap (λ (r : ReplicaContent). Rattle.oct_ops.specs.Operations.listed r.ops) c.other.view_is);
+  author = refl;
+}
+
+pub loop-op-preserved : goal.loop-op-preserved
+loop-op-preserved g c = record {
+  along =
+      joins_next op_cmp_total op_cmp_exact c.args.self.now.ops c.args.other.now.ops c.loop-op.self.ops c.add.new.self.ops c.loop-op.op-iterator c.in-Some.op.now c.next.new.self c.in-Some.ensures.steps
+      (ap (λ (r : ReplicaContent). r.ops) c.in_ok-add.ensures.ok) c.loop-op.invariant.along;
+  author = ap (λ (r : ReplicaContent). r.author) c.in_ok-add.ensures.ok ∙ c.loop-op.invariant.author;
+}
+
+pub returns-in_err-add-clause-between : goal.returns-in_err-add-clause-between
+returns-in_err-add-clause-between g c =
+    subst (λ (r : ReplicaContent). IsBetween IsSubset c.args.self.now.ops r.ops (union c.args.self.now.ops c.args.other.now.ops)) (sym c.in_err-add.ensures.err)
+    (joins_between op_cmp_total op_cmp_exact c.args.self.now.ops c.args.other.now.ops c.loop-op.self.ops c.loop-op.op-iterator c.loop-op.invariant.along)
+
+pub returns-clause-ok : goal.returns-clause-ok
+returns-clause-ok g c = joins_done op_cmp_total op_cmp_exact c.args.self.now.ops c.args.other.now.ops c.loop-op.self.ops c.loop-op.op-iterator c.in-None.ensures.steps.0 c.loop-op.invariant.along
+
+pub returns-clause-between : goal.returns-clause-between
+returns-clause-between g c = joins_between op_cmp_total op_cmp_exact c.args.self.now.ops c.args.other.now.ops c.loop-op.self.ops c.loop-op.op-iterator c.loop-op.invariant.along

@@ -1,0 +1,24 @@
+use Rattle.std.proofs.Common.{◌≡◌, IsSome, refl, sym, ap, subst, ◌∙◌}
+use Rattle.std.proofs.lemmas.Result.{IfOk-weaker, IfErr-weaker, on_ok_weaker}
+use Rattle.oct_ops.specs.Operations.{listed}
+use Rattle.oct_delta.specs.Taken.{operations_of}
+use Rattle.oct_replica.specs.Taking.{count_new, IsCutBy, LeavesAt}
+use Rattle.oct_replica.proofs.Taking.{cut_leaves, none_taken, read_list}
+use Rattle.oct_replica.proofs.replica.Replica.take.Goals as goal
+
+pub returns-in-Ok-clause-new : goal.returns-in-Ok-clause-new
+returns-in-Ok-clause-new g c =
+    IfOk-weaker c.take_list.result (λ n. n ≡ count_new c.args.self.now.ops c.in-Ok.list) (λ n. n ≡ count_new c.args.self.now.ops (listed (operations_of c.args.bytes.now)))
+    (λ n is. is ∙ ap (count_new c.args.self.now.ops) (sym (read_list c.args.bytes.now c.in-Ok.list c.in-Ok.ensures.ok c.in-Ok.ensures.read))) c.take_list.ensures.new
+
+pub returns-in-Ok-clause-text : goal.returns-in-Ok-clause-text
+returns-in-Ok-clause-text g c = on_ok_weaker c.take_list.result (λ _. subst IsSome (sym c.in-Ok.ensures.read) refl) c.take_list.ensures.ok
+
+pub returns-in-Ok-clause-err : goal.returns-in-Ok-clause-err
+returns-in-Ok-clause-err g c =
+    IfErr-weaker c.take_list.result (IsCutBy c.args.self.now c.take_list.new.self c.in-Ok.list) (LeavesAt c.args.self.now c.take_list.new.self (listed (operations_of c.args.bytes.now)))
+    (λ e cut. cut_leaves c.args.self.now c.take_list.new.self c.in-Ok.list (listed (operations_of c.args.bytes.now)) (read_list c.args.bytes.now c.in-Ok.list c.in-Ok.ensures.ok c.in-Ok.ensures.read) e cut)
+    c.take_list.ensures.err
+
+pub returns-in-Err-OutOfMemory-clause-err : goal.returns-in-Err-OutOfMemory-clause-err
+returns-in-Err-OutOfMemory-clause-err g c = none_taken c.args.self.now (listed (operations_of c.args.bytes.now))

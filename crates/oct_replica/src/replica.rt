@@ -1,0 +1,347 @@
+//! A replica of a census.
+
+ghost use Rattle.std.specs.Prelude.{◌≡◌, ◌↔◌, ◌≤◌, ◌<◌, ◌^◌, ◌++◌, not, length, true, false, None, List, IsTrue, IsSome, IsNone, IfSome, IfOk, IfErr, OnOk, OnErr, IsErrOf};
+ghost use Rattle.std.specs.Option.{option_copied};
+ghost use Rattle.oct_mex.specs.NimValues.{position_value as nim_sum};
+ghost use Rattle.oct_ops.specs.Body.{Operation};
+ghost use Rattle.oct_ops.specs.Operation.{dot_of};
+ghost use Rattle.oct_ops.specs.Operations.{empty, insert, contains, listed, set_of, union, IsSubset};
+ghost use Rattle.oct_ops.specs.Valid.{IsU32};
+ghost use Rattle.oct_ops.specs.Views.{content};
+ghost use Rattle.oct_join.specs.Order.{IsBetween};
+ghost use Rattle.oct_delta.specs.Decoding.{format_at, read_delta};
+ghost use Rattle.oct_delta.specs.Delta.{encoded, IsDeltaText};
+ghost use Rattle.oct_delta.specs.State.{IsState};
+ghost use Rattle.oct_delta.specs.Taken.{operations_of};
+ghost use Rattle.oct_store.specs.Summary as summary;
+ghost use Rattle.oct_verify.specs.Filing.{blocks_in};
+ghost use Rattle.oct_period.specs.Claims.{claims_in};
+ghost use Rattle.oct_period.specs.Outcomes.{outcome, IsOutcomeOf};
+ghost use Rattle.oct_period.specs.Periods.{position_value};
+ghost use Rattle.oct_pages.specs.Catalogue.{catalogue, has_page, page as page_text};
+ghost use Rattle.oct_pages.specs.Parts.{AreParts};
+ghost use Rattle.oct_replica.specs.Beside.{content_in, game_in};
+ghost use Rattle.oct_replica.specs.States.{state_text, RefusesState};
+ghost use Rattle.oct_replica.specs.Taking.{count_new, issue_error, with_all, IsCutBy, LeavesAt};
+ghost use Rattle.oct_replica.specs.World.{has_number, next_op};
+
+use crate::error::{AuthorError, IssueError, LoadError, TakeError};
+use crate::games::file;
+use crate::state::{decode_list, put_state, restored, split_state};
+use oct_code::Code;
+use oct_delta::{DeltaError, EncodeError, decode, encode};
+use oct_join::Clock;
+use oct_notes::Notes;
+use oct_ops::{Body, Dot, Op, OpList};
+use oct_pages::{Parts, write_catalogue, write_page};
+use oct_period::{Game, Outcome, Unknown};
+use oct_store::Store;
+use std::alloc::{AllocError, Allocator};
+use std::collections::BTreeMap;
+use std::marker::Model;
+
+/// An author and a set of operations, in memory of `A`. Beside the set it keeps the games and the notes of the set, so
+/// that no answer has to read the whole set.
+#[derive(Drop)]
+pub struct Replica<A: Allocator + Copy> {
+    author: u32,
+    store: Store<A>,
+    games: BTreeMap<Code, Game<A>, A>,
+    notes: Notes<A>,
+    alloc: A,
+}
+
+impl<A: Allocator + Copy> Model for Replica<A> {
+    ghost use Rattle.oct_replica.specs.Content.{ReplicaContent, replica_code};
+
+    ghost Value = { ReplicaContent };
+
+    ghost coded = { replica_code };
+
+    ghost use Rattle.oct_replica.specs.Kept.{content_of, IsReplica};
+
+    ghost view = { content_of };
+
+    ghost invariant = { IsReplica };
+}
+
+impl<A: Allocator + Copy> Replica<A> {
+    /// The replica of this author without operations, which will grow in memory of `alloc`. The answer is `Zero` exactly
+    /// where the author is 0. Takes no memory.
+    pub fn new(alloc: A, author: u32) -> Result<Replica<A>, AuthorError>
+        ensures ok { IfOk result (λ replica. replica ≡ record { author = author; ops = empty }) }
+        ensures accepted { OnOk result (1 ≤ author) }
+        ensures refused { OnErr result (author ≡ 0) }
+    {
+        if author == 0 {
+            return Err(AuthorError::Zero);
+        }
+        Ok(Replica {
+            author,
+            store: Store::new(alloc),
+            games: BTreeMap::new(alloc),
+            notes: Notes::new(alloc),
+            alloc,
+        })
+    }
+
+    /// The author of what the replica issues, at least 1.
+    pub fn author(&self) -> u32
+        ensures value { result ≡ self.now.author }
+        ensures valid { (1 ≤ self.now.author) × IsU32 self.now.author }
+    {
+        self.author
+    }
+
+    /// How many operations there are.
+    pub fn len(&self) -> usize
+        ensures { result ≡ length (listed self.now.ops) }
+    {
+        self.store.len()
+    }
+
+    /// Whether there is no operation.
+    pub fn is_empty(&self) -> bool
+        ensures { IsTrue result ↔ (length (listed self.now.ops) ≡ 0) }
+    {
+        self.len() == 0
+    }
+
+    /// Takes in the operations that the bytes spell, and says how many of them are new. The answer is `Version` exactly
+    /// where the first four bytes are no tag of a delta, and `Refused` exactly for any other bytes that are no delta; then
+    /// nothing changes. Where memory is refused, the answer says how many operations, from the first on, are in, held
+    /// before or not; no other was added.
+    pub fn take(&mut self, bytes: &[u8]) -> Result<u32, TakeError>
+        ensures ok { OnOk result (self.new ≡ with_all self.old (operations_of bytes.now)) }
+        ensures new { IfOk result (λ new. new ≡ count_new self.old.ops (listed (operations_of bytes.now))) }
+        ensures text { OnOk result (IsSome (read_delta bytes.now)) }
+        ensures version { IsErrOf result TakeError.Version ↔ (format_at bytes.now ≡ None) }
+        ensures refused { IsErrOf result TakeError.Refused ↔ (IsSome (format_at bytes.now) × ((ops : List Operation) → ¬ IsDeltaText bytes.now ops)) }
+        ensures err { IfErr result (LeavesAt self.old self.new (listed (operations_of bytes.now))) }
+    {
+        match decode(self.alloc, bytes) {
+            Ok(list) => self.take_list(list),
+            Err(DeltaError::Version) => Err(TakeError::Version),
+            Err(DeltaError::Refused | DeltaError::Failed) => Err(TakeError::Refused),
+            Err(DeltaError::OutOfMemory) => Err(TakeError::OutOfMemory { done: 0 }),
+        }
+    }
+
+    /// Takes in the operations of a list, and says how many of them are new. Where memory is refused, the answer says how
+    /// many operations, from the first on, are in, held before or not; no other was added.
+    pub fn take_list(&mut self, list: OpList<A>) -> Result<u32, TakeError>
+        requires { length list < 2 ^ 32 }
+        ensures ok { OnOk result (self.new ≡ with_all self.old (set_of list)) }
+        ensures new { IfOk result (λ new. new ≡ count_new self.old.ops list) }
+        ensures err { IfErr result (IsCutBy self.old self.new list) }
+    {
+        let mut done = 0;
+        let mut new = 0;
+        let ops = list.as_slice();
+        for op in ops {
+            let Ok(is_new) = self.add(op) else {
+                return Err(TakeError::OutOfMemory { done });
+            };
+            if is_new {
+                new += 1;
+            }
+            done += 1;
+        }
+        Ok(new)
+    }
+
+    /// Takes in the operations of another replica; the author stays. After a refusal the set is one between the old set and
+    /// the union.
+    pub fn join(&mut self, other: &Replica<A>) -> Result<(), AllocError>
+        ensures ok { OnOk result (self.new.ops ≡ union self.old.ops other.now.ops) }
+        ensures author { self.new.author ≡ self.old.author }
+        ensures between { IsBetween IsSubset self.old.ops self.new.ops (union self.old.ops other.now.ops) }
+    {
+        for op in other.store.iter() {
+            self.add(op)?;
+        }
+        Ok(())
+    }
+
+    /// Issues an operation of this body under the author's next number, the one after its greatest, and answers its dot.
+    /// The first refusal is `LastNumber`, exactly where the greatest number is 4,294,967,295. After a refusal nothing
+    /// changes, and the body comes back. This is one pass over the set.
+    pub fn issue(&mut self, body: Body<A>) -> Result<Dot, (IssueError, Body<A>)>
+        ensures dot { IfOk result (λ dot. dot ≡ (next_op self.old.ops self.old.author (content body)).dot) }
+        ensures ok { OnOk result (self.new ≡ record self.old { ops = insert self.old.ops (next_op self.old.ops self.old.author (content body)) }) }
+        ensures room { OnOk result (has_number self.old.ops self.old.author ≡ true) }
+        ensures error { IfErr result (λ refused. refused.0 ≡ issue_error (has_number self.old.ops self.old.author)) }
+        ensures err { OnErr result (self.new ≡ self.old) }
+        ensures returned { IfErr result (λ refused. content refused.1 ≡ content body) }
+    {
+        let last = self.store.last(self.author);
+        if last == u32::MAX {
+            return Err((IssueError::LastNumber, body));
+        }
+        let op = Op::new(own_dot(self.author, last + 1), body);
+        match self.add(&op) {
+            Ok(_) => Ok(op.dot()),
+            Err(_) => Err((IssueError::OutOfMemory, op.into_body())),
+        }
+    }
+
+    /// For each author the number through which all of its operations are here, from the first on. This is one pass over
+    /// the set.
+    pub fn clock(&self) -> Result<Clock<A>, AllocError>
+        ensures { IfOk result (λ clock. clock ≡ summary.clock_of (listed self.now.ops)) }
+    {
+        self.store.clock()
+    }
+
+    /// Copies of the operations that the clock does not cover, in order. This is one pass over the set.
+    pub fn beyond(&self, clock: &Clock<A>) -> Result<OpList<A>, AllocError>
+        ensures { IfOk result (λ list. list ≡ listed (summary.beyond self.now.ops clock.now)) }
+    {
+        self.store.beyond(clock)
+    }
+
+    /// Appends the delta of the operations that the clock does not cover. `TooMany` says that there are more than
+    /// 4,294,967,295 of them. After a refusal `out` is as it was.
+    pub fn delta(&self, clock: &Clock<A>, out: &mut Vec<u8, A>) -> Result<(), EncodeError>
+        ensures ok { OnOk result (out.new.items ≡ out.old.items ++ encoded (listed (summary.beyond self.now.ops clock.now))) }
+        ensures few { OnOk result (length (listed (summary.beyond self.now.ops clock.now)) < 2 ^ 32) }
+        ensures too_many { IsErrOf result EncodeError.TooMany → 2 ^ 32 ≤ length (listed (summary.beyond self.now.ops clock.now)) }
+        ensures err { OnErr result (out.new.items ≡ out.old.items) }
+    {
+        let list = self.beyond(clock)?;
+        encode(&list, out)
+    }
+
+    /// The game as the replica keeps it, with exactly its blocks and claims here; none where there is no block and no claim
+    /// of it. Takes no memory.
+    pub fn game(&self, code: Code) -> Option<&Game<A>>
+        ensures { option_copied result ≡ game_in self.now.ops code }
+    {
+        self.games.get(&code)
+    }
+
+    /// The exclusive or of the nim-values of a position's heaps, or the first heap whose nim-value is not known. Takes no
+    /// memory.
+    pub fn value(&self, code: Code, heaps: &[u64]) -> Result<u32, Unknown>
+        ensures value { result ≡ position_value code (blocks_in (content_in self.now.ops code).blocks) (claims_in (content_in self.now.ops code).claims) heaps.now }
+        ensures right { IfOk result (λ value. value ≡ nim_sum code heaps.now) }
+    {
+        match self.game(code) {
+            Some(game) => game.position_value(heaps),
+            None => {
+                let game = Game::new(self.alloc, code);
+                game.position_value(heaps)
+            }
+        }
+    }
+
+    /// Who wins a position in normal play, where the nim-value of each heap is known; else the first heap is named whose
+    /// nim-value is not known. Takes no memory.
+    pub fn outcome(&self, code: Code, heaps: &[u64]) -> Outcome
+        ensures value { result ≡ outcome code (blocks_in (content_in self.now.ops code).blocks) (claims_in (content_in self.now.ops code).claims) heaps.now }
+        ensures play { IsOutcomeOf code heaps.now (position_value code (blocks_in (content_in self.now.ops code).blocks) (claims_in (content_in self.now.ops code).claims) heaps.now) result }
+    {
+        match self.game(code) {
+            Some(game) => game.outcome(heaps),
+            None => {
+                let game = Game::new(self.alloc, code);
+                game.outcome(heaps)
+            }
+        }
+    }
+
+    /// Appends the catalogue of the operations to `out`. Where memory is refused, `out` stays as it is.
+    pub fn catalogue(&self, out: &mut Vec<u8, A>) -> Result<(), AllocError>
+        ensures ok { OnOk result (out.new.items ≡ out.old.items ++ catalogue (listed self.now.ops)) }
+        ensures err { OnErr result (out.new.items ≡ out.old.items) }
+    {
+        write_catalogue(self.alloc, &self.parts(), out)
+    }
+
+    /// Appends one page of that catalogue, its lines from `64 * number` on, at most 64 of them, and says whether there is
+    /// such a page. Without one, and where memory is refused, `out` stays as it is.
+    pub fn page(&self, number: u32, out: &mut Vec<u8, A>) -> Result<bool, AllocError>
+        ensures found { IfOk result (λ found. found ≡ has_page (listed self.now.ops) number) }
+        ensures ok { OnOk result (out.new.items ≡ out.old.items ++ page_text (listed self.now.ops) number) }
+        ensures none { IfOk result (λ found. found ≡ false → out.new.items ≡ out.old.items) }
+        ensures err { OnErr result (out.new.items ≡ out.old.items) }
+    {
+        write_page(self.alloc, &self.parts(), number, out)
+    }
+
+    // What a catalogue is made from.
+    fn parts(&self) -> Parts<'_, A>
+        ensures store { result.store.now ≡ self.now.ops }
+        ensures parts { AreParts result.store.now result.games.now result.notes.now }
+    {
+        prove!(self.games.len() <= usize::MAX);
+        Parts {
+            store: &self.store,
+            games: &self.games,
+            notes: &self.notes,
+        }
+    }
+
+    /// Appends the text of the replica to `out`: `OGS1`, the author, and the delta of all operations. The answer is
+    /// `TooMany` exactly where there are more than 4,294,967,295 of them. After a refusal `out` is as it was.
+    pub fn save(&self, out: &mut Vec<u8, A>) -> Result<(), EncodeError>
+        ensures ok { OnOk result (out.new.items ≡ out.old.items ++ state_text self.now.author (listed self.now.ops)) }
+        ensures too_many { IsErrOf result EncodeError.TooMany ↔ (2 ^ 32 ≤ length (listed self.now.ops)) }
+        ensures err { OnErr result (out.new.items ≡ out.old.items) }
+    {
+        if self.store.len() > u32::MAX as usize {
+            return Err(EncodeError::TooMany);
+        }
+        let list = self.store.list()?;
+        let length = out.len();
+        if put_state(out, self.author, &list).is_err() {
+            out.truncate(length);
+            return Err(EncodeError::OutOfMemory);
+        }
+        Ok(())
+    }
+
+    /// The replica whose text the bytes are. The answer is `Version` exactly where the first four bytes are not `OGS1` or
+    /// are missing, and `Refused` exactly for any other bytes that are no text of a replica.
+    pub fn load(alloc: A, bytes: &[u8]) -> Result<Replica<A>, LoadError>
+        ensures ok { IfOk result (λ replica. IsState bytes.now replica.author replica.ops) }
+        ensures err { IfErr result (RefusesState bytes.now) }
+    {
+        let (author, delta) = split_state(bytes)?;
+        match decode_list(alloc, delta) {
+            Ok(list) => restored(alloc, author, list),
+            Err(refused) => Err(refused),
+        }
+    }
+
+    // Takes in a copy of the operation, and says whether it is new. Without memory nothing changes.
+    fn add(&mut self, op: &Op<A>) -> Result<bool, AllocError>
+        ensures added { IfOk result (λ added. added ≡ not (contains self.old.ops op.now)) }
+        ensures ok { OnOk result (self.new ≡ record self.old { ops = insert self.old.ops op.now }) }
+        ensures err { OnErr result (self.new ≡ self.old) }
+    {
+        if self.store.contains(op) {
+            return Ok(false);
+        }
+        let copy = op.copy(self.alloc)?;
+        if let Err((refused, _)) = self.store.insert(copy) {
+            return Err(refused);
+        }
+        if let Err(refused) = file(&mut self.games, &mut self.notes, self.alloc, op) {
+            self.store.remove(op);
+            return Err(refused);
+        }
+        Ok(true)
+    }
+}
+
+// The dot of a number of an author.
+fn own_dot(author: u32, number: u32) -> Dot
+    requires { (1 ≤ author) × (1 ≤ number) }
+    ensures { result ≡ dot_of author number }
+{
+    match Dot::new(author, number) {
+        Ok(dot) => dot,
+        Err(_) => unreachable!(),
+    }
+}

@@ -1,0 +1,124 @@
+//! An author and a set of operations as bytes.
+
+ghost use Rattle.std.specs.Prelude.{◌≡◌, ◌↔◌, ◌≤◌, ◌<◌, ◌^◌, ◌++◌, ℕ, List, length, true, false, IfSome, IsNone, IfOk, IfErr, OnOk};
+ghost use Rattle.oct_ops.specs.Operations.{set_of};
+ghost use Rattle.oct_delta.specs.Delta.{IsDeltaText};
+ghost use Rattle.oct_delta.specs.State.{state_tag};
+ghost use Rattle.oct_delta.specs.Text.{Bytes, u32 as number};
+ghost use Rattle.oct_delta.specs.Writing.{Keeps};
+ghost use Rattle.oct_replica.specs.States.{has_tag, state_text, IsAuthored, IsHeaded, RefusesList, RefusesState};
+
+use crate::error::LoadError;
+use crate::replica::Replica;
+use byteorder::{BigEndian, ByteOrder};
+use oct_delta::{DeltaError, EncodeError, decode, encode};
+use oct_ops::OpList;
+use std::alloc::{AllocError, Allocator};
+
+/// Appends the text of an author and its list. After a refusal what was there before is at the front.
+#[tactic(auto, using(crate::proofs::Written::keeps_then))]
+pub(crate) fn put_state<A: Allocator>(
+    out: &mut Vec<u8, A>,
+    author: u32,
+    list: &OpList<A>,
+) -> Result<(), EncodeError>
+    ensures ok { OnOk result (out.new.items ≡ out.old.items ++ state_text author list.now) }
+    ensures kept { Keeps out.old.items out.new.items }
+{
+    put_bytes(out, b"OGS1")?;
+    put_author(out, author)?;
+    encode(list, out)
+}
+
+// Appends the author.
+fn put_author<A: Allocator>(out: &mut Vec<u8, A>, author: u32) -> Result<(), AllocError>
+    ensures ok { OnOk result (out.new.items ≡ out.old.items ++ number author) }
+    ensures kept { Keeps out.old.items out.new.items }
+{
+    let mut bytes = [0; 4];
+    BigEndian::write_u32(&mut bytes, author);
+    put_bytes(out, &bytes)
+}
+
+// Appends the bytes.
+#[tactic(auto, using(crate::proofs::Written::keeps_same, crate::proofs::Written::keeps_more))]
+fn put_bytes<A: Allocator>(out: &mut Vec<u8, A>, bytes: &[u8]) -> Result<(), AllocError>
+    ensures ok { OnOk result (out.new.items ≡ out.old.items ++ bytes.now) }
+    ensures kept { Keeps out.old.items out.new.items }
+{
+    out.extend_from_slice(bytes)
+}
+
+/// The author of a state's text, and what follows it.
+pub(crate) fn split_state(bytes: &[u8]) -> Result<(u32, &[u8]), LoadError>
+    ensures ok { IfOk result (λ x. IsHeaded bytes.now x.0 x.1.now) }
+    ensures err { IfErr result (RefusesState bytes.now) }
+{
+    let Some(state) = split_tag(bytes) else {
+        return Err(LoadError::Version);
+    };
+    split_author(state).ok_or(LoadError::Refused)
+}
+
+// What follows the tag.
+fn split_tag(bytes: &[u8]) -> Option<&[u8]>
+    ensures some { IfSome result (λ rest. bytes.now ≡ state_tag ++ rest.now) }
+    ensures none { IsNone result → has_tag bytes.now ≡ false }
+{
+    match bytes {
+        [b'O', b'G', b'S', b'1', rest @ ..] => Some(rest),
+        _ => None,
+    }
+}
+
+// The author, which is at least 1, and what follows it.
+fn split_author(bytes: &[u8]) -> Option<(u32, &[u8])>
+    ensures some { IfSome result (λ x. IsAuthored bytes.now x.0 x.1.now) }
+    ensures none { IsNone result → (author : ℕ) (rest : Bytes) → ¬ IsAuthored bytes.now author rest }
+{
+    if bytes.len() < 4 {
+        return None;
+    }
+    let (front, rest) = bytes.split_at(4);
+    let author = BigEndian::read_u32(front);
+    if author == 0 {
+        return None;
+    }
+    Some((author, rest))
+}
+
+/// The operations of a state's text.
+pub(crate) fn decode_list<A: Allocator + Copy>(
+    alloc: A,
+    bytes: &[u8],
+) -> Result<OpList<A>, LoadError>
+    ensures ok { IfOk result (λ list. IsDeltaText bytes.now list) }
+    ensures err { IfErr result (RefusesList bytes.now) }
+{
+    match decode(alloc, bytes) {
+        Ok(list) => Ok(list),
+        Err(DeltaError::Version | DeltaError::Refused) => Err(LoadError::Refused),
+        Err(DeltaError::OutOfMemory) => Err(LoadError::OutOfMemory),
+        Err(DeltaError::Failed) => unreachable!(),
+    }
+}
+
+/// The replica of an author and its list.
+pub(crate) fn restored<A: Allocator + Copy>(
+    alloc: A,
+    author: u32,
+    list: OpList<A>,
+) -> Result<Replica<A>, LoadError>
+    requires author { 1 ≤ author }
+    requires few { length list < 2 ^ 32 }
+    ensures ok { IfOk result (λ replica. replica ≡ record { author = author; ops = set_of list }) }
+    ensures err { IfErr result (λ e. e ≡ LoadError.OutOfMemory) }
+{
+    let Ok(mut replica) = Replica::new(alloc, author) else {
+        unreachable!();
+    };
+    match replica.take_list(list) {
+        Ok(_) => Ok(replica),
+        Err(_) => Err(LoadError::OutOfMemory),
+    }
+}
