@@ -1,5 +1,6 @@
 mod Authors
 mod Beside
+mod Deliveries
 mod Headline
 mod Inserting
 mod Lines

@@ -1,7 +1,7 @@
 -- What a replica has after operations were handed to it.
 use Rattle.std.specs.Prelude.{◌≡◌, ◌≤◌, ℕ, Bool, true, false, not, List, length, filter, take}
 use Rattle.oct_ops.specs.Body.{Operation}
-use Rattle.oct_ops.specs.Operations.{Operations, contains, set_of, union}
+use Rattle.oct_ops.specs.Operations.{Operations, contains, insert_all, set_of, union}
 use Rattle.oct_replica.specs.Content.{ReplicaContent}
 use Rattle.oct_replica.specs.declared.error.TakeError.{TakeError}
 use Rattle.oct_replica.specs.declared.error.TakeError.TheVariants.{Version, Refused, OutOfMemory}
@@ -41,3 +41,7 @@ IsCutBy old new list (OutOfMemory done) = IsCut old new list done
 abbrev pub issue_error : Bool → IssueError
 issue_error true = issue.OutOfMemory
 issue_error false = issue.LastNumber
+
+-- a delivery in the world of replicas leaves what taking the same operations leaves
+abbrev pub DeliveriesAreTaken : Type 0
+DeliveriesAreTaken = (held : Operations) (ops : List Operation) → insert_all held ops ≡ union held (set_of ops)

@@ -1,6 +1,7 @@
 //! What holds of any replicas, whatever was handed to them, lost, repeated, reordered or cut.
 
 ghost use Rattle.oct_replica.specs.Headline.{UnionIsPrinted, SameIsPrinted, ShownValuesAreNimValues, NimValuesAreTheSequence, RefutedAtFirstWrong, RefutedAtFirstBreak, ProvedPeriodsHold};
+ghost use Rattle.oct_replica.specs.Taking.{DeliveriesAreTaken};
 ghost use Rattle.oct_replica.specs.World.{EachIsIssued, NoForks, EqualClocksEqualSets, EqualClocksEqualCatalogues, AbroadIsSaved};
 ghost use Rattle.oct_replica.specs.Settled.{SettledBlocksStay, SettledClaimsStay, BlockLinesStay, ClaimLinesStay};
 
@@ -15,6 +16,11 @@ pub fn same_operations_same_bytes()
     ensures blocks { RefutedAtFirstWrong }
     ensures claims { RefutedAtFirstBreak }
     ensures periods { ProvedPeriodsHold }
+{}
+
+/// A delivery in the world of replicas leaves what a replica has that took in the same operations.
+pub fn deliveries_are_taken()
+    ensures { DeliveriesAreTaken }
 {}
 
 /// Each operation in a set, a saved set or a packet was issued by the author that it names.
