@@ -1,5 +1,5 @@
 -- Operations that are delivered, and the same operations taken in.
-use Rattle.std.proofs.Common.{List, [], ◌∷◌, sym, ap, ◌∙◌}
+use Rattle.std.proofs.Common.{[], ◌∷◌, sym, ap, ◌∙◌}
 use Rattle.oct_ops.specs.Operations.{insert, set_of}
 use Rattle.oct_ops.specs.OrderLaws.{op_cmp_total, op_cmp_exact}
 use Rattle.oct_ops.specs.SetLaws.{union-empty, union-insert}

@@ -1,18 +1,16 @@
 -- Bytes of any number of frames, taken one part after another.
-use Rattle.std.proofs.Common.{◌≡◌, ℕ, List, [], ◌∷◌, ◌++◌, length, Ok, Err, Result, refl, sym, ap, ◌∙◌, subst, append_assoc, arith}
+use Rattle.std.proofs.Common.{◌≡◌, [], ◌∷◌, ◌++◌, length, refl, sym, ap, ◌∙◌, subst, append_assoc}
 use Rattle.std.proofs.lemmas.List.{append-nil}
 use Rattle.oct_delta.specs.Text.{Bytes}
 use Rattle.oct_ops.specs.Operations.{Operations}
 use Rattle.oct_sync.specs.Frames.{split_frames}
-use Rattle.oct_sync.specs.Session.{Phase, IsDone, HasFailed, Session, Point, fed, on_split}
-use Rattle.oct_sync.specs.SessionState.{Fails, Stops, IsState, Steps, kept_of, phase_of, standing_of, point}
-use Rattle.oct_sync.specs.Standing.{Ends, IsAt, IsRest, Known, Standing, StopsShort, ended}
+use Rattle.oct_sync.specs.Session.{IsDone, Session, Point, fed, on_split}
+use Rattle.oct_sync.specs.SessionState.{Fails, IsState, standing_of}
+use Rattle.oct_sync.specs.Standing.{Ends, IsAt, IsRest, Known, Standing, ended}
 use Rattle.oct_sync.specs.declared.error.SyncError.{SyncError}
 use Rattle.oct_sync.specs.declared.error.SyncError.TheVariants as fault
 use Rattle.oct_sync.specs.declared.role.Role.{Role}
 use Rattle.oct_sync.specs.declared.state.State.{State}
-use Rattle.oct_sync.specs.declared.state.Incoming.{Incoming}
-use Rattle.oct_sync.specs.declared.state.Incoming.TheVariants as incoming
 use Rattle.oct_sync.proofs.Cutting.{any_cutting, done_fails, split_failed}
 use Rattle.oct_sync.proofs.Stepping.{still}
 

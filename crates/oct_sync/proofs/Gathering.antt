@@ -1,5 +1,5 @@
 -- Operations that are gathered, and sent whenever one more may not follow.
-use Rattle.std.proofs.Common.{◌≡◌, ℕ, zero, suc, ◌+◌, ◌-◌, ◌<◌, ◌≤◌, Bool, true, false, ◌&&◌, List, [], ◌∷◌, ◌++◌, length, take, drop, leb, min, cond, refl, sym, ap, ◌∙◌, subst, append_assoc, arith}
+use Rattle.std.proofs.Common.{◌≡◌, ℕ, zero, suc, ◌+◌, ◌-◌, ◌≤◌, Bool, true, false, ◌&&◌, List, [], ◌∷◌, ◌++◌, length, take, drop, leb, cond, refl, sym, ap, ◌∙◌, subst, append_assoc, arith}
 use Rattle.std.proofs.Math.Seq.{take-append_seam, drop-append_seam}
 use Rattle.std.proofs.lemmas.Bool.{le-leb, leb-true}
 use Rattle.std.proofs.lemmas.List.{append-nil, length-append}
@@ -17,7 +17,7 @@ use Rattle.oct_ops.specs.Operations.{IsRising}
 use Rattle.oct_ops.specs.Order.{op_cmp}
 use Rattle.oct_ops.specs.SetLaws.{and_both, and_first, and_second}
 use Rattle.oct_ops.specs.Sets.{rises}
-use Rattle.oct_sync.specs.Frames.{fitting, alike, pack_room, pack_length, packs_within, packs, frame_bytes, delta_tag, delta_frames}
+use Rattle.oct_sync.specs.Frames.{fitting, alike, pack_room, pack_length, packs_within, frame_bytes, delta_tag, delta_frames}
 use Rattle.oct_sync.specs.Packs.{pack_frame, may_follow, AreAlike, IsPack}
 use Rattle.oct_sync.proofs.Written.{keeps_same, keeps_more, keeps_then}
 

@@ -1,5 +1,5 @@
 -- What was sent before stays in front of what is sent.
-use Rattle.std.proofs.Common.{◌≡◌, ℕ, ◌+◌, length, Bool, true, false, List, [], ◌∷◌, ◌++◌, Option, Some, None, refl, ap, ◌∙◌, append_assoc, eqb}
+use Rattle.std.proofs.Common.{◌≡◌, ◌+◌, length, Bool, true, false, List, [], ◌∷◌, ◌++◌, Option, Some, None, refl, ap, ◌∙◌, append_assoc, eqb}
 use Rattle.std.specs.List.{fold}
 use Rattle.oct_delta.specs.Clocks.{read_clock}
 use Rattle.oct_delta.specs.Decoding.{read_delta}
@@ -7,7 +7,7 @@ use Rattle.oct_delta.specs.Text.{Bytes}
 use Rattle.oct_join.specs.Clock.{Clock}
 use Rattle.oct_ops.specs.Body.{Operation}
 use Rattle.oct_sync.specs.Frames.{Frame, Split, clock_tag, delta_tag, end_frame, split_frames}
-use Rattle.oct_sync.specs.Session.{Phase, AwaitsClock, AwaitsDeltas, AwaitsEnd, IsDone, HasFailed, Session, Point, clock_frame, missing_frames, failed_if, fed, head_fault, on_clock, on_delta, on_due, on_end, on_frame, on_frame_in, on_head, on_rest_in, on_split, rest_fault}
+use Rattle.oct_sync.specs.Session.{Phase, AwaitsClock, AwaitsDeltas, AwaitsEnd, IsDone, HasFailed, Session, clock_frame, missing_frames, failed_if, fed, head_fault, on_clock, on_delta, on_due, on_end, on_frame, on_frame_in, on_head, on_rest_in, on_split, rest_fault}
 use Rattle.oct_sync.specs.declared.error.SyncError.{SyncError}
 use Rattle.oct_sync.specs.declared.role.Role.{Role}
 use Rattle.oct_sync.specs.declared.role.Role.TheVariants.{Client, Server}

@@ -1,5 +1,5 @@
 -- The payload of a delta frame, as a reader sees it.
-use Rattle.std.proofs.Common.{◌≡◌, ◌≢◌, ℕ, zero, suc, leb, ◌+◌, ◌-◌, ◌<◌, ◌≤◌, true, false, List, [], ◌∷◌, ◌++◌, length, get_or, Option, Some, None, Result, Ok, Err, refl, sym, ap, ◌∙◌, subst, append_assoc, inl, inr, ⊎_elim, arith}
+use Rattle.std.proofs.Common.{◌≡◌, ℕ, zero, suc, leb, ◌+◌, ◌-◌, ◌<◌, ◌≤◌, true, false, List, [], ◌∷◌, ◌++◌, length, get_or, Option, Some, None, Result, Ok, Err, refl, sym, ap, ◌∙◌, subst, append_assoc, ⊎_elim, arith}
 use Rattle.std.specs.Prelude.{◌↔◌, IfSome, OnOk, OnErr, IsErrOf}
 use Rattle.std.proofs.lemmas.Bool.{leb-true, leb-false}
 use Rattle.std.proofs.lemmas.List.{append-nil, length-append, get_or_append_left}
@@ -12,7 +12,6 @@ use Rattle.oct_delta.specs.declared.error.DeltaError.{DeltaError}
 use Rattle.oct_delta.specs.declared.error.DeltaError.TheVariants as errors
 use Rattle.oct_ops.specs.Body.{Operation}
 use Rattle.oct_ops.specs.Operations.{Operations, set_of, union}
-use Rattle.oct_sync.specs.Frames.{delta_tag, tag_field}
 use Rattle.oct_sync.specs.Session.{Phase, Session, Point, fed, on_due, on_delta}
 use Rattle.oct_sync.specs.SessionState.{IsCounted, IsDeltaFront, IsOpenPhase, kept_by, point}
 use Rattle.oct_sync.specs.Standing.{IsLost, IsRest, ended}

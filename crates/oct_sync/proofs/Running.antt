@@ -1,17 +1,17 @@
 -- What holds at each turn of a driver.
-use Rattle.std.proofs.Common.{◌≡◌, ℕ, ◌+◌, List, [], ◌++◌, take, length, Option, Some, None, refl, sym, ◌∙◌, ap, subst, append_assoc}
+use Rattle.std.proofs.Common.{◌≡◌, ℕ, ◌+◌, [], ◌++◌, take, length, Option, Some, None, refl, sym, ◌∙◌, ap, subst}
 use Rattle.std.specs.Io.KnownBytes.{Appends, Consumes, Keeps}
 use Rattle.std.proofs.KnownBytes.{Appends-nil, Appends-trans, Consumes-nil, Consumes-trans, Consumes-kept}
 use Rattle.std.proofs.lemmas.List.{append-nil, take_at, drop_at}
 use Rattle.std.proofs.Math.Seq.{take-add}
 use Rattle.oct_delta.specs.Text.{Bytes}
 use Rattle.oct_ops.specs.Operations.{Operations}
-use Rattle.oct_sync.specs.Driven.{AppendsPrefix, Breaks, Completes, after, begun}
+use Rattle.oct_sync.specs.Driven.{AppendsPrefix, Breaks, Completes, begun}
 use Rattle.oct_sync.specs.Session.{Phase, AwaitsClock, AwaitsDeltas, AwaitsEnd, IsDone, HasFailed, Session, Point, fed}
 use Rattle.oct_sync.specs.Standing.{Ends, IsAt, Standing, StandsAt, at_start, ended, progress_in, progress_of}
 use Rattle.oct_sync.specs.declared.error.SyncError.{SyncError}
 use Rattle.oct_sync.specs.declared.error.SyncError.TheVariants as fault
-use Rattle.oct_sync.specs.declared.progress.Progress.TheVariants.{More, Done}
+use Rattle.oct_sync.specs.declared.progress.Progress.TheVariants.{Done}
 use Rattle.oct_sync.specs.declared.role.Role.{Role}
 use Rattle.oct_sync.specs.declared.role.Role.TheVariants.{Client, Server}
 use Rattle.oct_sync.proofs.Cutting.{any_cutting}

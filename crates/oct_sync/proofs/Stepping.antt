@@ -1,28 +1,26 @@
 -- What the bytes of one frame do, as they come.
-use Rattle.std.proofs.Common.{◌≡◌, ℕ, zero, suc, ◌+◌, ◌-◌, ◌<◌, ◌≤◌, Bool, true, false, ◌&&◌, List, [], ◌∷◌, ◌++◌, length, take, drop, leb, ltb, eqb, Option, Some, None, refl, sym, ap, ◌∙◌, subst, append_assoc, inl, arith}
-use Rattle.std.specs.Prelude.{IfSome}
+use Rattle.std.proofs.Common.{◌≡◌, ℕ, zero, suc, ◌+◌, ◌-◌, ◌<◌, ◌≤◌, Bool, true, false, ◌&&◌, [], ◌++◌, length, take, drop, leb, ltb, Option, Some, None, refl, sym, ap, ◌∙◌, subst, inl, arith}
 use Rattle.std.proofs.lemmas.Bool.{leb-true, leb-false, le-leb}
 use Rattle.std.proofs.lemmas.List.{length-drop, length-append, take_all, drop_all, append-nil}
 use Rattle.std.proofs.Math.Seq.{drop-append_seam}
-use Rattle.std.specs.List.{fold}
 use Rattle.oct_delta.specs.Bytes.{IsBytes}
 use Rattle.oct_delta.specs.Text.{Bytes}
 use Rattle.oct_ops.specs.Operations.{Operations}
-use Rattle.oct_sync.specs.Frames.{Frame, Split, clock_tag, delta_tag, end_tag, length_field, tag_field, is_length, begins_whole, first_frame, split_within, split_frames}
+use Rattle.oct_sync.specs.Frames.{Frame, Split, delta_tag, length_field, tag_field, is_length, begins_whole, split_within, split_frames}
 use Rattle.oct_sync.specs.Session.{wanted_in as phase_wants}
-use Rattle.oct_sync.specs.Session.{wanted, Phase, AwaitsClock, AwaitsDeltas, AwaitsEnd, IsDone, HasFailed, Session, Point, failed, failed_if, fed, head_fault, is_due, is_head, missing_bytes, on_due, on_frame, on_head, on_rest_in, on_split, rest_fault}
+use Rattle.oct_sync.specs.Session.{wanted, Phase, AwaitsClock, AwaitsDeltas, AwaitsEnd, IsDone, HasFailed, Session, Point, failed_if, fed, head_fault, is_due, is_head, missing_bytes, on_due, on_frame, on_head, on_rest_in, on_split, rest_fault}
 use Rattle.oct_sync.specs.SessionState.{Fails, Stops, IsCounted, IsDeltaFront, IsFront, IsIncoming, IsOpenPhase, IsState, IsWholeFrame, kept_by, kept_of, kept_of_delta, missing_of, phase_of, point, standing_of, wanted_by, wanted_in}
 use Rattle.oct_sync.specs.declared.state.Due.{Due}
 use Rattle.oct_sync.specs.declared.state.Due.TheVariants as due
 use Rattle.oct_sync.specs.declared.state.Incoming.{Incoming}
 use Rattle.oct_sync.specs.declared.state.Incoming.TheVariants as incoming
 use Rattle.oct_sync.specs.declared.state.State.{State}
-use Rattle.oct_sync.specs.Standing.{Kept, Known, Lost, Standing, IsAt, IsLost, IsRest, ended}
+use Rattle.oct_sync.specs.Standing.{Kept, Known, Standing, IsAt, IsRest, ended}
 use Rattle.oct_sync.specs.declared.error.SyncError.{SyncError}
 use Rattle.oct_sync.specs.declared.error.SyncError.TheVariants as fault
 use Rattle.oct_sync.specs.declared.role.Role.{Role}
 use Rattle.oct_sync.proofs.Cutting.{IsOpen, open_fails, shown}
-use Rattle.oct_sync.proofs.Splitting.{IsWhole, whole_parts, parts_whole, step, with_first, split_is, field-append, tag-append}
+use Rattle.oct_sync.proofs.Splitting.{whole_parts, parts_whole, step, with_first, split_is, field-append, tag-append}
 
 -- ---- open phases
 

@@ -1,7 +1,7 @@
 -- Bytes at whose end something was added.
-use Rattle.std.proofs.Common.{◌≡◌, min, leb, Bool, true, false, ℕ, ◌+◌, ◌*◌, ◌<◌, List, [], ◌∷◌, ◌++◌, length, take, drop, refl, sym, ap, ◌∙◌, append_assoc, eqb, arith}
+use Rattle.std.proofs.Common.{◌≡◌, min, leb, true, false, ℕ, ◌+◌, ◌*◌, List, [], ◌∷◌, ◌++◌, length, take, drop, refl, sym, ap, ◌∙◌, append_assoc, eqb, arith}
 use Rattle.std.proofs.lemmas.Bool.{eqb-true, leb-true, leb-false}
-use Rattle.std.proofs.lemmas.List.{append-nil, take_at, take-append-drop, take_all, length-append}
+use Rattle.std.proofs.lemmas.List.{append-nil, take_at, take-append-drop, take_all}
 use Rattle.std.specs.Prelude.{if◌then◌else◌}
 use Rattle.std.specs.List.{flat_map, list_all}
 use Rattle.oct_delta.specs.Clocks.{entry_bytes, entries_bytes}

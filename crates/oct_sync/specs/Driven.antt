@@ -1,9 +1,9 @@
 -- What a driver of a session read and wrote.
-use Rattle.std.specs.Prelude.{◌≡◌, ℕ, List, [], take, Option}
+use Rattle.std.specs.Prelude.{◌≡◌, ℕ, [], take, Option}
 use Rattle.std.specs.Io.KnownBytes.{Appends, Consumes}
 use Rattle.oct_delta.specs.Text.{Bytes}
 use Rattle.oct_ops.specs.Operations.{Operations}
-use Rattle.oct_sync.specs.Session.{Session, Point, IsDone, fed, new_client, new_server}
+use Rattle.oct_sync.specs.Session.{Session, IsDone, fed, new_client, new_server}
 use Rattle.oct_sync.specs.declared.role.Role.{Role}
 use Rattle.oct_sync.specs.declared.role.Role.TheVariants.{Client, Server}
 

@@ -1,4 +1,4 @@
-use Rattle.std.proofs.Common.{◌≡◌, refl, sym, ap, ◌∙◌}
+use Rattle.std.proofs.Common.{refl, sym, ap, ◌∙◌}
 use Rattle.std.proofs.KnownBytes.{Keeps-refl}
 use Rattle.oct_sync.specs.Standing.{progress_of}
 use Rattle.oct_sync.proofs.Running.{IsRunning-begun, IsRunning-sent, IsRunning-fed, Breaks-sending, Breaks-reading, Breaks-feeding, completed}

@@ -1,4 +1,4 @@
-use Rattle.std.proofs.Common.{◌≡◌, ◌≤◌, [], ◌++◌, Result, Ok, Err, None, refl, sym, ap, ◌∙◌, inr, arith}
+use Rattle.std.proofs.Common.{◌≡◌, ◌≤◌, [], ◌++◌, Ok, Err, refl, sym, ap, ◌∙◌, inr, arith}
 use Rattle.oct_ops.specs.Operations.{union, set_of}
 use Rattle.oct_sync.specs.Session.{Point}
 use Rattle.oct_sync.specs.SessionState.{kept_of_delta, phase_of}

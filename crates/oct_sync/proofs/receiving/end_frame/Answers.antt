@@ -1,4 +1,4 @@
-use Rattle.std.proofs.Common.{◌≡◌, ◌++◌, drop, Err, None, refl, sym, ap, ◌∙◌, subst, ⊎_elim}
+use Rattle.std.proofs.Common.{◌≡◌, drop, Err, refl, sym, ap, ◌∙◌, subst, ⊎_elim}
 use Rattle.oct_delta.specs.Clocks.{read_clock}
 use Rattle.oct_sync.specs.Frames.{tag_field}
 use Rattle.oct_sync.specs.Session.{HasFailed, Point, Session, failed, on_clock, on_due}

@@ -1,5 +1,4 @@
 use Rattle.std.proofs.Common.{◌≡◌, sym, ap, ◌∙◌, subst}
-use Rattle.oct_sync.specs.Session.{Point}
 use Rattle.oct_sync.specs.SessionState.{Steps, kept_of, kept_of_delta, phase_of, point}
 use Rattle.oct_sync.specs.Standing.{IsAt, Known}
 use Rattle.oct_sync.proofs.Stepping.{known_point, stops_here}

@@ -1,4 +1,4 @@
-use Rattle.std.proofs.Common.{◌++◌, List, ℕ, take, length, ap, ◌∙◌}
+use Rattle.std.proofs.Common.{◌++◌, List, ℕ, take, ap, ◌∙◌}
 use Rattle.oct_delta.specs.Clocks.{entries_bytes}
 use Rattle.oct_join.specs.Clock.{entries}
 use Rattle.oct_sync.specs.Frames.{frame_bytes}

@@ -1,4 +1,4 @@
-use Rattle.std.proofs.Common.{◌≡◌, suc, List, [], ◌∷◌, length, refl, sym, ap, ◌∙◌, arith}
+use Rattle.std.proofs.Common.{◌≡◌, suc, length, sym, ap, ◌∙◌, arith}
 use Rattle.std.specs.Vec.Iter.{into_iter_items}
 use Rattle.oct_sync.proofs.Taking.{begin, taken, all_taken, some_taken, none_left}
 use Rattle.oct_sync.proofs.peer.StorePeer.append.Goals as goal

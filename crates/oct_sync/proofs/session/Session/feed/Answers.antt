@@ -1,4 +1,4 @@
-use Rattle.std.proofs.Common.{◌≡◌, Err, Some, None, Option, Result, sym, ap, ◌∙◌}
+use Rattle.std.proofs.Common.{◌≡◌, Err, Some, None, Result, sym, ap, ◌∙◌}
 use Rattle.oct_sync.specs.SessionState.{standing_if}
 use Rattle.oct_sync.proofs.session.Session.feed.Goals as goal
 
