@@ -21,9 +21,9 @@ use Rattle.oct_ops.specs.Views.{content}
 use Rattle.oct_ops.specs.declared.op.Body.{Body as HeldBody}
 use Rattle.oct_ops.specs.declared.op.Body.TheVariants as variant
 use Rattle.oct_ops.specs.SetLaws.{contains-set_of, insert_comm, listed-arranged, listed-set_of, rises-sorted, same_set}
-use Rattle.oct_verify.specs.Filing.{Filing, filing_cmp}
+use Rattle.oct_verify.specs.Filing.{Filing}
 use Rattle.oct_verify.specs.FilingLaws.{filing_cmp_total, filing_cmp_exact}
-use Rattle.oct_period.specs.Claims.{Claim, claim_cmp}
+use Rattle.oct_period.specs.Claims.{Claim}
 use Rattle.oct_period.specs.ClaimLaws.{claim_cmp_total, claim_cmp_exact}
 use Rattle.oct_period.specs.GameContent.{GameContent}
 use Rattle.oct_pages.specs.Catalogue.{blocks_of, block_in, claims_of, claim_in, game_of, game_of_body, games, if_some, under}

@@ -1,5 +1,5 @@
 -- What is found after a block or a claim was filed.
-use Rattle.std.proofs.Common.{◌≡◌, cond, Option, Some, None, sym, ap, ◌∙◌, subst}
+use Rattle.std.proofs.Common.{◌≡◌, cond, Some, None, sym, ap, ◌∙◌, subst}
 use Rattle.std.specs.Prelude.{IfSome}
 use Rattle.std.specs.Ordering.{eq_by_cmp}
 use Rattle.oct_code.specs.Code.{Code, code_cmp}

@@ -1,17 +1,15 @@
 -- The operations of the lines, taken in one list after another.
-use Rattle.std.proofs.Common.{arith, ◌≡◌, ◌≤◌, ◌+◌, ℕ, Bool, true, false, ◌&&◌, ◌||◌, not, List, [], ◌∷◌, ◌++◌, cond, Option, Some, None, refl, sym, ap, ◌∙◌}
+use Rattle.std.proofs.Common.{arith, ◌≡◌, ◌≤◌, ◌+◌, ℕ, Bool, true, false, List, [], ◌∷◌, ◌++◌, cond, Option, None, sym, ap, ◌∙◌}
 use Rattle.std.specs.Prelude.{count_by, filter, unwrap_or}
 use Rattle.std.proofs.lemmas.List.Sums.{sum_by-cons}
 use Rattle.std.specs.Str.Lines.{lines}
-use Rattle.std.specs.List.{flat_map, list_all, list_any}
-use Rattle.std.specs.Option.{option_and_then}
+use Rattle.std.specs.List.{flat_map}
 use Rattle.oct_delta.specs.Text.{Bytes}
-use Rattle.oct_delta.specs.Decoding.{read_delta}
 use Rattle.oct_ops.specs.Body.{Operation}
-use Rattle.oct_ops.specs.Operations.{Operations, empty, insert, listed, set_of, union}
+use Rattle.oct_ops.specs.Operations.{Operations, empty, insert, set_of, union}
 use Rattle.oct_ops.specs.OrderLaws.{op_cmp_total, op_cmp_exact}
 use Rattle.oct_ops.specs.SetLaws.{union-empty, union-insert, union-insert_left, union_assoc, union_comm}
-use Rattle.census_core.specs.Folded.{filled_lines, is_filled, is_refused, operations_of_line, taken_of_line, unhexed}
+use Rattle.census_core.specs.Folded.{filled_lines, is_filled, is_refused, operations_of_line, taken_of_line}
 
 -- one operation more from the front of a list
 pub insert_next : (s : Operations) (o : Operation) (rest : List Operation) → union s (set_of (o ∷ rest)) ≡ union (insert s o) (set_of rest)

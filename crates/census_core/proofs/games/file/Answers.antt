@@ -2,9 +2,8 @@ use Rattle.std.proofs.Common.{Some, sym, ap, ◌∙◌}
 use Rattle.std.specs.BTreeMap as tree
 use Rattle.std.proofs.lemmas.Result.{on_ok_weaker}
 use Rattle.oct_code.specs.Code.{code_cmp}
-use Rattle.oct_ops.specs.Body as kind
 use Rattle.oct_ops.specs.Views.{content}
-use Rattle.census_core.specs.Filed.{after, filed_body, or_new, with_block, with_claim}
+use Rattle.census_core.specs.Filed.{after, filed_body, or_new, with_block}
 use Rattle.census_core.proofs.Building.{other_body}
 use Rattle.census_core.proofs.games.file.Goals as goal
 

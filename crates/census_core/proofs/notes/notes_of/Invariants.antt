@@ -1,4 +1,3 @@
-use Rattle.std.proofs.Common.{◌≡◌, ◌++◌}
 use Rattle.oct_ops.specs.Operations.{listed}
 use Rattle.census_core.proofs.Noting.{Noting}
 use Rattle.census_core.proofs.notes.notes_of.Given as goal
