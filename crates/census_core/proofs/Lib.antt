@@ -1,5 +1,2 @@
-mod Building
-mod FiledLaws
 mod LineLemmas
-mod Noting
 mod Taking

@@ -1,19 +1,24 @@
 -- The operations of the lines, taken in one list after another.
-use Rattle.std.proofs.Common.{arith, ◌≡◌, ◌≤◌, ◌+◌, ℕ, Bool, true, false, List, [], ◌∷◌, ◌++◌, cond, Option, None, sym, ap, ◌∙◌}
-use Rattle.std.specs.Prelude.{count_by, filter, unwrap_or}
+use Rattle.std.proofs.Common.{arith, ◌≡◌, ◌↔◌, ◌≤◌, ◌+◌, ℕ, Bool, true, false, List, [], ◌∷◌, ◌++◌, cond, Option, Some, None, Result, Err, IsSome, refl, sym, ap, ◌∙◌}
+use Rattle.std.specs.Prelude.{⊤, count_by, filter, is_none, unwrap_or}
+use Rattle.std.specs.Result.{IsErrOf}
 use Rattle.std.proofs.lemmas.List.Sums.{sum_by-cons}
 use Rattle.std.specs.Str.Lines.{lines}
 use Rattle.std.specs.List.{flat_map}
+use Rattle.oct_delta.specs.Bytes.{IsBytes}
+use Rattle.oct_delta.specs.Decoding.{format_at, read_as, read_delta}
+use Rattle.oct_delta.specs.Delta.{IsDeltaText}
+use Rattle.oct_delta.specs.Taken.{operations_of, set_of_read}
 use Rattle.oct_delta.specs.Text.{Bytes}
 use Rattle.oct_ops.specs.Body.{Operation}
 use Rattle.oct_ops.specs.Operations.{Operations, empty, insert, set_of, union}
 use Rattle.oct_ops.specs.OrderLaws.{op_cmp_total, op_cmp_exact}
-use Rattle.oct_ops.specs.SetLaws.{union-empty, union-insert, union-insert_left, union_assoc, union_comm}
+use Rattle.oct_ops.specs.SetLaws.{union-empty, union-insert_left, union_assoc, union_comm}
+use Rattle.oct_replica.specs.Content.{ReplicaContent}
+use Rattle.oct_replica.specs.Taking.{LeavesAt}
+use Rattle.oct_replica.specs.declared.error.TakeError.{TakeError}
+use Rattle.oct_replica.specs.declared.error.TakeError.TheVariants.{Version, Refused, OutOfMemory}
 use Rattle.census_core.specs.Folded.{filled_lines, is_filled, is_refused, operations_of_line, taken_of_line}
-
--- one operation more from the front of a list
-pub insert_next : (s : Operations) (o : Operation) (rest : List Operation) → union s (set_of (o ∷ rest)) ≡ union (insert s o) (set_of rest)
-insert_next s o rest = union-insert op_cmp_total op_cmp_exact s (set_of rest) o ∙ sym (union-insert_left op_cmp_total op_cmp_exact s (set_of rest) o)
 
 union_none : (s : Operations) → union s (set_of []) ≡ s
 union_none s = union-empty op_cmp_total op_cmp_exact s
@@ -31,8 +36,45 @@ line_next s line rest =
 
 -- ---- one line
 
-pub no_operations : (s : Operations) (line : Bytes) (found : Option (List Operation)) → found ≡ None → found ≡ operations_of_line line → s ≡ union s (set_of (taken_of_line line))
-no_operations s line found none is = sym (union_none s) ∙ ap (λ m. union s (set_of (unwrap_or m []))) (sym none ∙ is)
+-- a line that spells nothing leaves the set, and is counted
+pub untaken : (s : Operations) (line : Bytes) → operations_of_line line ≡ None → s ≡ union s (set_of (taken_of_line line))
+untaken s line none = sym (union_none s) ∙ ap (λ (m : Option (List Operation)). union s (set_of (unwrap_or m []))) (sym none)
+
+pub refused_once : (line : Bytes) (n : ℕ) → operations_of_line line ≡ None → n + 1 ≡ cond (is_refused line) (n + 1) n
+refused_once line n none = ap (λ (m : Option (List Operation)). cond (is_none m) (n + 1) n) (sym none)
+
+-- bytes that begin with no tag, or are no text, spell nothing
+abbrev pub Law : Type 0
+Law = (bytes : Bytes) (ops : List Operation) → IsBytes bytes → (read_delta bytes ≡ Some ops) ↔ IsDeltaText bytes ops
+
+read_none : Law → (bytes : Bytes) → IsBytes bytes → ((ops : List Operation) → ¬ IsDeltaText bytes ops) → read_delta bytes ≡ None
+read_none law bytes are none = elim (read_delta bytes) as (λ o. read_delta bytes ≡ o → o ≡ None) [
+  | None ↦ λ _. refl
+  | Some ops ↦ λ e. absurd (none ops ((law bytes ops are).0 e))
+] refl
+
+-- the two answers for bytes that are no delta
+abbrev pub IsNoDelta : TakeError → Type 0
+IsNoDelta Version = ⊤
+IsNoDelta Refused = ⊤
+IsNoDelta (OutOfMemory done) = ⊥
+
+-- what either says of the bytes
+pub nothing_read : Law → (bytes : Bytes) → IsBytes bytes → (r : Result ℕ TakeError) → (e : TakeError) → r ≡ Err e → IsNoDelta e
+    → IsErrOf r Version ↔ (format_at bytes ≡ None) → IsErrOf r Refused ↔ (IsSome (format_at bytes) × ((ops : List Operation) → ¬ IsDeltaText bytes ops))
+    → read_delta bytes ≡ None
+nothing_read law bytes are r Version is told version refused = ap (λ f. read_as f bytes) (version.0 is)
+nothing_read law bytes are r Refused is told version refused = read_none law bytes are ((refused.0 is).1)
+nothing_read law bytes are r (OutOfMemory done) is told version refused = absurd told
+
+pub unchanged : (old new : ReplicaContent) (list : List Operation) (e : TakeError) → IsNoDelta e → LeavesAt old new list e → new ≡ old
+unchanged old new list Version told left = left
+unchanged old new list Refused told left = left
+unchanged old new list (OutOfMemory done) told left = absurd told
+
+-- where nothing is read, nothing is taken
+pub none_of : (s : Operations) (bytes : Bytes) → read_delta bytes ≡ None → s ≡ union s (operations_of bytes)
+none_of s bytes none = sym (union_none s) ∙ ap (λ (m : Option (List Operation)). union s (set_of_read m)) (sym none)
 
 pub from_none : (s t : Operations) → s ≡ empty → union s t ≡ t
 from_none s t none = ap (λ r. union r t) none ∙ union_comm op_cmp_total op_cmp_exact empty t ∙ union-empty op_cmp_total op_cmp_exact t

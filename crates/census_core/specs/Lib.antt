@@ -1,4 +1,3 @@
-pub mod Filed
 pub mod Folded
 pub mod Output
 pub mod Statuses

@@ -2,25 +2,19 @@
 
 ghost use Rattle.std.specs.Prelude.{◌≡◌, ◌≢◌, ◌<◌, length, IfOk, OnOk, IfSome, IfErr, IsErrOf};
 ghost use Rattle.std.specs.Io.KnownBytes.{Appends, Keeps};
-ghost use Rattle.oct_ops.specs.Operations.{listed};
-ghost use Rattle.oct_pages.specs.Catalogue.{catalogue};
 ghost use Rattle.census_core.specs.Folded.{folded, refused};
 ghost use Rattle.census_core.specs.Output.{AppendsPrefix};
 
 use crate::fault::Fault;
-use crate::games::games_of;
 use crate::input::{INPUT_LIMIT, read_whole};
-use crate::notes::notes_of;
 use crate::output::write_out;
 use crate::taken::take_lines;
-use oct_pages::{Parts, write_catalogue};
-use oct_store::Store;
-use std::alloc::{AllocError, Allocator};
+use std::alloc::Allocator;
 use std::io::{Read, Write};
 
-/// Reads the whole input, takes each line that is the hexadecimal text of a delta, writes the catalogue of all their
-/// operations, and says how many other lines were not empty. Nothing is written before the whole input was read; after
-/// `Write` a prefix of the catalogue was written.
+/// Reads the whole input, lets one replica take each line that is the hexadecimal text of a delta, writes the catalogue of
+/// all their operations, and says how many other lines were not empty. Nothing is written before the whole input was read;
+/// after `Write` a prefix of the catalogue was written.
 pub fn fold_lines<A: Allocator + Copy, R: Read, W: Write>(
     alloc: A,
     reader: &mut R,
@@ -36,23 +30,8 @@ pub fn fold_lines<A: Allocator + Copy, R: Read, W: Write>(
 {
     let input = read_whole(alloc, reader, INPUT_LIMIT)?;
     let lines = take_lines(alloc, &input)?;
-    let text = catalogue_of(alloc, &lines.store)?;
+    let mut text = Vec::new(alloc);
+    lines.replica.catalogue(&mut text)?;
     write_out(writer, &text)?;
     Ok(lines.refused)
-}
-
-// The catalogue of the operations.
-fn catalogue_of<A: Allocator + Copy>(alloc: A, store: &Store<A>) -> Result<Vec<u8, A>, AllocError>
-    ensures { IfOk result (λ text. text.items ≡ catalogue (listed store.now)) }
-{
-    let games = games_of(alloc, store)?;
-    let notes = notes_of(alloc, store)?;
-    let mut text = Vec::new(alloc);
-    let parts = Parts {
-        store,
-        games: &games,
-        notes: &notes,
-    };
-    write_catalogue(alloc, &parts, &mut text)?;
-    Ok(text)
 }

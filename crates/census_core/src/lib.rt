@@ -3,10 +3,8 @@
 
 mod fault;
 mod fold;
-mod games;
 mod input;
 mod lines;
-mod notes;
 mod output;
 mod taken;
 

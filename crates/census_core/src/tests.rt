@@ -1,13 +1,8 @@
-use crate::games::games_of;
-use crate::notes::notes_of;
 use crate::taken::take_lines;
 use crate::{Fault, fold_lines};
-use metered::Metered;
-use oct_pages::{Parts, write_catalogue, write_page};
 use std::alloc::Global;
 use std::io;
 use std::io::{ErrorKind, Read, Write};
-use std::process::Abort;
 use std::test::Fail;
 
 /// Kayles 1.1 at 0 count 5, with its right values.
@@ -209,9 +204,6 @@ end
 const ALTERNATING: &str =
     "4f47443100000002000000010000000101000103000000000007000000000000000100000000000000010000000000000001000000000000000100000002020001030000000100000002";
 
-/// The notes 5.1 and 5.3 of the name a, without text.
-const NOTES: &str = "4f47443100000002000000050000000103016100000000050000000303016100";
-
 #[test]
 fn claims_settle_far_blocks(rt: HostRuntime) -> Result<(), Fail> {
     // 0.3 1.3 at 1000 count 2, of right values, and 1.4, whose second one is wrong
@@ -333,99 +325,12 @@ fn many_blocks_are_on_two_pages(rt: HostRuntime) -> Result<(), Fail> {
 // A page of the catalogue of what the lines say.
 fn page_of(alloc: Global, input: &[u8], page: u32) -> Result<Vec<u8>, Fault> {
     let lines = take_lines(alloc, input)?;
-    let games = games_of(alloc, &lines.store)?;
-    let notes = notes_of(alloc, &lines.store)?;
-    let parts = Parts {
-        store: &lines.store,
-        games: &games,
-        notes: &notes,
-    };
     let mut out = Vec::new(alloc);
-    let is_there = write_page(alloc, &parts, page, &mut out)?;
+    let is_there = lines.replica.page(page, &mut out)?;
     if is_there == out.is_empty() {
         return Err(Fault::Read);
     }
     Ok(out)
-}
-
-// Writes a page, or the whole catalogue, with so many requests for memory granted, and says whether that was enough. A
-// refusal leaves the text as it was, and the same call then writes it.
-fn writes_with(
-    rt: &impl Abort,
-    heap: &Metered<Global>,
-    page: Option<u32>,
-    text: &str,
-    grants: u64,
-) -> Result<bool, Fail> {
-    heap.arm(u64::MAX);
-    let input = format!(in heap; "{ALTERNATING}\n{KAYLES_FROM_5}\n{NOTES}\n")?;
-    let lines = take_lines(heap, input.as_bytes())?;
-    let games = games_of(heap, &lines.store)?;
-    let notes = notes_of(heap, &lines.store)?;
-    let parts = Parts {
-        store: &lines.store,
-        games: &games,
-        notes: &notes,
-    };
-    let mut out = Vec::from_slice(heap, b"- ")?;
-    heap.arm(grants);
-    let written = match page {
-        Some(page) => write_page(heap, &parts, page, &mut out).is_ok(),
-        None => write_catalogue(heap, &parts, &mut out).is_ok(),
-    };
-    heap.arm(u64::MAX);
-    if !written {
-        assert_eq!(rt; out.as_slice(), b"- ".as_slice());
-        match page {
-            Some(page) => {
-                write_page(heap, &parts, page, &mut out)?;
-            }
-            None => write_catalogue(heap, &parts, &mut out)?,
-        }
-    }
-    let wanted = format!(in heap; "- {text}")?;
-    assert_eq!(rt; out.as_slice(), wanted.as_bytes());
-    Ok(written)
-}
-
-#[test]
-fn refused_catalogues_leave_the_text(rt: HostRuntime) -> Result<(), Fail> {
-    let heap = Metered::new(rt.alloc());
-    let text = "\
-census 2
-game 0.3 known 7
-values 0 0 1 0 1 0 1 0
-block 1.1 at 0 count 7 proved
-period 1.2 from 1 by 2 proved
-game 0.77 known 1
-values 0 0
-block 2.1 at 5 count 3 pending
-note a 5.1 
-note a 5.3 
-author 1 through 2 last 2
-author 2 through 1 last 1
-author 5 through 1 last 3
-end
-";
-    refuses_then_writes(&rt, &heap, None, text)?;
-    refuses_then_writes(&rt, &heap, Some(0), text)?;
-    refuses_then_writes(&rt, &heap, Some(1), "")
-}
-
-// Refuses each request for memory in turn, until all are granted.
-fn refuses_then_writes(
-    rt: &impl Abort,
-    heap: &Metered<Global>,
-    page: Option<u32>,
-    text: &str,
-) -> Result<(), Fail> {
-    for grants in 0..1000 {
-        if writes_with(rt, heap, page, text, grants)? {
-            assert!(rt; grants > 0);
-            return Ok(());
-        }
-    }
-    Err("always refused")?
 }
 
 #[test]

@@ -1,5 +1,13 @@
-use Rattle.census_core.proofs.Taking.{no_operations}
+use Rattle.std.proofs.Common.{rules, ◌≡◌, None}
+use Rattle.census_core.specs.Folded.{operations_of_line}
+use Rattle.census_core.proofs.Taking.{refused_once, untaken}
 use Rattle.census_core.proofs.taken.take_line.Goals as goal
 
-pub returns-in-None-clause-taken : goal.returns-in-None-clause-taken
-returns-in-None-clause-taken g c = no_operations c.args.lines.now.store c.args.line.now c.in_ok-list.field-0 c.in-None.is c.in_ok-list.ensures.value
+pub returns-in-Err : goal.returns-in-Err
+returns-in-Err g c =
+    let none : operations_of_line c.args.line.now ≡ None = search rules in
+    record {
+      taken = untaken c.args.lines.now.replica.ops c.args.line.now none;
+      counted = refused_once c.args.line.now c.args.lines.now.refused none;
+      kind = search rules;
+    }

@@ -16,7 +16,7 @@ none_left (b ∷ bytes) h = let never : true ≡ false = h ∙ eqb-suc-zero (len
 
 pub loop-rest-init : goal.loop-rest-init
 loop-rest-init g c = record {
-  taken = from_none c.new.result (taken c.args.input.now) c.new.ensures;
+  taken = from_none c.reader_of_lines.result.ops (taken c.args.input.now) c.reader_of_lines.ensures;
   counted = omega arith;
   bounded = omega arith;
 }
@@ -31,8 +31,8 @@ loop-rest-preserved-in-Continue-1 g c =
     record {
       taken =
           ap (λ s. union s (set_of (flat_map taken_of_line (filled_lines next)))) c.in_ok-take_line.ensures.taken
-          ∙ sym (line_next c.loop-rest.lines.store line (filled_lines next))
-          ∙ ap (λ l. union c.loop-rest.lines.store (set_of (flat_map taken_of_line l))) (sym rest)
+          ∙ sym (line_next c.loop-rest.lines.replica.ops line (filled_lines next))
+          ∙ ap (λ l. union c.loop-rest.lines.replica.ops (set_of (flat_map taken_of_line l))) (sym rest)
           ∙ c.loop-rest.invariant.taken;
       counted =
           counted_next c.loop-rest.lines.refused c.take_line.new.lines.refused line (filled_lines next) _ c.in_ok-take_line.ensures.counted
@@ -43,6 +43,6 @@ loop-rest-preserved-in-Continue-1 g c =
 pub returns-clause-taken : goal.returns-clause-taken
 returns-clause-taken g c =
     let none = none_left c.loop-rest.rest.now (sym c.loop-rest-test.false ∙ c.is_empty.ensures) in
-    sym (union-empty op_cmp_total op_cmp_exact c.loop-rest.lines.store)
-    ∙ ap (λ r. union c.loop-rest.lines.store (set_of (flat_map taken_of_line (filled_lines r)))) (sym none)
+    sym (union-empty op_cmp_total op_cmp_exact c.loop-rest.lines.replica.ops)
+    ∙ ap (λ r. union c.loop-rest.lines.replica.ops (set_of (flat_map taken_of_line (filled_lines r)))) (sym none)
     ∙ c.loop-rest.invariant.taken

@@ -7,7 +7,7 @@ use Rattle.census_core.proofs.taken.take_lines.Given as goal
 
 abbrev pub invariant-loop-rest : goal.invariant-loop-rest
 invariant-loop-rest g l = record {
-  taken : union l.lines.store (set_of (flat_map taken_of_line (filled_lines l.rest))) ≡ taken l.input;
+  taken : union l.lines.replica.ops (set_of (flat_map taken_of_line (filled_lines l.rest))) ≡ taken l.input;
   counted : l.lines.refused + count_by is_refused (filled_lines l.rest) ≡ refused l.input;
   bounded : l.lines.refused + length l.rest ≤ length l.input;
 }
