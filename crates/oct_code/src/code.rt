@@ -160,9 +160,10 @@ impl Ord for Code {
     ghost matches_eq = { λ c d. refl };
 
     fn cmp(&self, other: &Code) -> Ordering {
-        let heads = self.head.cmp(&other.head);
-        let lens = self.len.cmp(&other.len);
-        heads.then(lens).then(self.digits().cmp(other.digits()))
+        match self.head.cmp(&other.head).then(self.len.cmp(&other.len)) {
+            Ordering::Equal => self.digits().cmp(other.digits()),
+            unequal => unequal,
+        }
     }
 }
 

@@ -185,8 +185,10 @@ fn is_named<A: Allocator>(op: &Op<A>, name: &[u8]) -> bool
 fn by_name<A: Allocator>(note: &Op<A>, other: &Op<A>) -> Ordering
     ensures { result ≡ spec.note_order note.now other.now }
 {
-    let names = name_of(note.body()).cmp(name_of(other.body()));
-    names.then(note.cmp(other))
+    match name_of(note.body()).cmp(name_of(other.body())) {
+        Ordering::Equal => note.cmp(other),
+        names => names,
+    }
 }
 
 impl<A: Allocator + Copy> Join for Notes<A> {

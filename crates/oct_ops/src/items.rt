@@ -86,7 +86,10 @@ impl<T: Ord, A: Allocator> Ord for Items<T, A> {
     fn cmp(&self, other: &Self) -> Ordering {
         let mine = self.as_slice();
         let others = other.as_slice();
-        mine.len().cmp(&others.len()).then(mine.cmp(others))
+        match mine.len().cmp(&others.len()) {
+            Ordering::Equal => mine.cmp(others),
+            lens => lens,
+        }
     }
 }
 

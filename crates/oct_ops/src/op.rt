@@ -259,8 +259,10 @@ impl<A: Allocator> Ord for Op<A> {
     ghost matches_eq = { λ a b. refl };
 
     fn cmp(&self, other: &Op<A>) -> Ordering {
-        let dots = self.dot.cmp(&other.dot);
-        dots.then(self.body.cmp(&other.body))
+        match self.dot.cmp(&other.dot) {
+            Ordering::Equal => self.body.cmp(&other.body),
+            dots => dots,
+        }
     }
 }
 
