@@ -1,50 +1,42 @@
 //! The program over any three streams.
 
 use crate::command_line::command;
-use census_core::{Fault, fold_lines, write_out};
+use crate::files::{exists, read_file, replace_file, write_file};
+use crate::network::exchange;
+use crate::task::{Task, read_task};
+use census_core::{Fault, INPUT_LIMIT, Reply, Request, fold_lines, perform, write_out};
 use clap::error::ErrorKind;
+use oct_sync::Role;
 use std::alloc::Global;
 use std::convert::AsStr;
 use std::io::{Read, Write};
+use std::net::{Net, TcpListener, TcpStream};
+use std::rt::Files;
 
-/// Does the command line of these words, among which the program's name is not: reads the first stream, writes its
-/// output and help to the second, and the count of refused lines, its fault or the text of a refused command line to
-/// the third. Answers the exit status: 0 done, 2 command line, 3 input or output, 4 memory.
-pub fn run<S, I, O, E>(
-    alloc: Global,
-    words: &[S],
-    input: &mut I,
-    output: &mut O,
-    errors: &mut E,
-) -> u8
+/// Does the command line of these words, among which the program's name is not: reads the first stream, writes its output
+/// and help to the second, and the count of refused lines, its fault or the text of a refused command line to the third.
+/// Answers the exit status: 0 done, 1 refused, 2 command line, 3 file, stream or network, 4 memory.
+pub fn run<R, S, I, O, E>(rt: &R, words: &[S], input: &mut I, output: &mut O, errors: &mut E) -> u8
 where
+    R: Files + AllocGlobal + Net<Stream = TcpStream, Listener = TcpListener>,
     S: AsStr,
     I: Read,
     O: Write,
     E: Write,
 {
+    let alloc = rt.alloc();
     let Ok(command) = command(alloc) else {
         return refuse(errors, Fault::OutOfMemory);
     };
     match command.try_get_matches_from(words) {
-        Ok(_) => fold(alloc, input, output, errors),
+        Ok(matches) => match read_task(alloc, &matches) {
+            Ok(task) => match done(rt, &task, input, output, errors) {
+                Ok(()) => 0,
+                Err(fault) => refuse(errors, fault),
+            },
+            Err(fault) => refuse(errors, fault),
+        },
         Err(error) => show(alloc, &error, output, errors),
-    }
-}
-
-// Folds the input, and says how many lines were refused.
-fn fold<I: Read, O: Write, E: Write>(
-    alloc: Global,
-    input: &mut I,
-    output: &mut O,
-    errors: &mut E,
-) -> u8 {
-    match fold_lines(alloc, input, output) {
-        Ok(refused) => {
-            let _ = writeln!(errors, "refused {refused}");
-            0
-        }
-        Err(fault) => refuse(errors, fault),
     }
 }
 
@@ -75,4 +67,83 @@ fn show<O: Write, E: Write>(
         Ok(()) => 0,
         Err(fault) => refuse(errors, fault),
     }
+}
+
+// Does the task.
+fn done<R, I, O, E>(
+    rt: &R,
+    task: &Task<'_>,
+    input: &mut I,
+    output: &mut O,
+    errors: &mut E,
+) -> Result<(), Fault>
+where
+    R: Files + AllocGlobal + Net<Stream = TcpStream, Listener = TcpListener>,
+    I: Read,
+    O: Write,
+    E: Write,
+{
+    match task {
+        Task::Fold => {
+            let refused = fold_lines(rt.alloc(), input, output)?;
+            let _ = writeln!(errors, "refused {refused}");
+            Ok(())
+        }
+        Task::Init { state, id } => {
+            if exists(rt, state)? {
+                return Err(Fault::Exists);
+            }
+            let reply = perform(rt.alloc(), &Request::Init { id: *id }, b"", b"")?;
+            finish(rt, &reply, state, None, output)
+        }
+        Task::Perform {
+            state,
+            read,
+            written,
+            request,
+        } => {
+            let reply = reply_to(rt, state, *read, request)?;
+            finish(rt, &reply, state, *written, output)
+        }
+        Task::Serve { state, address } => {
+            exchange(rt, Role::Server, state, address)?;
+            write_out(output, b"done\n")
+        }
+        Task::Sync { state, address } => {
+            exchange(rt, Role::Client, state, address)?;
+            write_out(output, b"done\n")
+        }
+    }
+}
+
+// What the request gives over the bytes of its files.
+fn reply_to<R: Files + AllocGlobal>(
+    rt: &R,
+    state: &str,
+    read: Option<&str>,
+    request: &Request,
+) -> Result<Reply, Fault> {
+    let state = read_file(rt, state)?;
+    let file = match read {
+        Some(path) => read_file(rt, path)?,
+        None => Vec::new(rt.alloc()),
+    };
+    perform(rt.alloc(), request, &state, &file)
+}
+
+// Writes the files of a reply, and then its text.
+fn finish<R: Files + AllocGlobal, O: Write>(
+    rt: &R,
+    reply: &Reply,
+    state: &str,
+    written: Option<&str>,
+    output: &mut O,
+) -> Result<(), Fault> {
+    if let Some(text) = &reply.state {
+        replace_file(rt, state, text)?;
+    }
+    if let (Some(bytes), Some(path)) = (&reply.file, written) {
+        write_file(rt, path, bytes)?;
+    }
+    write_out(output, &reply.text)
 }

@@ -1,5 +1,6 @@
 use crate::run::run;
 use std::test::Fail;
+use std::{env, fs};
 
 /// What a run wrote, and its status.
 #[derive(Drop)]
@@ -13,7 +14,7 @@ fn outcome_of(rt: &HostRuntime, words: &[&str], input: &[u8]) -> Outcome {
     let mut output = Vec::new(rt.alloc());
     let mut errors = Vec::new(rt.alloc());
     let mut reader = input;
-    let status = run(rt.alloc(), words, &mut reader, &mut output, &mut errors);
+    let status = run(rt, words, &mut reader, &mut output, &mut errors);
     Outcome {
         status,
         output,
@@ -21,41 +22,59 @@ fn outcome_of(rt: &HostRuntime, words: &[&str], input: &[u8]) -> Outcome {
     }
 }
 
-#[test]
-fn folds_the_empty_delta(rt: HostRuntime) -> Result<(), Fail> {
-    let done = outcome_of(&rt, &["fold"], b"zz\n4f47443100000000\n");
-    assert_eq!(rt; done.status, 0);
-    assert_eq!(rt; done.output.as_slice(), b"census 2\nend\n".as_slice());
-    assert_eq!(rt; done.errors.as_slice(), b"refused 1\n".as_slice());
-    Ok(())
+// Whether the words end with this status, output and text of errors.
+fn ends(rt: &HostRuntime, words: &[&str], status: u8, output: &str, errors: &str) -> bool {
+    let done = outcome_of(rt, words, b"zz\n4f47443100000000\n");
+    done.status == status
+        && done.output.as_slice() == output.as_bytes()
+        && done.errors.as_slice() == errors.as_bytes()
 }
 
 #[test]
-fn refuses_an_unknown_command(rt: HostRuntime) -> Result<(), Fail> {
-    let refused = outcome_of(&rt, &["bogus"], b"");
-    assert_eq!(rt; refused.status, 2);
-    assert!(rt; refused.output.is_empty());
-    assert!(rt; !refused.errors.is_empty());
+fn does_commands_over_files(rt: HostRuntime) -> Result<(), Fail> {
+    let temp = env::temp_dir(&rt)?;
+    let folder = temp.join(rt.alloc(), "census-does_commands")?;
+    let _ = fs::remove_dir_all(&rt, folder.as_path());
+    fs::create_dir(&rt, folder.as_path())?;
+    let state = folder.join(rt.alloc(), "state")?;
+    let json = folder.join(rt.alloc(), "block.json")?;
+    fs::write(
+        &rt,
+        json.as_path(),
+        "{\"code\":\"0.07\",\"start\":0,\"values\":[0,0,1,1,2,0,3]}",
+    )?;
+    let state = state.as_path().to_str().ok_or("no text")?;
+    let json = json.as_path().to_str().ok_or("no text")?;
+    assert!(rt; ends(&rt, &["init", state, "7"], 0, "author 7\n", ""));
+    assert!(rt; ends(&rt, &["init", state, "7"], 3, "", "census: Exists\n"));
+    assert!(rt; ends(&rt, &["sync", state, "nowhere"], 3, "", "census: Net\n"));
+    assert!(rt; ends(&rt, &["import", state, json], 0, "issued 7.1\n", ""));
+    assert!(rt; ends(&rt, &["show", state], 0, DAWSON, ""));
+    fs::remove_dir_all(&rt, folder.as_path())?;
     Ok(())
 }
 
-#[test]
-fn refuses_a_further_word(rt: HostRuntime) -> Result<(), Fail> {
-    let refused = outcome_of(&rt, &["fold", "more"], b"");
-    assert_eq!(rt; refused.status, 2);
-    assert!(rt; refused.output.is_empty());
-    assert!(rt; !refused.errors.is_empty());
-    Ok(())
-}
+const DAWSON: &str = "\
+census 2
+game 0.07 known 7
+values 0 0 0 1 1 2 0 3
+block 7.1 at 0 count 7 proved
+author 7 through 1 last 1
+end
+";
 
 #[test]
-fn shows_help_and_version(rt: HostRuntime) -> Result<(), Fail> {
+fn folds_and_refuses_lines(rt: HostRuntime) -> Result<(), Fail> {
+    assert!(rt; ends(&rt, &["fold"], 0, "census 2\nend\n", "refused 1\n"));
+    assert!(rt; ends(&rt, &["init", "none", "x"], 2, "", "census: Number\n"));
+    for words in [["bogus", "fold"], ["fold", "more"], ["show", "--bogus"]] {
+        let refused = outcome_of(&rt, &words, b"");
+        assert_eq!(rt; refused.status, 2);
+        assert!(rt; refused.output.is_empty() && !refused.errors.is_empty());
+    }
     let help = outcome_of(&rt, &["--help"], b"");
     assert_eq!(rt; help.status, 0);
     assert!(rt; help.output.starts_with(b"One table of nim-sequences"));
-    assert!(rt; help.errors.is_empty());
-    let version = outcome_of(&rt, &["--version"], b"");
-    assert_eq!(rt; version.status, 0);
-    assert_eq!(rt; version.output.as_slice(), b"census 0.1.0\n".as_slice());
+    assert!(rt; ends(&rt, &["--version"], 0, "census 1.0.0\n", ""));
     Ok(())
 }

@@ -1,2 +1,10 @@
+mod Asked
+mod CodeTexts
 mod LineLemmas
+mod Importing
+mod Members
+mod Merging
+mod Outcomes
+mod StoredStates
 mod Taking
+mod Wholes

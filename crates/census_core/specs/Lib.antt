@@ -1,3 +1,15 @@
+pub mod Asking
+pub mod Codes
 pub mod Folded
+pub mod Imported
+pub mod Issuing
+pub mod Lines
 pub mod Output
+pub mod Performed
+pub mod Refusals
+pub mod Replies
+pub mod States
 pub mod Statuses
+pub mod Steps
+pub mod Stored
+pub mod Words

@@ -1,18 +1,83 @@
-//! Why a run ended early.
+//! Why a command ended early.
 
+use crate::import_error::ImportError;
+use oct_code::CodeError;
+use oct_delta::EncodeError;
+use oct_ops::{NoteError, PeriodError};
+use oct_replica::{ComputeError, IssueError, LoadError, RemovalError, TakeError};
+use oct_sync::SyncError;
 use std::alloc::AllocError;
-use std::fmt;
+use thiserror::Error;
 
-/// Why a run ended early.
-#[derive(Clone, Copy, Debug, PartialEq, Eq)]
+/// Why a command ended early. Its text is its name, and behind it the name of the cause, where there is one. A cause is
+/// never want of memory: that is `OutOfMemory`.
+#[derive(Clone, Copy, Debug, PartialEq, Eq, Drop, Error)]
 pub enum Fault {
-    /// The input failed.
-    Read,
-    /// The input has more than `INPUT_LIMIT` bytes.
+    /// A word is no number of its range.
+    #[error("Number")]
+    Number,
+    /// There is something in the place of a new state file.
+    #[error("Exists")]
+    Exists,
+    /// A file can't be read, written or renamed.
+    #[error("File")]
+    File,
+    /// An input or a file has more than `INPUT_LIMIT` bytes.
+    #[error("TooLong")]
     TooLong,
-    /// The output failed, or took no byte.
+    /// The state file holds no state.
+    #[error("Load {0:?}")]
+    Load(LoadError),
+    /// The author of a new state is 0.
+    #[error("Zero")]
+    Zero,
+    /// The file is no JSON text.
+    #[error("Json")]
+    Json,
+    /// The JSON value is no block.
+    #[error("Import {0:?}")]
+    Import(ImportError),
+    /// The word is no code.
+    #[error("Code {0:?}")]
+    Code(CodeError),
+    /// No block is computed.
+    #[error("Compute {0:?}")]
+    Compute(ComputeError),
+    /// The numbers are no period claim.
+    #[error("Period {0:?}")]
+    Period(PeriodError),
+    /// The words are no note.
+    #[error("Note {0:?}")]
+    Note(NoteError),
+    /// No notes are removed.
+    #[error("Removal {0:?}")]
+    Removal(RemovalError),
+    /// The file is no delta.
+    #[error("Merge {0:?}")]
+    Merge(TakeError),
+    /// The catalogue has no such page.
+    #[error("NoPage")]
+    NoPage,
+    /// The address can't be bound, accepted on or connected to.
+    #[error("Net")]
+    Net,
+    /// The session ended early.
+    #[error("Sync {0:?}")]
+    Sync(SyncError),
+    /// No operation is issued.
+    #[error("Issue {0:?}")]
+    Issue(IssueError),
+    /// There are more operations than a delta counts.
+    #[error("TooMany")]
+    TooMany,
+    /// Standard input failed.
+    #[error("Read")]
+    Read,
+    /// Standard output failed, or took no byte.
+    #[error("Write")]
     Write,
     /// A request for memory was refused.
+    #[error("OutOfMemory")]
     OutOfMemory,
 }
 
@@ -20,25 +85,172 @@ impl Fault {
     ghost use Rattle.std.specs.Prelude.{◌≡◌};
     ghost use Rattle.census_core.specs.Statuses.{status_of};
 
-    /// The exit status of the program: 3 for the input and the output, 4 for memory.
+    /// The exit status of the program: 1 where something was refused, 2 for the command line, 3 for files, streams and the
+    /// network, 4 for memory.
     pub fn status(self) -> u8
         ensures { result ≡ status_of self }
     {
         match self {
-            Fault::Read | Fault::TooLong | Fault::Write => 3,
+            Fault::Number => 2,
+            Fault::Exists
+            | Fault::File
+            | Fault::TooLong
+            | Fault::Net
+            | Fault::Read
+            | Fault::Write
+            | Fault::Sync(SyncError::Cut | SyncError::Read | SyncError::Write | SyncError::Turns) =>
+                3,
             Fault::OutOfMemory => 4,
+            _ => 1,
         }
     }
 }
 
-impl fmt::Display for Fault {
-    fn fmt<W: fmt::Write>(&self, f: &mut fmt::Formatter<W>) -> fmt::Result {
-        f.write_str(match self {
-            Fault::Read => "Read",
-            Fault::TooLong => "TooLong",
-            Fault::Write => "Write",
-            Fault::OutOfMemory => "OutOfMemory",
-        })
+impl From<LoadError> for Fault {
+    ghost use Rattle.std.specs.Prelude.{◌≡◌};
+    ghost use Rattle.census_core.specs.Refusals.{load_fault};
+
+    ghost from_gives = { λ cause fault. fault ≡ load_fault cause };
+
+    fn from(cause: LoadError) -> Fault {
+        match cause {
+            LoadError::OutOfMemory => Fault::OutOfMemory,
+            _ => Fault::Load(cause),
+        }
+    }
+}
+
+impl From<ImportError> for Fault {
+    ghost use Rattle.std.specs.Prelude.{◌≡◌};
+    ghost use Rattle.census_core.specs.Refusals.{import_fault};
+
+    ghost from_gives = { λ cause fault. fault ≡ import_fault cause };
+
+    fn from(cause: ImportError) -> Fault {
+        match cause {
+            ImportError::OutOfMemory => Fault::OutOfMemory,
+            _ => Fault::Import(cause),
+        }
+    }
+}
+
+impl From<ComputeError> for Fault {
+    ghost use Rattle.std.specs.Prelude.{◌≡◌};
+    ghost use Rattle.census_core.specs.Refusals.{compute_fault};
+
+    ghost from_gives = { λ cause fault. fault ≡ compute_fault cause };
+
+    fn from(cause: ComputeError) -> Fault {
+        match cause {
+            ComputeError::OutOfMemory => Fault::OutOfMemory,
+            _ => Fault::Compute(cause),
+        }
+    }
+}
+
+impl From<NoteError> for Fault {
+    ghost use Rattle.std.specs.Prelude.{◌≡◌};
+    ghost use Rattle.census_core.specs.Refusals.{note_fault};
+
+    ghost from_gives = { λ cause fault. fault ≡ note_fault cause };
+
+    fn from(cause: NoteError) -> Fault {
+        match cause {
+            NoteError::OutOfMemory => Fault::OutOfMemory,
+            _ => Fault::Note(cause),
+        }
+    }
+}
+
+impl From<RemovalError> for Fault {
+    ghost use Rattle.std.specs.Prelude.{◌≡◌};
+    ghost use Rattle.census_core.specs.Refusals.{removal_fault};
+
+    ghost from_gives = { λ cause fault. fault ≡ removal_fault cause };
+
+    fn from(cause: RemovalError) -> Fault {
+        match cause {
+            RemovalError::OutOfMemory => Fault::OutOfMemory,
+            _ => Fault::Removal(cause),
+        }
+    }
+}
+
+impl From<TakeError> for Fault {
+    ghost use Rattle.std.specs.Prelude.{◌≡◌};
+    ghost use Rattle.census_core.specs.Refusals.{take_fault};
+
+    ghost from_gives = { λ cause fault. fault ≡ take_fault cause };
+
+    fn from(cause: TakeError) -> Fault {
+        match cause {
+            TakeError::OutOfMemory { .. } => Fault::OutOfMemory,
+            _ => Fault::Merge(cause),
+        }
+    }
+}
+
+impl From<IssueError> for Fault {
+    ghost use Rattle.std.specs.Prelude.{◌≡◌};
+    ghost use Rattle.census_core.specs.Refusals.{issue_fault};
+
+    ghost from_gives = { λ cause fault. fault ≡ issue_fault cause };
+
+    fn from(cause: IssueError) -> Fault {
+        match cause {
+            IssueError::OutOfMemory => Fault::OutOfMemory,
+            _ => Fault::Issue(cause),
+        }
+    }
+}
+
+impl From<SyncError> for Fault {
+    ghost use Rattle.std.specs.Prelude.{◌≡◌};
+    ghost use Rattle.census_core.specs.Refusals.{sync_fault};
+
+    ghost from_gives = { λ cause fault. fault ≡ sync_fault cause };
+
+    fn from(cause: SyncError) -> Fault {
+        match cause {
+            SyncError::OutOfMemory => Fault::OutOfMemory,
+            _ => Fault::Sync(cause),
+        }
+    }
+}
+
+impl From<EncodeError> for Fault {
+    ghost use Rattle.std.specs.Prelude.{◌≡◌};
+    ghost use Rattle.census_core.specs.Refusals.{encode_fault};
+
+    ghost from_gives = { λ cause fault. fault ≡ encode_fault cause };
+
+    fn from(cause: EncodeError) -> Fault {
+        match cause {
+            EncodeError::TooMany => Fault::TooMany,
+            EncodeError::OutOfMemory => Fault::OutOfMemory,
+        }
+    }
+}
+
+impl From<CodeError> for Fault {
+    ghost use Rattle.std.specs.Prelude.{◌≡◌};
+    ghost use Rattle.census_core.specs.declared.fault.Fault.TheVariants as faults;
+
+    ghost from_gives = { λ cause fault. fault ≡ faults.Code cause };
+
+    fn from(cause: CodeError) -> Fault {
+        Fault::Code(cause)
+    }
+}
+
+impl From<PeriodError> for Fault {
+    ghost use Rattle.std.specs.Prelude.{◌≡◌};
+    ghost use Rattle.census_core.specs.declared.fault.Fault.TheVariants as faults;
+
+    ghost from_gives = { λ cause fault. fault ≡ faults.Period cause };
+
+    fn from(cause: PeriodError) -> Fault {
+        Fault::Period(cause)
     }
 }
 
@@ -46,9 +258,9 @@ impl From<AllocError> for Fault {
     ghost use Rattle.std.specs.Prelude.{◌≡◌};
     ghost use Rattle.census_core.specs.declared.fault.Fault.TheVariants as faults;
 
-    ghost from_gives = { λ _ e. e ≡ faults.OutOfMemory };
+    ghost from_gives = { λ _ fault. fault ≡ faults.OutOfMemory };
 
-    fn from(_e: AllocError) -> Fault {
+    fn from(_refused: AllocError) -> Fault {
         Fault::OutOfMemory
     }
 }

@@ -30,6 +30,7 @@ pub fn fold_lines<A: Allocator + Copy, R: Read, W: Write>(
 {
     let input = read_whole(alloc, reader, INPUT_LIMIT)?;
     let lines = take_lines(alloc, &input)?;
+    drop(input);
     let mut text = Vec::new(alloc);
     lines.replica.catalogue(&mut text)?;
     write_out(writer, &text)?;

@@ -1,3 +1,5 @@
+mod commands;
+
 use crate::taken::take_lines;
 use crate::{Fault, fold_lines};
 use std::alloc::Global;

@@ -7,10 +7,10 @@ mod Formats
 mod Rising
 mod Lists
 mod Removals
-mod Deltas
+pub mod Deltas
 mod Written
-mod Sizes
-mod ClockTexts
+pub mod Sizes
+pub mod ClockTexts
 mod Streams
 mod Wholes
 mod Pieces

@@ -52,6 +52,18 @@ fn room_is_made_ahead(rt: HostRuntime) -> Result<(), Fail> {
 }
 
 #[test]
+fn copies_grow_on_their_own(rt: HostRuntime) -> Result<(), Fail> {
+    let mut values = Values::new(rt.alloc(), code("0.77")?);
+    values.extend_to(8)?;
+    let mut copy = values.copy(rt.alloc())?;
+    assert_eq!(rt; copy.as_slice(), &KAYLES[..8]);
+    copy.extend_to(84)?;
+    assert_eq!(rt; copy.as_slice(), KAYLES.as_slice());
+    assert_eq!(rt; values.as_slice().len(), 8);
+    Ok(())
+}
+
+#[test]
 fn many_digits_and_many_heaps(rt: HostRuntime) -> Result<(), Fail> {
     let mut values = Values::new(rt.alloc(), code("4.7777777777777777")?);
     values.extend_to(3_000)?;

@@ -1,6 +1,6 @@
 //! The first nim-values of a game.
 
-ghost use Rattle.std.specs.Prelude.{◌≡◌, ◌^◌, ◌<◌, ◌≤◌, max, length, IfSome, OnErr, OnOk, SomeIff};
+ghost use Rattle.std.specs.Prelude.{◌≡◌, ◌^◌, ◌<◌, ◌≤◌, max, length, IfOk, IfSome, OnErr, OnOk, SomeIff};
 ghost use Rattle.std.specs.List.{All};
 ghost use Rattle.oct_mex.specs.NimValues.{nim_values, nim_value};
 
@@ -115,5 +115,20 @@ impl<A: Allocator + Copy> Values<A> {
         self.room_to(count)?;
         self.extend_within(count);
         Ok(())
+    }
+
+    /// The same values with the same room, in memory of `alloc`. From there on each of the two grows on its own.
+    pub fn copy(&self, alloc: A) -> Result<Values<A>, AllocError>
+        ensures { IfOk result (λ copy. copy ≡ self.now) }
+    {
+        let mut values = Vec::with_capacity(alloc, self.room)?;
+        values.extend_from_slice(&self.values)?;
+        Ok(Values {
+            code: self.code,
+            values,
+            marks: Vec::from_slice(alloc, &self.marks)?,
+            room: self.room,
+            used: self.used,
+        })
     }
 }

@@ -1,12 +1,13 @@
-mod Authors
+pub mod Authors
 mod Beside
 mod Deliveries
 mod Headline
 mod Inserting
 mod Lines
-mod Members
+pub mod Members
 mod Parts
 mod Places
+mod Removing
 mod Rows
 mod Schedules
 mod Settled

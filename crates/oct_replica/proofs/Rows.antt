@@ -1,18 +1,23 @@
--- One schedule of two replicas: what the first issues, saves and sends, the second has after a delivery.
-use Rattle.std.proofs.Common.{◌≡◌, ◌+◌, true, false, not, ◌&&◌, ◌||◌, cond, ◌==◌, leb, ltb, List, [], ◌∷◌, ◌++◌, refl, ap, ◌∙◌}
+-- One schedule of two replicas: what the first issues, saves and sends, the second has after a delivery. And what a replica
+-- computes of 0.137, of which it knows nothing.
+use Rattle.std.proofs.Common.{◌≡◌, ◌+◌, true, false, not, ◌&&◌, ◌||◌, cond, ◌==◌, leb, ltb, List, [], ◌∷◌, ◌++◌, Some, None, refl, ap, ◌∙◌}
 use Rattle.std.specs.List.{list_any, filter}
 use Rattle.std.specs.Option.{unwrap_or}
 use Rattle.std.specs.Cmp.{eq_by_cmp_equiv}
 use Rattle.std.specs.Ordering.{nat_cmp}
 use Rattle.std.specs.FinMap as finmap
+use Rattle.oct_code.specs.Code.{Code}
+use Rattle.oct_ops.specs.Operation.{claimed}
 use Rattle.oct_ops.specs.Operations.{Operations, empty, contains, insert, listed, set_of}
 use Rattle.oct_ops.specs.OrderLaws.{op_cmp_total, op_cmp_exact}
 use Rattle.oct_ops.specs.SetLaws as laws
 use Rattle.oct_ops.specs.Body.{Body, Operation}
 use Rattle.oct_join.specs.Clock.{Clock, covers}
 use Rattle.oct_store.specs.Summary.{last, beyond}
+use Rattle.oct_replica.specs.Computing.{compute_fault, next_block}
 use Rattle.oct_replica.specs.World.{World, Local, start, last_number, with_replica, is_own_saved, step, after}
 use Rattle.oct_replica.specs.World.Event.{Issue, Save, Send, Deliver, Restart}
+use Rattle.oct_replica.specs.declared.error.ComputeError.TheVariants.{Zero, TooMany, AtLimit}
 
 no_clock : Clock
 no_clock = finmap.empty
@@ -87,3 +92,23 @@ kept_back : (body : Body) → after 2 (Issue 1 body ∷ Send 1 no_clock ∷ []) 
 kept_back body =
     ap (λ w. step w (Send 1 no_clock)) (issued body)
     ∙ ap (λ t. elim t [ true ↦ record (unsaved body) { packets = [] ++ listed (beyond (one body) no_clock) ∷ [] } | false ↦ unsaved body ]) (none_saved body)
+
+-- ---- next values
+
+abbrev dawsons_chess : Code
+dawsons_chess = record { head = 0; digits = 1 ∷ 3 ∷ 7 ∷ [] }
+
+five_values : next_block dawsons_chess [] 5 ≡ claimed dawsons_chess 1 (1 ∷ 1 ∷ 2 ∷ 0 ∷ 3 ∷ [])
+five_values = refl
+
+no_values : compute_fault 65536 0 ≡ Some Zero
+no_values = refl
+
+many_values : compute_fault 65536 1025 ≡ Some TooMany
+many_values = refl
+
+at_limit : compute_fault 65536 1024 ≡ Some AtLimit
+at_limit = refl
+
+last_value : compute_fault 65535 1024 ≡ None
+last_value = refl

@@ -30,6 +30,30 @@ pub enum IssueError {
     OutOfMemory,
 }
 
+/// Why no values were computed.
+#[derive(Clone, Copy, Debug, PartialEq, Eq)]
+pub enum ComputeError {
+    /// None are asked for.
+    Zero,
+    /// More than 1,024 are asked for.
+    TooMany,
+    /// The values of all heaps up to the limit are known.
+    AtLimit,
+    /// A request for memory was refused.
+    OutOfMemory,
+}
+
+/// Why there is no removal of the notes of a name.
+#[derive(Clone, Copy, Debug, PartialEq, Eq)]
+pub enum RemovalError {
+    /// No live note has the name.
+    NoNote,
+    /// The live notes of the name have more than 1,024 dots.
+    TooMany,
+    /// A request for memory was refused.
+    OutOfMemory,
+}
+
 /// Why bytes were not loaded.
 #[derive(Clone, Copy, Debug, PartialEq, Eq)]
 pub enum LoadError {

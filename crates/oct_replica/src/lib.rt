@@ -3,6 +3,8 @@
 //!     let mut replica = Replica::new(alloc, 7)?;
 //!     replica.take(bytes)?;                 // takes in a delta, and says how many operations were new
 //!     replica.issue(body)                   // the dot of the author's next operation
+//!     replica.compute(kayles, 12)?          // a block of the next 12 nim-values of a game, to be issued
+//!     replica.removal(b"kayles")?           // the removal of the notes of a name, to be issued
 //!     replica.join(&other)?;                // the union
 //!     replica.value(kayles, &[5, 6])        // the exclusive or of the heaps' nim-values
 //!     replica.catalogue(&mut out)?;         // all that is known, as text
@@ -19,13 +21,15 @@
 //! and that replicas which took the same operations print the same bytes.
 #![tactic(auto)]
 
+mod computing;
 mod error;
 mod games;
 pub mod laws;
 mod replica;
 mod state;
+mod valid;
 
-pub use error::{AuthorError, IssueError, LoadError, TakeError};
+pub use error::{AuthorError, ComputeError, IssueError, LoadError, RemovalError, TakeError};
 pub use replica::Replica;
 
 #[cfg(test)]

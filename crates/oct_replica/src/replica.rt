@@ -1,10 +1,10 @@
 //! A replica of a census.
 
 ghost use Rattle.std.specs.Prelude.{◌≡◌, ◌↔◌, ◌≤◌, ◌<◌, ◌^◌, ◌++◌, not, length, true, false, None, List, IsTrue, IsSome, IsNone, IfSome, IfOk, IfErr, OnOk, OnErr, IsErrOf};
-ghost use Rattle.std.specs.Option.{option_copied};
+ghost use Rattle.std.specs.Option.{option_copied, unwrap_or};
 ghost use Rattle.oct_mex.specs.NimValues.{position_value as nim_sum};
 ghost use Rattle.oct_ops.specs.Body.{Operation};
-ghost use Rattle.oct_ops.specs.Operation.{dot_of};
+ghost use Rattle.oct_ops.specs.Operation.{dot_of, removing};
 ghost use Rattle.oct_ops.specs.Operations.{empty, insert, contains, listed, set_of, union, IsSubset};
 ghost use Rattle.oct_ops.specs.Valid.{IsU32};
 ghost use Rattle.oct_ops.specs.Views.{content};
@@ -14,28 +14,35 @@ ghost use Rattle.oct_delta.specs.Delta.{encoded, IsDeltaText};
 ghost use Rattle.oct_delta.specs.State.{IsState};
 ghost use Rattle.oct_delta.specs.Taken.{operations_of};
 ghost use Rattle.oct_store.specs.Summary as summary;
+ghost use Rattle.oct_notes.specs.Notes.{live_dots};
 ghost use Rattle.oct_verify.specs.Filing.{blocks_in};
+ghost use Rattle.oct_verify.specs.Known.{known, is_true};
 ghost use Rattle.oct_period.specs.Claims.{claims_in};
 ghost use Rattle.oct_period.specs.Outcomes.{outcome, IsOutcomeOf};
 ghost use Rattle.oct_period.specs.Periods.{position_value};
 ghost use Rattle.oct_pages.specs.Catalogue.{catalogue, has_page, page as page_text};
 ghost use Rattle.oct_pages.specs.Parts.{AreParts};
 ghost use Rattle.oct_replica.specs.Beside.{content_in, game_in};
+ghost use Rattle.oct_replica.specs.Computing.{compute_fault, next_block as block_after, removal_fault, RefusesRemoval};
+ghost use Rattle.oct_replica.specs.Settled.{AreValid};
 ghost use Rattle.oct_replica.specs.States.{state_text, RefusesState};
 ghost use Rattle.oct_replica.specs.Taking.{count_new, issue_error, with_all, IsCutBy, LeavesAt};
 ghost use Rattle.oct_replica.specs.World.{has_number, next_op};
 
-use crate::error::{AuthorError, IssueError, LoadError, TakeError};
+use crate::computing::next_block;
+use crate::error::{AuthorError, ComputeError, IssueError, LoadError, RemovalError, TakeError};
 use crate::games::file;
 use crate::state::{decode_list, put_state, restored, split_state};
+use crate::valid::are_valid;
 use oct_code::Code;
 use oct_delta::{DeltaError, EncodeError, decode, encode};
 use oct_join::Clock;
 use oct_notes::Notes;
-use oct_ops::{Body, Dot, Op, OpList};
+use oct_ops::{Block, Body, Dot, Op, OpList, Removal, RemovalError as Fault};
 use oct_pages::{Parts, write_catalogue, write_page};
 use oct_period::{Game, Outcome, Unknown};
 use oct_store::Store;
+use oct_verify::Ledger;
 use std::alloc::{AllocError, Allocator};
 use std::collections::BTreeMap;
 use std::marker::Model;
@@ -188,8 +195,10 @@ impl<A: Allocator + Copy> Replica<A> {
     /// For each author the number through which all of its operations are here, from the first on. This is one pass over
     /// the set.
     pub fn clock(&self) -> Result<Clock<A>, AllocError>
-        ensures { IfOk result (λ clock. clock ≡ summary.clock_of (listed self.now.ops)) }
+        ensures ok { IfOk result (λ clock. clock ≡ summary.clock_of (listed self.now.ops)) }
+        ensures valid { AreValid self.now.ops }
     {
+        prove!(are_valid(&self.store));
         self.store.clock()
     }
 
@@ -247,6 +256,44 @@ impl<A: Allocator + Copy> Replica<A> {
                 let game = Game::new(self.alloc, code);
                 game.outcome(heaps)
             }
+        }
+    }
+
+    /// The block of the next nim-values of a game: from the known length on, `count` of them or as many as the limit leaves.
+    /// It is true, and where nothing is held of the game it starts at 1. The replica does not change. The first refusal is
+    /// `Zero`, exactly where `count` is 0; then `TooMany`, exactly where it is over 1,024; then `AtLimit`, exactly where the
+    /// known length is `LIMIT`.
+    pub fn compute(&self, code: Code, count: u32) -> Result<Block<A>, ComputeError>
+        ensures ok { IfOk result (λ block. block ≡ block_after code (blocks_in (content_in self.now.ops code).blocks) count) }
+        ensures right { IfOk result (λ block. is_true block ≡ true) }
+        ensures accepted { OnOk result (compute_fault (known (blocks_in (content_in self.now.ops code).blocks)) count ≡ None) }
+        ensures error { IfErr result (λ error. error ≡ unwrap_or (compute_fault (known (blocks_in (content_in self.now.ops code).blocks)) count) ComputeError.OutOfMemory) }
+    {
+        match self.game(code) {
+            Some(game) => next_block(game.ledger(), count),
+            None => {
+                let ledger = Ledger::new(self.alloc, code);
+                next_block(&ledger, count)
+            }
+        }
+    }
+
+    /// The removal of the live notes of a name: it names the dot of each, rising and once. The replica does not change. The
+    /// first refusal is `NoNote`, where no live note has the name; then `TooMany`, where there are more than 1,024 dots.
+    /// Memory may be refused before the dots are counted.
+    pub fn removal(&self, name: &[u8]) -> Result<Removal<A>, RemovalError>
+        ensures ok { IfOk result (λ removal. removal ≡ removing (live_dots (listed self.now.ops) name.now)) }
+        ensures accepted { OnOk result (removal_fault (live_dots (listed self.now.ops) name.now) ≡ None) }
+        ensures error { IfErr result (RefusesRemoval (live_dots (listed self.now.ops) name.now)) }
+    {
+        let Ok(dots) = self.notes.live_dots(name) else {
+            return Err(RemovalError::OutOfMemory);
+        };
+        match Removal::new(dots) {
+            Ok(removal) => Ok(removal),
+            Err((Fault::Empty, _)) => Err(RemovalError::NoNote),
+            Err((Fault::TooMany, _)) => Err(RemovalError::TooMany),
+            Err((Fault::NotRising, _)) => unreachable!(),
         }
     }
 

@@ -7,6 +7,8 @@ use oct_period::{Outcome, Unknown};
 use std::alloc::{Allocator, Global};
 use std::test::Fail;
 
+mod refusals;
+
 /// Kayles from place 0, by author 1.
 const A: [u8; 47] = [
     0x4f, 0x47, 0x44, 0x31, 0x00, 0x00, 0x00, 0x01, 0x00, 0x00, 0x00, 0x01, 0x00, 0x00, 0x00, 0x01,
@@ -59,12 +61,34 @@ const J: [u8; 16] = [
     0x4f, 0x47, 0x53, 0x31, 0x00, 0x00, 0x00, 0x07, 0x4f, 0x47, 0x44, 0x31, 0x00, 0x00, 0x00, 0x00,
 ];
 
+/// That of author 7 with I.
+const FULL: &[u8] =
+    b"OGS1\x00\x00\x00\x07OGD1\x00\x00\x00\x02\x00\x00\x00\x05\x00\x00\x00\x01\x03\x01a\x00\x00\x00\x00\x05\x00\x00\x00\x03\x03\x01a\x00";
+
+/// What is sent of I where 5.1 is known.
+const THIRD_OF_I: &[u8] = b"OGD1\x00\x00\x00\x01\x00\x00\x00\x05\x00\x00\x00\x03\x03\x01a\x00";
+
 // The texts of A and B, and of B alone.
 const BOTH: &str =
     "census 2\ngame 0.77 known 8\nvalues 0 0 1 2 3 1 4 3 2\nblock 1.1 at 0 count 5 proved\nblock 2.1 at 5 count 3 proved\nauthor 1 through 1 last 1\nauthor 2 through 1 last 1\nend\n";
 
 const ALONE: &str =
     "census 2\ngame 0.77 known 1\nvalues 0 0\nblock 2.1 at 5 count 3 pending\nauthor 2 through 1 last 1\nend\n";
+
+// That of A, SECOND and THIRD.
+const OVERLAPPING: &str =
+    "census 2\ngame 0.77 known 8\nvalues 0 0 1 2 3 1 4 3 2\nblock 1.1 at 0 count 5 proved\nblock 1.2 at 2 count 2 proved\nblock 1.3 at 3 count 5 proved\nauthor 1 through 3 last 3\nend\n";
+
+// That of D.
+const TURNS: &str =
+    "census 2\ngame 0.3 known 7\nvalues 0 0 1 0 1 0 1 0\nblock 1.1 at 0 count 7 proved\nperiod 1.2 from 1 by 2 proved\nauthor 1 through 2 last 2\nend\n";
+
+// That of F, G and H.
+const LATER: &str =
+    "census 2\nnote kayles 1.2 later\nauthor 1 through 2 last 2\nauthor 2 through 1 last 1\nend\n";
+
+// That of I.
+const UNTOLD: &str = "census 2\nnote a 5.1 \nnote a 5.3 \nauthor 5 through 1 last 3\nend\n";
 
 // Whether this is the replica's catalogue.
 fn shows(alloc: Global, replica: &Replica<Global>, wanted: &str) -> bool {
@@ -90,11 +114,13 @@ fn prints(alloc: Global, deltas: &[&[u8]], wanted: &str) -> bool {
     }
 }
 
-// Whether a replica with A that is joined with one with B prints both.
-fn joins(alloc: Global, replica: &mut Replica<Global>) -> bool {
+// Whether a replica that takes a delta of one operation is joined with one that took another.
+fn joins(alloc: Global, replica: &mut Replica<Global>, ours: &[u8], theirs: &[u8]) -> bool {
     match Replica::new(alloc, 1) {
         Ok(mut other) => {
-            takes(&mut other, &[&B], 1) && takes(replica, &[&A], 1) && replica.join(&other).is_ok()
+            takes(&mut other, &[theirs], 1)
+                && takes(replica, &[ours], 1)
+                && replica.join(&other).is_ok()
         }
         Err(_) => false,
     }
@@ -112,7 +138,7 @@ fn order_does_not_matter(rt: HostRuntime) {
 fn joined_replicas_print_both(rt: HostRuntime) -> Result<(), Fail> {
     let alloc = rt.alloc();
     let mut replica = Replica::new(alloc, 7)?;
-    assert!(rt; joins(alloc, &mut replica));
+    assert!(rt; joins(alloc, &mut replica, &A, &B));
     assert!(rt; shows(alloc, &replica, BOTH));
     assert_eq!(rt; replica.author(), 7);
     assert_eq!(rt; replica.len(), 2);
@@ -129,22 +155,37 @@ const THIRD: &[u8] =
 
 #[test]
 fn what_comes_again_is_not_new(rt: HostRuntime) {
-    let wanted =
-        "census 2\ngame 0.77 known 8\nvalues 0 0 1 2 3 1 4 3 2\nblock 1.1 at 0 count 5 proved\nblock 1.2 at 2 count 2 proved\nblock 1.3 at 3 count 5 proved\nauthor 1 through 3 last 3\nend\n";
-    assert!(rt; prints(rt.alloc(), &[&A, SECOND, THIRD], wanted));
+    assert!(rt; prints(rt.alloc(), &[&A, SECOND, THIRD], OVERLAPPING));
+}
+
+// The note 7.1 that was issued twice, the second time from an old state.
+const ONE: &[u8] = b"OGD1\x00\x00\x00\x01\x00\x00\x00\x07\x00\x00\x00\x01\x03\x01a\x03one";
+
+const TWO: &[u8] = b"OGD1\x00\x00\x00\x01\x00\x00\x00\x07\x00\x00\x00\x01\x03\x01a\x03two";
+
+const FORKED: &str =
+    "census 2\nnote a 7.1 one\nnote a 7.1 two\nfork 7.1 contents 2\nauthor 7 through 1 last 1\nend\n";
+
+#[test]
+fn an_old_state_makes_a_fork(rt: HostRuntime) -> Result<(), Fail> {
+    let alloc = rt.alloc();
+    assert!(rt; prints(alloc, &[ONE, TWO], FORKED));
+    assert!(rt; prints(alloc, &[TWO, ONE], FORKED));
+    let mut replica = Replica::new(alloc, 1)?;
+    assert!(rt; joins(alloc, &mut replica, TWO, ONE));
+    assert!(rt; shows(alloc, &replica, FORKED));
+    Ok(())
 }
 
 #[test]
 fn removals_hold_in_every_order(rt: HostRuntime) {
     let alloc = rt.alloc();
-    let wanted =
-        "census 2\nnote kayles 1.2 later\nauthor 1 through 2 last 2\nauthor 2 through 1 last 1\nend\n";
-    assert!(rt; prints(alloc, &[&F, &G, &H], wanted));
-    assert!(rt; prints(alloc, &[&F, &H, &G], wanted));
-    assert!(rt; prints(alloc, &[&G, &F, &H], wanted));
-    assert!(rt; prints(alloc, &[&G, &H, &F], wanted));
-    assert!(rt; prints(alloc, &[&H, &F, &G], wanted));
-    assert!(rt; prints(alloc, &[&H, &G, &F], wanted));
+    assert!(rt; prints(alloc, &[&F, &G, &H], LATER));
+    assert!(rt; prints(alloc, &[&F, &H, &G], LATER));
+    assert!(rt; prints(alloc, &[&G, &F, &H], LATER));
+    assert!(rt; prints(alloc, &[&G, &H, &F], LATER));
+    assert!(rt; prints(alloc, &[&H, &F, &G], LATER));
+    assert!(rt; prints(alloc, &[&H, &G, &F], LATER));
 }
 
 // The nim-values of Kayles for the heaps below 72, and those that repeat from there on.
@@ -207,7 +248,7 @@ fn values_follow_a_proved_claim(rt: HostRuntime) -> Result<(), Fail> {
 }
 
 // Issues a note without text, where it can.
-fn issued(alloc: Global, replica: &mut Replica<Global>) -> Result<Dot, IssueError> {
+fn issued<A: Allocator + Copy>(alloc: A, replica: &mut Replica<A>) -> Result<Dot, IssueError> {
     let Ok(note) = Note::new(alloc, b"a", b"") else {
         return Err(IssueError::OutOfMemory);
     };
@@ -236,20 +277,8 @@ fn numbers_are_issued_after_the_last(rt: HostRuntime) -> Result<(), Fail> {
     let fourth = Dot::new(5, 4)?;
     let mut replica = Replica::new(alloc, 5)?;
     assert!(rt; takes(&mut replica, &[&I], 2));
-    assert!(rt;
-        shows(
-            alloc,
-            &replica,
-            "census 2\nnote a 5.1 \nnote a 5.3 \nauthor 5 through 1 last 3\nend\n"
-        )
-    );
-    assert!(rt;
-        sends(
-            alloc,
-            &replica,
-            b"OGD1\x00\x00\x00\x01\x00\x00\x00\x05\x00\x00\x00\x03\x03\x01a\x00"
-        )
-    );
+    assert!(rt; shows(alloc, &replica, UNTOLD));
+    assert!(rt; sends(alloc, &replica, THIRD_OF_I));
     assert!(rt; issued(alloc, &mut replica) == Ok(fourth));
     assert!(rt;
         takes(
@@ -260,6 +289,74 @@ fn numbers_are_issued_after_the_last(rt: HostRuntime) -> Result<(), Fail> {
     );
     assert!(rt; issued(alloc, &mut replica) == Err(IssueError::LastNumber));
     assert_eq!(rt; replica.len(), 4);
+    Ok(())
+}
+
+// Whether the block of the next `count` values of the game is this one.
+fn computes(replica: &Replica<Global>, code: Code, count: u32, start: u32, values: &[u32]) -> bool {
+    match replica.compute(code, count) {
+        Ok(block) => block.code() == code && block.start() == start && block.values() == values,
+        Err(_) => false,
+    }
+}
+
+// Whether the next values of the game are not computed, for this reason.
+fn computes_none(replica: &Replica<Global>, code: Code, count: u32, why: ComputeError) -> bool {
+    match replica.compute(code, count) {
+        Ok(_) => false,
+        Err(refused) => refused == why,
+    }
+}
+
+// Whether the block of the next values of 0.3 is this one. It is issued.
+fn goes_on(replica: &mut Replica<Global>, code: Code, start: u32, count: usize) -> bool {
+    let Ok(block) = replica.compute(code, 1024) else {
+        return false;
+    };
+    let mut right = block.start() == start && block.values().len() == count;
+    let mut value = start % 2;
+    for claimed in block.values() {
+        right &= *claimed == value;
+        value ^= 1;
+    }
+    right && replica.issue(Body::Block(block)).is_ok()
+}
+
+#[test]
+fn the_next_values_are_computed(rt: HostRuntime) -> Result<(), Fail> {
+    let alloc = rt.alloc();
+    let code = Code::parse(b"0.137")?;
+    let mut replica = Replica::new(alloc, 7)?;
+    assert!(rt; computes(&replica, code, 5, 1, &[1, 1, 2, 0, 3]));
+    assert!(rt; computes_none(&replica, code, 0, ComputeError::Zero));
+    assert!(rt; computes_none(&replica, code, 1025, ComputeError::TooMany));
+    assert_eq!(rt; replica.len(), 0);
+    let code = Code::parse(b"0.3")?;
+    for turn in 0..63u32 {
+        assert!(rt; goes_on(&mut replica, code, 1024 * turn + 1, 1024));
+    }
+    assert!(rt; goes_on(&mut replica, code, 64_513, 1023));
+    assert!(rt; computes_none(&replica, code, 1025, ComputeError::TooMany));
+    assert!(rt; computes_none(&replica, code, 1, ComputeError::AtLimit));
+    Ok(())
+}
+
+// Whether the removal of the notes of the name names this dot alone.
+fn removes(replica: &Replica<Global>, name: &[u8], dot: Dot) -> bool {
+    match replica.removal(name) {
+        Ok(removal) => removal.dots() == [dot].as_slice(),
+        Err(_) => false,
+    }
+}
+
+#[test]
+fn live_notes_are_removed_by_name(rt: HostRuntime) -> Result<(), Fail> {
+    let mut replica = Replica::new(rt.alloc(), 1)?;
+    assert!(rt; takes(&mut replica, &[&F, &G, &H], 1));
+    assert!(rt; removes(&replica, b"kayles", Dot::new(1, 2)?));
+    let none = replica.removal(b"dawson");
+    assert!(rt; none.is_err_and(|refused| refused == RemovalError::NoNote));
+    assert_eq!(rt; replica.len(), 3);
     Ok(())
 }
 
@@ -277,6 +374,22 @@ fn refuses_prefixes(replica: &mut Replica<Global>) -> bool {
     all
 }
 
+// D with its operations the other way round, and A with its operation twice.
+fn falling() -> [u8; 74] {
+    let mut bytes = D;
+    bytes[8..28].copy_from_slice(&D[54..]);
+    bytes[28..].copy_from_slice(&D[8..54]);
+    bytes
+}
+
+fn repeated() -> [u8; 86] {
+    let mut bytes = [0; 86];
+    bytes[..47].copy_from_slice(&A);
+    bytes[47..].copy_from_slice(&A[8..]);
+    bytes[7] = 2;
+    bytes
+}
+
 #[test]
 fn bytes_that_are_no_delta_change_nothing(rt: HostRuntime) -> Result<(), Fail> {
     let alloc = rt.alloc();
@@ -291,6 +404,8 @@ fn bytes_that_are_no_delta_change_nothing(rt: HostRuntime) -> Result<(), Fail> {
     assert!(rt; replica.take(&longer) == Err(TakeError::Refused));
     assert!(rt; replica.take(&other) == Err(TakeError::Version));
     assert!(rt; replica.take(&count) == Err(TakeError::Refused));
+    assert!(rt; replica.take(&falling()) == Err(TakeError::Refused));
+    assert!(rt; replica.take(&repeated()) == Err(TakeError::Refused));
     assert!(rt; shows(alloc, &replica, "census 2\nend\n"));
     Ok(())
 }
@@ -308,13 +423,7 @@ fn lists_are_taken(rt: HostRuntime) -> Result<(), Fail> {
     let alloc = rt.alloc();
     let mut replica = Replica::new(alloc, 1)?;
     assert!(rt; takes_list(alloc, &mut replica));
-    assert!(rt;
-        shows(
-            alloc,
-            &replica,
-            "census 2\ngame 0.3 known 7\nvalues 0 0 1 0 1 0 1 0\nblock 1.1 at 0 count 7 proved\nperiod 1.2 from 1 by 2 proved\nauthor 1 through 2 last 2\nend\n"
-        )
-    );
+    assert!(rt; shows(alloc, &replica, TURNS));
     Ok(())
 }
 
@@ -347,9 +456,7 @@ fn refuses_states(alloc: Global) -> bool {
 fn states_are_loaded_as_they_were_saved(rt: HostRuntime) -> Result<(), Fail> {
     let alloc = rt.alloc();
     assert!(rt; loads(alloc, &J));
-    let mut full = Vec::from_slice(alloc, &J[..8])?;
-    full.extend_from_slice(&I)?;
-    assert!(rt; loads(alloc, &full));
+    assert!(rt; loads(alloc, FULL));
     assert!(rt; refuses_states(alloc));
     let refused = Replica::load(alloc, &A);
     assert!(rt; refused.is_err_and(|refused| refused == LoadError::Version));
@@ -395,26 +502,5 @@ fn a_block_touches_its_game_alone(rt: HostRuntime) -> Result<(), Fail> {
     heap.arm(64);
     assert!(rt; replica.take(&A) == Ok(1));
     assert!(rt; counts(&replica, code) == (5, 1));
-    Ok(())
-}
-
-// Whether D, where so many requests are granted, is taken in up to the operation that is named.
-fn takes_first<A: Allocator + Copy>(replica: &mut Replica<A>) -> bool {
-    match replica.take(&D) {
-        Ok(_) => replica.len() == 2,
-        Err(TakeError::OutOfMemory { done }) => replica.len() == done as usize,
-        Err(_) => false,
-    }
-}
-
-#[test]
-fn refused_memory_leaves_the_first_operations(rt: HostRuntime) -> Result<(), Fail> {
-    let heap = Metered::new(rt.alloc());
-    let mut replica = Replica::new(&heap, 1)?;
-    for grants in 0..60u64 {
-        heap.arm(grants);
-        assert!(rt; takes_first(&mut replica));
-    }
-    assert_eq!(rt; replica.len(), 2);
     Ok(())
 }

@@ -26,7 +26,7 @@ size_of ops = length (flat_map op_bytes ops)
 
 -- ---- how many of the operations one frame holds
 
-size_of-cons : (o : Operation) (ops : List Operation) → size_of (o ∷ ops) ≡ length (op_bytes o) + size_of ops
+pub size_of-cons : (o : Operation) (ops : List Operation) → size_of (o ∷ ops) ≡ length (op_bytes o) + size_of ops
 size_of-cons o ops = length-append (op_bytes o) (flat_map op_bytes ops)
 
 fitting-append : (room : ℕ) (pack rest : List Operation) → size_of pack ≤ room → fitting room (pack ++ rest) ≡ length pack + fitting (room - size_of pack) rest
@@ -80,7 +80,7 @@ may_not p pack o rest is h =
 
 -- ---- packs of operations
 
-pub frames_of : ℕ → List Operation → Bytes
+unfoldable pub frames_of : ℕ → List Operation → Bytes
 frames_of fuel ops = flat_map (λ pack. frame_bytes delta_tag (encoded pack)) (packs_within fuel ops)
 
 -- where the first pack has these operations
@@ -97,7 +97,7 @@ no_pack (suc fuel) = refl
 
 -- ---- rising lists in parts
 
-rises_first : (xs ys : List Operation) → IsRising (xs ++ ys) → IsRising xs
+pub rises_first : (xs ys : List Operation) → IsRising (xs ++ ys) → IsRising xs
 rises_first [] ys h = refl
 rises_first (x ∷ xs) ys h =
     let below : list_all (λ y. is_lt (op_cmp x y)) (xs ++ ys) ≡ true = and_first _ (rises op_cmp (xs ++ ys)) h in
@@ -105,7 +105,7 @@ rises_first (x ∷ xs) ys h =
     (and_first _ (list_all (λ y. is_lt (op_cmp x y)) ys) (sym (list_all-append (λ y. is_lt (op_cmp x y)) xs ys) ∙ below))
     (rises_first xs ys (and_second (list_all (λ y. is_lt (op_cmp x y)) (xs ++ ys)) (rises op_cmp (xs ++ ys)) h))
 
-rises_second : (xs ys : List Operation) → IsRising (xs ++ ys) → IsRising ys
+pub rises_second : (xs ys : List Operation) → IsRising (xs ++ ys) → IsRising ys
 rises_second [] ys h = h
 rises_second (x ∷ xs) ys h = rises_second xs ys (and_second (list_all (λ y. is_lt (op_cmp x y)) (xs ++ ys)) (rises op_cmp (xs ++ ys)) h)
 

@@ -15,7 +15,7 @@ FitsAlone o = length (op_bytes o) ≤ pack_room
 some_fit : (o : Operation) (ops : List Operation) → FitsAlone o → 1 ≤ fitting pack_room (o ∷ ops)
 some_fit o ops fits = subst (λ b. 1 ≤ elim b [ true ↦ suc (fitting (pack_room - length (op_bytes o)) ops) | false ↦ 0 ]) (sym (le-leb (length (op_bytes o)) pack_room fits)) (omega arith)
 
-some_packed : (o : Operation) (ops : List Operation) → FitsAlone o → 1 ≤ pack_length (o ∷ ops)
+pub some_packed : (o : Operation) (ops : List Operation) → FitsAlone o → 1 ≤ pack_length (o ∷ ops)
 some_packed o ops fits = let held = some_fit o ops fits in let same : 1 ≤ alike (o ∷ ops) = omega arith in omega (arith, held, same)
 
 packs_within_hold : (fuel : ℕ) (ops : List Operation) → length ops ≤ fuel → All FitsAlone ops → flat_map (λ pack. pack) (packs_within fuel ops) ≡ ops

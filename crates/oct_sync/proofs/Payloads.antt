@@ -1,5 +1,5 @@
 -- The payload of a delta frame, as a reader sees it.
-use Rattle.std.proofs.Common.{◌≡◌, ℕ, zero, suc, leb, ◌+◌, ◌-◌, ◌<◌, ◌≤◌, true, false, List, [], ◌∷◌, ◌++◌, length, get_or, Option, Some, None, Result, Ok, Err, refl, sym, ap, ◌∙◌, subst, append_assoc, ⊎_elim, arith}
+use Rattle.std.proofs.Common.{◌≡◌, ℕ, zero, suc, leb, ◌+◌, ◌-◌, ◌^◌, ◌<◌, ◌≤◌, true, false, List, [], ◌∷◌, ◌++◌, length, get_or, Option, Some, None, Result, Ok, Err, refl, sym, ap, ◌∙◌, subst, append_assoc, ⊎_elim, arith}
 use Rattle.std.specs.Prelude.{◌↔◌, IfSome, OnOk, OnErr, IsErrOf}
 use Rattle.std.proofs.lemmas.Bool.{leb-true, leb-false}
 use Rattle.std.proofs.lemmas.List.{append-nil, length-append, get_or_append_left}
@@ -128,6 +128,11 @@ pub end_ok : (law : Law) (role : Role) (phase : Phase) (held : Operations) (sent
 end_ok law role phase held sent r y head missing (Some bytes) ops is_open front none rest text some =
     ends law role phase held sent r y head missing (Some bytes) is_open front none (has_payload phase head (r ++ y) missing (Some bytes) front rest) (Some ops) ((law bytes ops front.counted.1).1 text)
 end_ok law role phase held sent r y head missing None ops is_open front none rest text some = absurd (some refl)
+
+-- a delta counts its operations
+pub few_of : (known : Option Bytes) (ops : List Operation) → IfSome known (λ bytes. IsDeltaText bytes ops) → (known ≡ None → ⊥) → length ops < 2 ^ 32
+few_of None ops text some = absurd (some refl)
+few_of (Some bytes) ops text some = ⊎_elim (λ d. d.list.few) (λ d. d.list.few) text
 
 pub end_err : (law : Law) (role : Role) (phase : Phase) (held : Operations) (sent r y head : Bytes) (missing : ℕ) (known : Option Bytes) (e : DeltaError) → IsOpenPhase phase → IsDeltaFront phase head missing known → missing ≡ 0
     → IsRest (kept_by head missing known) (r ++ y)

@@ -6,6 +6,8 @@ use Rattle.std.proofs.Math.Seq.{drop-append_seam}
 use Rattle.oct_delta.specs.Bytes.{IsBytes}
 use Rattle.oct_delta.specs.Text.{Bytes}
 use Rattle.oct_ops.specs.Operations.{Operations}
+use Rattle.oct_ops.specs.OrderLaws.{op_cmp_exact, op_cmp_total}
+use Rattle.oct_ops.specs.SetLaws.{union-empty}
 use Rattle.oct_sync.specs.Frames.{Frame, Split, delta_tag, length_field, tag_field, is_length, begins_whole, split_within, split_frames}
 use Rattle.oct_sync.specs.Session.{wanted_in as phase_wants}
 use Rattle.oct_sync.specs.Session.{wanted, Phase, AwaitsClock, AwaitsDeltas, AwaitsEnd, IsDone, HasFailed, Session, Point, failed_if, fed, head_fault, is_due, is_head, missing_bytes, on_due, on_frame, on_head, on_rest_in, on_split, rest_fault}
@@ -241,7 +243,7 @@ front_short phase b front long =
 
 -- memory was refused before anything was done
 pub stops_here : (role : Role) (p : Point) (y : Bytes) (held : Operations) (sent : Bytes) → held ≡ p.session.held → sent ≡ p.session.sent → Stops role p y held sent
-stops_here role p y held sent same quiet = record { held_is = record { ops = []; count = 0; is = same; whole = inl refl }; sent_is = quiet }
+stops_here role p y held sent same quiet = record { held_is = record { ops = []; count = 0; is = same ∙ sym (union-empty op_cmp_total op_cmp_exact p.session.held); whole = inl refl }; sent_is = quiet }
 
 pub known_point : (role : Role) (phase : Phase) (kept : Kept) (held : Operations) (sent : Bytes) (p : Point) → IsAt role (record { role = role; phase = phase; kept = kept }) held sent p → p ≡ point phase held sent p.rest
 known_point role phase kept held sent p at = λ i. record { session = at.session i; rest = p.rest }
@@ -289,7 +291,7 @@ still {A} role s held sent p valid at = still_in s.due s.incoming valid at
         ap (λ q. fed role q []) p_is ∙ sym p_is
     still_in due.Nothing (incoming.Delta delta) front at = absurd front.2
 
-not_less : (n : ℕ) → 5 ≤ n → ltb n 5 ≡ false
+pub not_less : (n : ℕ) → 5 ≤ n → ltb n 5 ≡ false
 not_less n long = elim (ltb n 5) as (λ b. ltb n 5 ≡ b → b ≡ false) [ true ↦ λ e. let less = leb-true (suc n) 5 e in absurd (omega (arith, less, long)) | false ↦ λ _. refl ] refl
 
 -- a session that wants nothing is done

@@ -1,5 +1,6 @@
 pub use Rattle.oct_ops.specs.Operations
 pub mod Driven
+pub mod Exchange
 pub mod Frames
 pub mod Laws
 pub mod Packs

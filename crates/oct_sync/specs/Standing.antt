@@ -8,7 +8,7 @@ use Rattle.oct_delta.specs.ReaderState.{IsHopeless}
 use Rattle.oct_delta.specs.Text.{Bytes}
 use Rattle.oct_join.specs.Clock.{Clock, clock_code}
 use Rattle.oct_ops.specs.Body.{Operation}
-use Rattle.oct_ops.specs.Operations.{Operations, insert_all, set_of, union}
+use Rattle.oct_ops.specs.Operations.{Operations, set_of, union}
 use Rattle.oct_sync.specs.Frames.{length_field}
 use Rattle.oct_sync.specs.Session.{Phase, AwaitsClock, AwaitsDeltas, AwaitsEnd, IsDone, HasFailed, Session, Point, fed}
 use Rattle.oct_sync.specs.declared.error.SyncError.{SyncError}
@@ -78,7 +78,7 @@ ended f held sent = record { phase = HasFailed f; held = held; sent = sent }
 pub record TakesFirst (role : Role) (p : Point) (bytes : Bytes) (held : Operations) : Type 0 where
   pub ops : List Operation
   pub count : ℕ
-  pub is : held ≡ insert_all p.session.held (take count ops)
+  pub is : held ≡ union p.session.held (set_of (take count ops))
   pub whole : (ops ≡ []) ⊎ ((fed role p bytes).session.held ≡ union p.session.held (set_of ops))
 
 -- Memory was refused at one of the bytes: the frames before it have done what they do. Its own frame sent nothing, and of its delta the first so many operations are in.

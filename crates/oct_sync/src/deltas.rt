@@ -10,7 +10,7 @@ ghost use Rattle.oct_sync.specs.Frames.{frame_bytes, delta_frames};
 ghost use Rattle.oct_sync.specs.Packs.{pack_frame, may_follow, IsPack};
 
 use crate::frame::{DELTA, MAX_FRAME, put_head};
-use oct_delta::{encode, op_size};
+use oct_delta::{EncodeError, encode, op_size};
 use oct_ops::{Op, OpList};
 use std::alloc::{AllocError, Allocator};
 
@@ -64,7 +64,8 @@ fn put_pack<A: Allocator>(
     put_head(out, DELTA, DELTA_HEAD + size)?;
     match encode(&rising(pack), out) {
         Ok(()) => Ok(()),
-        Err(_) => Err(AllocError),
+        Err(EncodeError::OutOfMemory) => Err(AllocError),
+        Err(EncodeError::TooMany) => unreachable!(),
     }
 }
 

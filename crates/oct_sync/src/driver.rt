@@ -1,6 +1,6 @@
 //! A session over a reader and a writer.
 
-ghost use Rattle.std.specs.Prelude.{◌≡◌, ◌≢◌, ◌++◌, [], Some, vec_len, IfOk, IfErr, OnOk, OnErr};
+ghost use Rattle.std.specs.Prelude.{◌≡◌, ◌≢◌, ◌++◌, ◌≤◌, [], Some, length, vec_len, IfOk, IfErr, OnOk, OnErr};
 ghost use Rattle.std.specs.Io.KnownBytes.{Appends, Consumes, Keeps};
 ghost use Rattle.oct_sync.specs.Driven.{AppendsPrefix, Breaks, Completes, begun};
 ghost use Rattle.oct_sync.specs.Standing.{at_start};
@@ -36,6 +36,7 @@ pub fn drive<A: Allocator + Copy, P: Peer<A>, R: Read, W: Write>(
 ) -> Result<(), SyncError>
     ensures ok { OnOk result (Completes role (R.remaining reader.old) (R.remaining reader.new) (W.contents writer.old) (W.contents writer.new) (P.held peer.old) (P.held peer.new)) }
     ensures err { IfErr result (λ e. e ≢ SyncError.OutOfMemory → Breaks role (R.remaining reader.old) (R.remaining reader.new) (W.contents writer.old) (W.contents writer.new) (P.held peer.old) (P.held peer.new)) }
+    ensures author { P.author peer.new ≡ P.author peer.old }
 {
     let mut owed = Vec::new(alloc);
     let mut session = match begin(alloc, role, peer, &mut owed) {
@@ -143,6 +144,7 @@ fn receive<'b, R: Read>(
     most: usize,
 ) -> Result<&'b [u8], Missing>
     ensures ok { IfOk result (λ piece. Consumes (R.remaining reader.old) (R.remaining reader.new) piece.now) }
+    ensures few { IfOk result (λ piece. length piece.now ≤ most) }
     ensures err { OnErr result (Keeps (R.remaining reader.old) (R.remaining reader.new)) }
 {
     let most = most.min(buffer.len());

@@ -1,12 +1,13 @@
 //! Whoever a session speaks for.
 
-ghost use Rattle.std.specs.Prelude.{◌≡◌, ℕ, take, IfOk, OnOk, OnErr};
-ghost use Rattle.oct_ops.specs.Operations.{Operations, listed, union, set_of, insert_all};
+ghost use Rattle.std.specs.Prelude.{◌≡◌, ◌<◌, ◌^◌, ℕ, length, take, IfOk, OnOk, OnErr};
+ghost use Rattle.oct_ops.specs.Operations.{Operations, listed, union, set_of, IsRising};
+ghost use Rattle.oct_replica.specs.Settled.{AreValid};
 ghost use Rattle.oct_store.specs.Summary as summary;
 
 use oct_join::Clock;
 use oct_ops::{Op, OpList};
-use oct_store::Store;
+use oct_replica::Replica;
 use std::alloc::{AllocError, Allocator};
 use std::mem;
 
@@ -14,38 +15,48 @@ use std::mem;
 pub trait Peer<A: Allocator + Copy> {
     ghost held: { Self → Operations };
 
+    ghost author: { Self → ℕ };
+
     /// For each author the number through which all of its operations are held, from the first on.
     fn clock(&self) -> Result<Clock<A>, AllocError>
-        ensures { IfOk result (λ clock. clock ≡ summary.clock_of (listed (held self.now))) };
+        ensures ok { IfOk result (λ clock. clock ≡ summary.clock_of (listed (held self.now))) }
+        // Each operation keeps the ranges of its parts.
+        ensures valid { AreValid (held self.now) };
 
     /// Copies of the operations that the clock does not cover, in order.
     fn beyond(&self, clock: &Clock<A>) -> Result<OpList<A>, AllocError>
         ensures { IfOk result (λ list. list ≡ listed (summary.beyond (held self.now) clock.now)) };
 
-    /// Moves the operations in, and leaves none behind. After a refusal the first so many are in, and no other.
+    /// Moves the operations in; the author stays. After a refusal the first so many are in, and no other.
     fn append(&mut self, ops: &mut Vec<Op<A>, A>) -> Result<(), AllocError>
+        requires rises { IsRising ops.old.items }
+        requires few { length ops.old.items < 2 ^ 32 }
         ensures ok { OnOk result (held self.new ≡ union (held self.old) (set_of ops.old.items)) }
-        ensures err { OnErr result ((count : ℕ) × (held self.new ≡ insert_all (held self.old) (take count ops.old.items))) };
+        ensures err { OnErr result ((count : ℕ) × (held self.new ≡ union (held self.old) (set_of (take count ops.old.items)))) }
+        ensures author { author self.new ≡ author self.old };
 }
 
-impl<A: Allocator + Copy> Peer<A> for Store<A> {
-    ghost held = { λ s. s };
+impl<A: Allocator + Copy> Peer<A> for Replica<A> {
+    ghost held = { λ replica. replica.ops };
+
+    ghost author = { λ replica. replica.author };
 
     fn clock(&self) -> Result<Clock<A>, AllocError> {
-        Store::clock(self)
+        Replica::clock(self)
     }
 
     fn beyond(&self, clock: &Clock<A>) -> Result<OpList<A>, AllocError> {
-        Store::beyond(self, clock)
+        Replica::beyond(self, clock)
     }
 
     fn append(&mut self, ops: &mut Vec<Op<A>, A>) -> Result<(), AllocError> {
         let empty = Vec::new(*ops.allocator());
-        for op in mem::replace(ops, empty) {
-            if let Err((refused, _)) = self.insert(op) {
-                return Err(refused);
-            }
+        let Ok(list) = OpList::from_rising(mem::replace(ops, empty)) else {
+            unreachable!();
+        };
+        match self.take_list(list) {
+            Ok(_) => Ok(()),
+            Err(_) => Err(AllocError),
         }
-        Ok(())
     }
 }

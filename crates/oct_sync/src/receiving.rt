@@ -3,16 +3,17 @@
 ghost use Rattle.std.specs.Prelude.{◌≡◌, ◌≢◌, ◌⊎◌, ◌+◌, ◌≤◌, ◌<◌, ◌++◌, [], length, IfOk, IfErr, OnErr, IsErrOf};
 ghost use Rattle.oct_delta.specs.Clocks.{read_clock};
 ghost use Rattle.oct_delta.specs.Text.{Bytes};
-ghost use Rattle.oct_sync.specs.Frames.{clock_tag, end_tag, length_field, tag_field};
+ghost use Rattle.oct_sync.specs.Frames.{clock_tag, end_tag, length_field, max_frame, tag_field};
 ghost use Rattle.oct_sync.specs.Session as session;
 ghost use Rattle.oct_sync.specs.Session.{Phase, Point, missing_bytes};
 ghost use Rattle.oct_sync.specs.SessionState.{IsCounted, IsDeltaFront, IsOpenPhase, IsShort, IsState, IsWholeFrame, Steps, kept_of, kept_of_delta, phase_of, point, standing_of, wanted_by};
-ghost use Rattle.oct_sync.specs.Standing.{Ends, IsAt, IsRest, Known};
+ghost use Rattle.oct_sync.specs.Standing.{Ends, IsAt, IsRest, Known, progress_in};
 
 use crate::error::SyncError;
 use crate::frame::{CLOCK, DELTA};
 use crate::heads::{first_fault, length_field};
 use crate::peer::Peer;
+use crate::progress::Progress;
 use crate::role::Role;
 use crate::sending::{send_answer, send_end, send_missing};
 use crate::state::{Delta, Due, Incoming, State};
@@ -130,6 +131,7 @@ fn end_delta<A: Allocator + Copy, P: Peer<A>>(
 ) -> Result<State<A>, SyncError>
     requires open { IsOpenPhase (phase_of due) }
     requires front { IsDeltaFront (phase_of due) delta.head.items delta.missing delta.reader }
+    ensures author { P.author peer.new ≡ P.author peer.old }
     ensures sound { IfErr result (λ e. e ≢ SyncError.Failed) }
     ensures valid { IfOk result IsState }
     ensures steps { (sent r y : Bytes) → IsRest (kept_of_delta delta) (r ++ y) → Steps role (point (phase_of due) (P.held peer.old) sent r) y result (P.held peer.new) sent }
@@ -194,6 +196,7 @@ fn settle<A: Allocator + Copy, P: Peer<A>>(
 ) -> Result<State<A>, SyncError>
     requires open { IsOpenPhase (phase_of due) }
     requires short { IsShort bytes.items }
+    ensures author { P.author peer.new ≡ P.author peer.old }
     ensures sound { IfErr result (λ e. e ≢ SyncError.Failed) }
     ensures valid { IfOk result IsState }
     ensures steps { (r y : Bytes) → r ++ y ≡ bytes.items → Steps role (point (phase_of due) (P.held peer.old) out.old.items r) y result (P.held peer.new) out.new.items }
@@ -243,6 +246,8 @@ pub(crate) fn wanted<A: Allocator + Copy>(state: &State<A>) -> usize
     requires { IsState state.now }
     ensures value { result ≡ wanted_by state.now }
     ensures open { 0 < result → IsOpenPhase (phase_of state.now.due) }
+    ensures some { progress_in (phase_of state.now.due) ≡ Progress.More → 1 ≤ result }
+    ensures most { result ≤ max_frame }
 {
     match &state.due {
         Due::Nothing => 0,
@@ -265,6 +270,7 @@ pub(crate) fn step<A: Allocator + Copy, P: Peer<A>>(
     requires valid { IsState state }
     requires some { 0 < length piece.now }
     requires fits { length piece.now ≤ wanted_by state }
+    ensures author { P.author peer.new ≡ P.author peer.old }
     ensures sound { IfErr result (λ e. e ≢ SyncError.Failed) }
     ensures valid { IfOk result IsState }
     ensures steps { (p : Point) → IsAt role (standing_of role state) (P.held peer.old) out.old.items p → Steps role p piece.now result (P.held peer.new) out.new.items }
@@ -294,6 +300,7 @@ pub(crate) fn advance<A: Allocator + Copy, P: Peer<A>>(
     out: &mut Vec<u8, A>,
 ) -> Result<State<A>, SyncError>
     requires { IsState state }
+    ensures author { P.author peer.new ≡ P.author peer.old }
     ensures sound { IfErr result (λ e. e ≢ SyncError.Failed) }
     ensures valid { IfOk result IsState }
     ensures ok { IfOk result (λ next. (p : Point) → IsAt role (standing_of role state) (P.held peer.old) out.old.items p → IsAt role (standing_of role next) (P.held peer.new) out.new.items (session.fed role p piece.now)) }

@@ -1,8 +1,9 @@
 //! One side of a session.
 
-ghost use Rattle.std.specs.Prelude.{◌≡◌, ◌≢◌, ◌↔◌, ◌++◌, Some, None, IfOk, IfErr, OnOk, OnErr, IsErrOf};
+ghost use Rattle.std.specs.Prelude.{◌≡◌, ◌≢◌, ◌↔◌, ◌≤◌, ◌++◌, Some, None, IfSome, IfOk, IfErr, OnOk, OnErr, IsErrOf};
 ghost use Rattle.oct_delta.specs.Text.{Bytes};
 ghost use Rattle.oct_ops.specs.Operations.{Operations};
+ghost use Rattle.oct_sync.specs.Frames.{max_frame};
 ghost use Rattle.oct_sync.specs.Session.{Point, clock_frame, fed, wanted};
 ghost use Rattle.oct_sync.specs.SessionState.{phase_of};
 ghost use Rattle.oct_sync.specs.Standing.{Ends, StandsAt, at_start, progress_in, progress_of};
@@ -91,6 +92,7 @@ impl<A: Allocator + Copy> Session<A> {
         ensures ok { OnOk result ((role : Role) (p : Point) → StandsAt role self.old (P.held peer.old) out.old.items p → StandsAt role self.new (P.held peer.new) out.new.items (fed role p piece.now)) }
         ensures progress { IfOk result (λ progress. progress ≡ progress_of self.new) }
         ensures err { IfErr result (λ e. (role : Role) (p : Point) → StandsAt role self.old (P.held peer.old) out.old.items p → Ends role p piece.now e (P.held peer.new) out.new.items) }
+        ensures author { P.author peer.new ≡ P.author peer.old }
         ensures failed { IsErrOf result SyncError.Failed ↔ (self.old ≡ None) }
         // After `Failed` nothing has changed.
         ensures same { self.old ≡ None → (P.held peer.new ≡ P.held peer.old) × (out.new.items ≡ out.old.items) }
@@ -109,11 +111,13 @@ impl<A: Allocator + Copy> Session<A> {
         }
     }
 
-    /// How many bytes are missing to the end of the next frame's first five bytes, or of its payload; 0 where the session
-    /// is done or has refused something.
+    /// How many bytes are missing to the end of the next frame's first five bytes, or of its payload: 1 to 1,048,576, and 0
+    /// where the session is done or has refused something.
     pub fn wanted(&self) -> usize
         ensures value { (role : Role) (held : Operations) (sent : Bytes) (p : Point) → StandsAt role self.now held sent p → result ≡ wanted p }
         ensures failed { self.now ≡ None → result ≡ 0 }
+        ensures some { IfSome self.now (λ session. progress_in session.phase ≡ Progress.More → 1 ≤ result) }
+        ensures most { result ≤ max_frame }
     {
         match &self.state {
             None => 0,

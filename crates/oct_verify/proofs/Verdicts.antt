@@ -1,12 +1,13 @@
 -- What the first wrong place of a block says.
 use Rattle.std.proofs.Common.{◌≡◌, ◌≢◌, ℕ, ◌+◌, ◌-◌, ◌<◌, ◌≤◌, zero, suc, true, false, List, [], ◌∷◌, length, take, drop, get_or, slice_index, ◌==◌, Some, None, is_none, MatchOption, refl, sym, ap, subst, ◌∙◌, arith}
-use Rattle.std.proofs.lemmas.List.{get_or-take, get_or-drop}
+use Rattle.std.proofs.lemmas.List.{get_or-take, get_or-drop, length-drop}
 use Rattle.std.proofs.lemmas.Bool.{eqb-true, eqb-false, eq-eqb, ne_eqb, true≢false}
 use Rattle.oct_code.specs.Code.{Code}
 use Rattle.oct_mex.specs.NimValues.{nim_value, nim_values}
-use Rattle.oct_mex.proofs.NimValues.{nim_values-at}
-use Rattle.oct_ops.specs.Operation.{Block}
-use Rattle.oct_verify.specs.Known.{first_wrong, is_true, end, verdict_at, verdict}
+use Rattle.oct_mex.proofs.NimValues.{nim_values-at, nim_values-length}
+use Rattle.oct_ops.specs.Operation.{Block, claimed}
+use Rattle.oct_verify.specs.Known.{first_wrong, is_true, end, known, verdict_at, verdict}
+use Rattle.oct_verify.specs.Next.{next_values}
 use Rattle.oct_verify.specs.Laws.{claimed_at, IsRight, IsLeastWrong, ProvedIsRight, RefutedIsLeastWrong}
 use Rattle.oct_verify.specs.declared.status.Status.TheVariants.{Proved, Refuted}
 
@@ -145,3 +146,11 @@ refuted-is_least b at claimed truth e = elim (verdict_cases b) [
       let truth_is : nim_value b.code m ≡ truth = cc same in
       subst (λ n. IsLeastWrong b n claimed truth) at_is (subst (λ v. IsLeastWrong b m v truth) claimed_is (subst (λ v. IsLeastWrong b m (claimed_at b m) v) truth_is least))
 ]
+
+-- the next values are the right ones
+pub next_is_true : (c : Code) (blocks : List Block) (count : ℕ) → is_true (claimed c (known blocks) (next_values c blocks count)) ≡ true
+next_is_true c blocks count =
+    let start = known blocks in
+    let all = nim_values c (start + count) in
+    ap is_none (none_wrong c start (drop start all) (λ k lt.
+    get_or-drop start all k 0 ∙ nim_values-at c (start + count) (start + k) (omega (arith, length-drop start all, nim_values-length c (start + count)))))

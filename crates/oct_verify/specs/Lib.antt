@@ -7,5 +7,6 @@ pub mod FilingLaws
 pub mod Kept
 pub mod Known
 pub mod Laws
+pub mod Next
 pub mod Paged
 pub mod Shelf

@@ -1,10 +1,11 @@
 //! The ledger of a game.
 
-ghost use Rattle.std.specs.Prelude.{◌≡◌, ◌<◌, ◌≤◌, true, Some, None, nat_le, nat_lt, if◌then◌else◌, count_by, length, OnOk, OnErr, IfErr};
+ghost use Rattle.std.specs.Prelude.{◌≡◌, ◌+◌, ◌<◌, ◌≤◌, true, Some, None, nat_le, nat_lt, if◌then◌else◌, count_by, length, OnOk, OnErr, IfOk, IfErr};
 ghost use Rattle.oct_mex.specs.NimValues.{nim_value, nim_values};
 ghost use Rattle.oct_ops.specs.Sets as sets;
 ghost use Rattle.oct_verify.specs.Filing.{Filing, blocks_in};
 ghost use Rattle.oct_verify.specs.Known.{known, status, IsKnownLength};
+ghost use Rattle.oct_verify.specs.Next.{next_values};
 
 use crate::shelf::Shelf;
 use crate::status::Status;
@@ -109,5 +110,20 @@ impl<A: Allocator + Copy> Ledger<A> {
         ensures { result ≡ (if nat_lt heap (known (blocks_in self.now.blocks)) then Some (nim_value self.now.code heap) else None) }
     {
         self.known_values().get(heap as usize).copied()
+    }
+
+    /// The nim-values of the next `count` heaps, from the known length on, at most up to the limit. They are computed beside
+    /// the ledger, and make nothing known.
+    pub fn next_values(&self, count: u32) -> Result<Vec<u32, A>, AllocError>
+        requires { known (blocks_in self.now.blocks) + count ≤ LIMIT }
+        ensures values { IfOk result (λ next. next.items ≡ next_values self.now.code (blocks_in self.now.blocks) count) }
+        ensures len { IfOk result (λ next. length next.items ≡ count) }
+    {
+        let start = self.known() as usize;
+        let end = start + count as usize;
+        let alloc = self.shelf.entries.alloc;
+        let mut values = self.shelf.comparer.values.copy(alloc)?;
+        values.extend_to(end)?;
+        Vec::from_slice(alloc, &values.as_slice()[start..end])
     }
 }

@@ -31,7 +31,7 @@ pub(crate) trait Test<T> {
 pub(crate) struct Pages<T, A: Allocator + Copy> {
     pub(crate) pages: Vec<Vec<T, A>, A>,
     pub(crate) len: u64,
-    alloc: A,
+    pub(crate) alloc: A,
 }
 
 impl<T: Drop, A: Allocator + Copy> Pages<T, A> {

@@ -51,6 +51,16 @@ fn an_empty_ledger_knows_the_empty_heap(rt: HostRuntime) -> Result<(), Fail> {
 }
 
 #[test]
+fn the_next_values_follow_those_that_are_known(rt: HostRuntime) -> Result<(), Fail> {
+    let ledger = ledger(rt.alloc(), &[(1, 1, &[1, 2, 3, 1])])?;
+    assert!(rt; ledger.known() == 5);
+    let next = ledger.next_values(7)?;
+    assert_eq!(rt; next.as_slice(), [4, 3, 2, 1, 4, 2, 6].as_slice());
+    assert_eq!(rt; ledger.known(), 5);
+    Ok(())
+}
+
+#[test]
 fn parked_blocks_settle_in_every_order(rt: HostRuntime) -> Result<(), Fail> {
     let near: (u32, u32, &[u32]) = (1, 1, &[1, 2, 3, 1, 4]);
     let next: (u32, u32, &[u32]) = (2, 6, &[3]);

@@ -1,10 +1,10 @@
 use Rattle.std.proofs.Common.{◌≡◌, ◌≤◌, suc, length, sym, ap, ◌∙◌, subst, arith}
+use Rattle.std.proofs.lemmas.List.{nil_from_length}
 use Rattle.std.specs.Vec.Iter.{into_iter_items}
 use Rattle.oct_delta.specs.Text.{op_bytes}
 use Rattle.oct_sync.specs.Frames.{pack_room}
 use Rattle.oct_sync.specs.Packs.{may_follow}
 use Rattle.oct_sync.proofs.Gathering.{Ready, size_of, begin, gathered, all_sent, pack_rises, ready_after, ready_still, size_of-end}
-use Rattle.oct_sync.proofs.Taking.{none_left}
 use Rattle.oct_sync.proofs.Written.{keeps_then}
 use Rattle.oct_sync.proofs.deltas.put_delta_frames.Goals as goal
 use Rattle.oct_sync.proofs.deltas.put_delta_frames.Goals.{then-not-may_follow+in_ok-put_pack, else-not-may_follow}
@@ -72,7 +72,7 @@ put_pack-requires-2-clause-rises g c = pack_rises _ _ _ _ _ c.loop-op.invariant.
 
 pub returns-clause-ok : goal.returns-clause-ok
 returns-clause-ok g c =
-    all_sent _ _ _ _ _ _ (none_left _ (sym c.loop-op.invariant.len ∙ c.in-None.ensures.steps.0)) c.in_ok-put_pack-2.ensures.ok c.loop-op.invariant.gathering
+    all_sent _ _ _ _ _ _ (nil_from_length _ (sym c.loop-op.invariant.len ∙ c.in-None.ensures.steps.0)) c.in_ok-put_pack-2.ensures.ok c.loop-op.invariant.gathering
 
 pub returns-clause-kept : goal.returns-clause-kept
 returns-clause-kept g c = keeps_then _ _ _ c.loop-op.invariant.gathering.kept c.put_pack-2.ensures.kept

@@ -7,6 +7,7 @@ use Rattle.oct_sync.proofs.driver.drive.Goals as goal
 pub loop-init : goal.loop-init
 loop-init g c = record {
   running = IsRunning-begun c.args.role _ _ (g.P.Peer.held c.args.peer.now) c.in-Ok.session c.new-owed.result.items c.begin.new.owed.items c.in-Ok.ensures.at c.new-owed.ensures.items c.in-Ok.ensures.owed;
+  author = refl;
   progress = sym (ap progress_of c.in-Ok.ensures.at);
 }
 
@@ -34,6 +35,7 @@ pub loop-preserved : goal.loop-preserved
 loop-preserved g c = record {
   running = IsRunning-fed _ _ _ _ _ _ _ _ _ _ _ (IsRunning-sent _ _ _ _ _ _ _ _ _ c.loop.invariant.running _ c.in-Ok-send.ensures.ok) c.in-Ok-send.ensures.empty c.in-Ok-receive.ensures.ok
       _ _ _ c.in-Ok-feed.ensures.ok;
+  author = c.in-Ok-feed.ensures.author ∙ c.loop.invariant.author;
   progress = c.in-Ok-feed.ensures.progress;
 }
 

@@ -7,5 +7,6 @@ abbrev pub invariant-loop : goal.invariant-loop
 invariant-loop g l = record {
   running : IsRunning l.fn.role (g.R.Read.remaining l.fn.reader) (g.R.Read.remaining l.reader) (g.W.Write.contents l.fn.writer) (g.W.Write.contents l.writer)
       (g.P.Peer.held l.fn.peer) l.session (g.P.Peer.held l.peer) l.owed.items;
+  author : g.P.Peer.author l.peer ≡ g.P.Peer.author l.fn.peer;
   progress : l.progress ≡ progress_of l.session;
 }

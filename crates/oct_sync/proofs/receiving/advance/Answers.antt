@@ -1,4 +1,4 @@
-use Rattle.std.proofs.Common.{◌≡◌, ℕ, Bool, false, eqb, sym, ◌∙◌}
+use Rattle.std.proofs.Common.{◌≡◌, ℕ, Bool, false, eqb, refl, sym, ◌∙◌}
 use Rattle.std.proofs.lemmas.Bool.{eq-eqb, eqb-true}
 use Rattle.std.proofs.lemmas.List.{nil_from_length}
 use Rattle.oct_sync.specs.SessionState.{standing_of}
@@ -12,6 +12,7 @@ nonempty n b is not none = let e = eq-eqb n 0 none in cc
 pub loop-rest-init : goal.loop-rest-init
 loop-rest-init g c = record {
   valid = c.requires;
+  author = refl;
   moved = λ p at. begin c.args.role c.args.state (g.P.Peer.held c.args.peer.now) c.args.out.now.items p c.args.piece.now c.requires at;
 }
 
@@ -30,6 +31,7 @@ returns-in-Err-clause-err g c p at =
 pub loop-rest-preserved : goal.loop-rest-preserved
 loop-rest-preserved g c = record {
   valid = c.in-Ok.ensures.valid;
+  author = c.in-Ok.ensures.author ∙ c.loop-rest.invariant.author;
   moved = λ p at.
       let m = c.loop-rest.invariant.moved p at in
       moved c.args.role p c.args.piece.now c.loop-rest.rest.now c.split_at.result.0.now c.split_at.result.1.now (standing_of c.args.role c.loop-rest.state) (g.P.Peer.held c.loop-rest.peer) c.loop-rest.out.items m c.split_at.ensures.by_index.0

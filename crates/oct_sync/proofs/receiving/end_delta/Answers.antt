@@ -1,13 +1,19 @@
-use Rattle.std.proofs.Common.{◌≡◌, ◌≤◌, [], ◌++◌, Ok, Err, refl, sym, ap, ◌∙◌, inr, arith}
-use Rattle.oct_ops.specs.Operations.{union, set_of}
+use Rattle.std.proofs.Common.{◌≡◌, ◌<◌, ◌≤◌, ◌^◌, [], ◌++◌, length, Ok, Err, refl, sym, ap, ◌∙◌, subst, inr, arith}
+use Rattle.oct_ops.specs.Operations.{IsRising, set_of, union}
 use Rattle.oct_sync.specs.Session.{Point}
 use Rattle.oct_sync.specs.SessionState.{kept_of_delta, phase_of}
-use Rattle.oct_sync.proofs.Payloads.{end_ok, end_err}
+use Rattle.oct_sync.proofs.Payloads.{end_ok, end_err, few_of}
 use Rattle.oct_sync.proofs.Stepping.{has_payload, delta_unfinished, delta_faultless, fed_front, is_at, starts_at}
 use Rattle.oct_sync.proofs.receiving.end_delta.Goals as goal
 
 ok_err : {T E : Type 0} {x : T} {e : E} → Ok x ≡ Err e → ⊥
 ok_err h = cc
+
+pub append-requires-clause-rises : goal.append-requires-clause-rises
+append-requires-clause-rises g c = subst IsRising (sym c.into_vec-ops.ensures.value) c.into_vec-ops.ensures.valid
+
+pub append-requires-clause-few : goal.append-requires-clause-few
+append-requires-clause-few g c = subst (λ xs. length xs < 2 ^ 32) (sym c.into_vec-ops.ensures.value) (few_of c.args.delta.reader c.in-Ok.list c.in-Ok.ensures.ok (λ gone. ok_err (c.in-Ok.ensures.failed.1 gone)))
 
 pub returns-then-delta-gt0-clause-valid : goal.returns-then-delta-gt0-clause-valid
 returns-then-delta-gt0-clause-valid g c = let some : 1 ≤ c.args.delta.missing = omega (arith, c.if-delta-gt0.true) in (c.requires.front, some, c.requires.open)

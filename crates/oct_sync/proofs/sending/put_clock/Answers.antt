@@ -8,4 +8,4 @@ use Rattle.oct_sync.proofs.sending.put_clock.Goals as goal
 pub returns-clause-ok : goal.returns-clause-ok
 returns-clause-ok g c =
     c.in_ok-put_clock_frame.ensures.ok
-    ∙ ap (λ (es : List (ℕ × ℕ)). c.args.out.now.items ++ frame_bytes 1 (entries_bytes es)) (take_min c.entries-entries.result.now 65536 c.min.result c.min.ensures ∙ ap (take 65536) (c.entries-entries.ensures.all ∙ ap entries c.in_ok-clock.ensures))
+    ∙ ap (λ (es : List (ℕ × ℕ)). c.args.out.now.items ++ frame_bytes 1 (entries_bytes es)) (take_min c.entries-entries.result.now 65536 c.min.result c.min.ensures ∙ ap (take 65536) (c.entries-entries.ensures.all ∙ ap entries c.in_ok-clock.ensures.ok))

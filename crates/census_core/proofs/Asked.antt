@@ -1,0 +1,53 @@
+-- Commands that leave a state as it is, step by step.
+use Rattle.std.proofs.Common.{arith, ◌≡◌, ◌≢◌, ℕ, ◌<◌, ◌≤◌, ◌^◌, cond, List, Some, None, Result, Ok, Err, length, codes, refl, sym, ap, ◌∙◌}
+use Rattle.std.specs.List.{All}
+use Rattle.std.proofs.lemmas.Bool.{le-ltb, lt-ltb}
+use Rattle.oct_code.specs.Code.{Code}
+use Rattle.oct_delta.specs.Delta.{encoded}
+use Rattle.oct_delta.specs.Text.{Bytes}
+use Rattle.oct_delta.specs.declared.error.EncodeError.{EncodeError}
+use Rattle.oct_delta.specs.declared.error.EncodeError.TheVariants.{TooMany, OutOfMemory}
+use Rattle.oct_join.specs.Clock as clock
+use Rattle.oct_ops.specs.Operations.{listed}
+use Rattle.oct_ops.specs.Valid.{IsOp}
+use Rattle.oct_replica.specs.Content.{ReplicaContent}
+use Rattle.oct_store.specs.Summary.{beyond}
+use Rattle.census_core.specs.Asking.{delta, delta_of, value, value_in, value_text}
+use Rattle.census_core.specs.Codes.{read_code}
+use Rattle.census_core.specs.Issuing.{code_of}
+use Rattle.census_core.specs.Lines.{number_line}
+use Rattle.census_core.specs.Refusals.{encode_fault}
+use Rattle.census_core.specs.Replies.{Answer, said}
+use Rattle.census_core.specs.Steps.{◌>>=◌, because}
+use Rattle.census_core.specs.Stored.{loaded}
+use Rattle.census_core.specs.declared.fault.Fault.{Fault}
+use Rattle.census_core.specs.declared.fault.Fault.TheVariants as fault
+use Rattle.census_core.proofs.Wholes.{all_beyond}
+
+pub value_said : (state word : Bytes) (heaps : List ℕ) (r : ReplicaContent) (c : Code) (text : Bytes) → loaded state ≡ Ok r → read_code word ≡ Ok c → text ≡ value_text c heaps (value_in r.ops c heaps)
+    → value state word heaps ≡ Ok (said text)
+value_said state word heaps r c text there coded spelled =
+    let done : ReplicaContent → Code → Result Answer Fault = λ q d. Ok (said (value_text d heaps (value_in q.ops d heaps))) in
+    ap (λ l. l >>= λ q. code_of word >>= λ d. done q d) there
+    ∙ ap (λ d. because fault.Code d >>= λ e. done r e) coded
+    ∙ ap (λ t. Ok (said t)) (sym spelled)
+
+-- a refusal of all operations
+pub delta_refused : (state : Bytes) (r : ReplicaContent) (t : clock.Clock) (cause : EncodeError) → t ≡ clock.empty → loaded state ≡ Ok r → All IsOp (listed r.ops)
+    → (cause ≡ TooMany → 2 ^ 32 ≤ length (listed (beyond r.ops t)))
+    → encode_fault cause ≢ fault.OutOfMemory → delta state ≡ Err (encode_fault cause)
+delta_refused state r t TooMany none there valid many other =
+    let most : 2 ^ 32 ≤ length (listed r.ops) = (let e = ap (λ ops. length (listed ops)) (ap (beyond r.ops) none ∙ all_beyond r.ops valid) in let m = many refl in omega (arith, e, m)) in
+    ap (λ l. l >>= λ q. delta_of (listed q.ops)) there
+    ∙ ap (λ b. cond b (Ok (record { state = None; file = Some (encoded (listed r.ops)); text = number_line (codes "operations ") (length (listed r.ops)) })) (Err fault.TooMany)) (le-ltb _ _ most)
+delta_refused state r t OutOfMemory none there valid many other = absurd (other refl)
+
+pub delta_given : (state : Bytes) (r : ReplicaContent) (t : clock.Clock) (file text : Bytes) → t ≡ clock.empty → loaded state ≡ Ok r → All IsOp (listed r.ops) → file ≡ encoded (listed (beyond r.ops t))
+    → length (listed (beyond r.ops t)) < 2 ^ 32 → text ≡ number_line (codes "operations ") (length (listed r.ops))
+    → delta state ≡ Ok (record { state = None; file = Some file; text = text })
+delta_given state r t file text none there valid is few spelled =
+    let whole = ap listed (ap (beyond r.ops) none ∙ all_beyond r.ops valid) in
+    let fits : length (listed r.ops) < 2 ^ 32 = (let e = ap length whole in omega (arith, e, few)) in
+    ap (λ l. l >>= λ q. delta_of (listed q.ops)) there
+    ∙ ap (λ b. cond b (Ok (record { state = None; file = Some (encoded (listed r.ops)); text = number_line (codes "operations ") (length (listed r.ops)) })) (Err fault.TooMany)) (lt-ltb _ _ fits)
+    ∙ (λ i. Ok (record { state = None; file = Some (sym (is ∙ ap encoded whole) i); text = sym spelled i }))

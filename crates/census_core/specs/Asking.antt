@@ -1,0 +1,60 @@
+-- What the commands give that leave a state as it is.
+use Rattle.std.specs.Prelude.{ℕ, ◌^◌, ◌++◌, nat_lt, List, length, codes, Some, None, Result, Ok, Err, if◌then◌else◌}
+use Rattle.oct_code.specs.Code.{Code}
+use Rattle.oct_delta.specs.Delta.{encoded}
+use Rattle.oct_delta.specs.Text.{Bytes}
+use Rattle.oct_ops.specs.Body.{Operation}
+use Rattle.oct_ops.specs.Operations.{Operations, listed}
+use Rattle.oct_pages.specs.Catalogue.{Text, catalogue, has_page}
+use Rattle.oct_pages.specs.Catalogue as catalogue
+use Rattle.oct_period.specs.Claims.{claims_in}
+use Rattle.oct_period.specs.Periods.{position_value}
+use Rattle.oct_period.specs.Winning.{wins}
+use Rattle.oct_period.specs.declared.unknown.Unknown.{Unknown}
+use Rattle.oct_replica.specs.Beside.{content_in}
+use Rattle.oct_verify.specs.Filing.{blocks_in}
+use Rattle.census_core.specs.Issuing.{code_of}
+use Rattle.census_core.specs.Lines.{number_line, winner_line}
+use Rattle.census_core.specs.Replies.{Answer, said}
+use Rattle.census_core.specs.Steps.{◌>>=◌}
+use Rattle.census_core.specs.Stored.{loaded}
+use Rattle.census_core.specs.declared.fault.Fault.{Fault}
+use Rattle.census_core.specs.declared.fault.Fault.TheVariants.{NoPage, TooMany}
+
+-- the value of a position, by the blocks and claims that the set has of its game
+abbrev pub value_in : Operations → Code → List ℕ → Result ℕ Unknown
+value_in ops c heaps =
+    let game = content_in ops c in
+    position_value c (blocks_in game.blocks) (claims_in game.claims) heaps
+
+-- the value and who wins by the moves alone, or the first heap whose nim-value is not known
+abbrev pub value_text : Code → List ℕ → Result ℕ Unknown → Text
+value_text c heaps (Ok value) = number_line (codes "value ") value ++ winner_line (wins c heaps)
+value_text c heaps (Err unknown) = number_line (codes "unknown at ") unknown.index
+
+abbrev pub page_of : List Operation → ℕ → Result Answer Fault
+page_of ops number = if has_page ops number then Ok (said (catalogue.page ops number)) else Err NoPage
+
+-- all operations as one delta
+abbrev pub delta_of : List Operation → Result Answer Fault
+delta_of ops =
+    if nat_lt (length ops) (2 ^ 32)
+    then Ok (record { state = None; file = Some (encoded ops); text = number_line (codes "operations ") (length ops) })
+    else Err TooMany
+
+-- ---- the commands
+
+abbrev pub value : Bytes → Bytes → List ℕ → Result Answer Fault
+value state word heaps = do
+  replica ← loaded state
+  code ← code_of word
+  Ok (said (value_text code heaps (value_in replica.ops code heaps)))
+
+abbrev pub page : Bytes → ℕ → Result Answer Fault
+page state number = loaded state >>= λ replica. page_of (listed replica.ops) number
+
+abbrev pub show : Bytes → Result Answer Fault
+show state = loaded state >>= λ replica. Ok (said (catalogue (listed replica.ops)))
+
+abbrev pub delta : Bytes → Result Answer Fault
+delta state = loaded state >>= λ replica. delta_of (listed replica.ops)

@@ -1,0 +1,99 @@
+-- What the commands give that issue an operation: the state that has it, and its dot.
+use Rattle.std.specs.Prelude.{ℕ, None, Result, Err, if◌then◌else◌}
+use Rattle.std.specs.Str.{is_utf8}
+use Rattle.oct_code.specs.Code.{Code}
+use Rattle.oct_delta.specs.Text.{Bytes}
+use Rattle.oct_notes.specs.Notes.{live_dots}
+use Rattle.oct_ops.specs.Body as kind
+use Rattle.oct_ops.specs.Body.{Body, Operation}
+use Rattle.oct_ops.specs.Faults.{note_fault, period_fault}
+use Rattle.oct_ops.specs.Operation.{Block, Period, Note, Removal, noted, removing, repeating}
+use Rattle.oct_ops.specs.Operations.{insert, listed}
+use Rattle.oct_replica.specs.Beside.{content_in}
+use Rattle.oct_replica.specs.Computing.{compute_fault, next_block, removal_fault}
+use Rattle.oct_replica.specs.Content.{ReplicaContent}
+use Rattle.oct_replica.specs.World.{has_number, next_op}
+use Rattle.oct_replica.specs.declared.error.IssueError.TheVariants.{LastNumber}
+use Rattle.oct_verify.specs.Filing.{blocks_in}
+use Rattle.oct_verify.specs.Known.{known}
+use Rattle.serde_json.specs.Data.{Data}
+use Rattle.serde_json.specs.Read.{read}
+use Rattle.census_core.specs.Codes.{read_code}
+use Rattle.census_core.specs.Imported.{imported}
+use Rattle.census_core.specs.Lines.{issued_line}
+use Rattle.census_core.specs.Replies.{Answer}
+use Rattle.census_core.specs.Steps.{◌>>=◌, because, found, unless}
+use Rattle.census_core.specs.Stored.{loaded, saved}
+use Rattle.census_core.specs.declared.fault.Fault.{Fault}
+use Rattle.census_core.specs.declared.fault.Fault.TheVariants as fault
+
+-- the author's next operation is issued, and the state is written
+abbrev pub with_op : ReplicaContent → Operation → Result Answer Fault
+with_op r o = saved (record r { ops = insert r.ops o }) (issued_line o.dot)
+
+abbrev pub issued : ReplicaContent → Body → Result Answer Fault
+issued r body = if has_number r.ops r.author then with_op r (next_op r.ops r.author body) else Err (fault.Issue LastNumber)
+
+-- the code of a command's word
+abbrev pub code_of : Bytes → Result Code Fault
+code_of word = because fault.Code (read_code word)
+
+-- the JSON value of a file
+abbrev pub json_of : Bytes → Result Data Fault
+json_of file = found fault.Json (if is_utf8 file then read file else None)
+
+-- the block of a JSON file
+abbrev pub block_of : Bytes → Result Block Fault
+block_of file = json_of file >>= λ value. because fault.Import (imported value)
+
+-- the next nim-values of a game
+abbrev pub computed : ReplicaContent → Code → ℕ → Result Block Fault
+computed r c count =
+    let blocks = blocks_in (content_in r.ops c).blocks in
+    because fault.Compute (unless (compute_fault (known blocks) count) (next_block c blocks count))
+
+abbrev pub claim_of : Code → ℕ → ℕ → Result Period Fault
+claim_of c start period = because fault.Period (unless (period_fault (repeating c start period)) (repeating c start period))
+
+abbrev pub note_of : Bytes → Bytes → Result Note Fault
+note_of name text = because fault.Note (unless (note_fault (noted name text)) (noted name text))
+
+-- the removal of the live notes of a name
+abbrev pub removal_of : ReplicaContent → Bytes → Result Removal Fault
+removal_of r name =
+    let dots = live_dots (listed r.ops) name in
+    because fault.Removal (unless (removal_fault dots) (removing dots))
+
+-- ---- the commands
+
+abbrev pub import : Bytes → Bytes → Result Answer Fault
+import state file = do
+  replica ← loaded state
+  block ← block_of file
+  issued replica (kind.Block block)
+
+abbrev pub compute : Bytes → Bytes → ℕ → Result Answer Fault
+compute state word count = do
+  replica ← loaded state
+  code ← code_of word
+  block ← computed replica code count
+  issued replica (kind.Block block)
+
+abbrev pub period : Bytes → Bytes → ℕ → ℕ → Result Answer Fault
+period state word start span = do
+  replica ← loaded state
+  code ← code_of word
+  claim ← claim_of code start span
+  issued replica (kind.Period claim)
+
+abbrev pub note : Bytes → Bytes → Bytes → Result Answer Fault
+note state name text = do
+  replica ← loaded state
+  note ← note_of name text
+  issued replica (kind.Note note)
+
+abbrev pub unnote : Bytes → Bytes → Result Answer Fault
+unnote state name = do
+  replica ← loaded state
+  removal ← removal_of replica name
+  issued replica (kind.Removal removal)

@@ -1,0 +1,57 @@
+-- The fault of each refusal: its cause, or want of memory.
+use Rattle.oct_delta.specs.declared.error.EncodeError.{EncodeError}
+use Rattle.oct_delta.specs.declared.error.EncodeError.TheVariants as encode
+use Rattle.oct_ops.specs.declared.fault.NoteError.{NoteError}
+use Rattle.oct_ops.specs.declared.fault.NoteError.TheVariants as note
+use Rattle.oct_replica.specs.declared.error.ComputeError.{ComputeError}
+use Rattle.oct_replica.specs.declared.error.ComputeError.TheVariants as compute
+use Rattle.oct_replica.specs.declared.error.IssueError.{IssueError}
+use Rattle.oct_replica.specs.declared.error.IssueError.TheVariants as issue
+use Rattle.oct_replica.specs.declared.error.LoadError.{LoadError}
+use Rattle.oct_replica.specs.declared.error.LoadError.TheVariants as load
+use Rattle.oct_replica.specs.declared.error.RemovalError.{RemovalError}
+use Rattle.oct_replica.specs.declared.error.RemovalError.TheVariants as removal
+use Rattle.oct_replica.specs.declared.error.TakeError.{TakeError}
+use Rattle.oct_replica.specs.declared.error.TakeError.TheVariants as take
+use Rattle.oct_sync.specs.declared.error.SyncError.{SyncError}
+use Rattle.oct_sync.specs.declared.error.SyncError.TheVariants as sync
+use Rattle.census_core.specs.declared.fault.Fault.{Fault}
+use Rattle.census_core.specs.declared.fault.Fault.TheVariants.{Load, Import, Compute, Note, Removal, Merge, Sync, Issue, TooMany, OutOfMemory}
+use Rattle.census_core.specs.declared.import_error.ImportError.{ImportError}
+use Rattle.census_core.specs.declared.import_error.ImportError.TheVariants as import
+
+abbrev pub load_fault : LoadError → Fault
+load_fault load.OutOfMemory = OutOfMemory
+load_fault cause = Load cause
+
+abbrev pub import_fault : ImportError → Fault
+import_fault import.OutOfMemory = OutOfMemory
+import_fault cause = Import cause
+
+abbrev pub compute_fault : ComputeError → Fault
+compute_fault compute.OutOfMemory = OutOfMemory
+compute_fault cause = Compute cause
+
+abbrev pub note_fault : NoteError → Fault
+note_fault note.OutOfMemory = OutOfMemory
+note_fault cause = Note cause
+
+abbrev pub removal_fault : RemovalError → Fault
+removal_fault removal.OutOfMemory = OutOfMemory
+removal_fault cause = Removal cause
+
+abbrev pub take_fault : TakeError → Fault
+take_fault (take.OutOfMemory done) = OutOfMemory
+take_fault cause = Merge cause
+
+abbrev pub issue_fault : IssueError → Fault
+issue_fault issue.OutOfMemory = OutOfMemory
+issue_fault cause = Issue cause
+
+abbrev pub encode_fault : EncodeError → Fault
+encode_fault encode.OutOfMemory = OutOfMemory
+encode_fault encode.TooMany = TooMany
+
+abbrev pub sync_fault : SyncError → Fault
+sync_fault sync.OutOfMemory = OutOfMemory
+sync_fault cause = Sync cause

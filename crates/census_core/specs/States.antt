@@ -1,0 +1,38 @@
+-- What the commands give that make a state, or merge a delta into one.
+use Rattle.std.specs.Prelude.{◌==◌, ℕ, is_none, is_some, codes, Result, Ok, Err, if◌then◌else◌}
+use Rattle.oct_delta.specs.Decoding.{format_at, read_delta}
+use Rattle.oct_delta.specs.Taken.{operations_of}
+use Rattle.oct_delta.specs.Text.{Bytes}
+use Rattle.oct_ops.specs.Operations.{Operations, empty, listed}
+use Rattle.oct_replica.specs.Content.{ReplicaContent}
+use Rattle.oct_replica.specs.Taking.{count_new, with_all}
+use Rattle.oct_replica.specs.declared.error.TakeError.{TakeError}
+use Rattle.oct_replica.specs.declared.error.TakeError.TheVariants.{Version, Refused}
+use Rattle.census_core.specs.Lines.{number_line}
+use Rattle.census_core.specs.Replies.{Answer}
+use Rattle.census_core.specs.Steps.{◌>>=◌}
+use Rattle.census_core.specs.Stored.{loaded, saved}
+use Rattle.census_core.specs.declared.fault.Fault.{Fault}
+use Rattle.census_core.specs.declared.fault.Fault.TheVariants.{Zero, Merge}
+
+-- a state without operations
+abbrev pub init : ℕ → Result Answer Fault
+init id = if id == 0 then Err Zero else saved (record { author = id; ops = empty }) (number_line (codes "author ") id)
+
+-- why bytes that are no delta are refused
+abbrev pub delta_refusal : Bytes → TakeError
+delta_refusal file = if is_none (format_at file) then Version else Refused
+
+-- the operations of a delta
+abbrev pub delta_of : Bytes → Result Operations Fault
+delta_of file = if is_some (read_delta file) then Ok (operations_of file) else Err (Merge (delta_refusal file))
+
+-- the union, and how many operations are new
+abbrev pub merged : ReplicaContent → Operations → Result Answer Fault
+merged r ops = saved (with_all r ops) (number_line (codes "new ") (count_new r.ops (listed ops)))
+
+abbrev pub merge : Bytes → Bytes → Result Answer Fault
+merge state file = do
+  replica ← loaded state
+  ops ← delta_of file
+  merged replica ops

@@ -1,0 +1,109 @@
+//! The commands that leave a state as it is.
+
+ghost use Rattle.std.specs.Prelude.{◌≡◌, ◌≢◌, Ok, Err, IfOk, IfErr};
+ghost use Rattle.census_core.specs.Asking.{delta, page, show, value, value_text, value_in};
+ghost use Rattle.census_core.specs.Lines.{outcome_line};
+ghost use Rattle.census_core.specs.Replies.{answer_of, said};
+
+use crate::codes::read_code;
+use crate::fault::Fault;
+use crate::reply::Reply;
+use crate::states::load;
+use crate::texts::number_line;
+use oct_code::Code;
+use oct_join::Clock;
+use oct_period::Outcome;
+use oct_replica::Replica;
+use std::alloc::{AllocError, Global};
+
+// The reply of a text alone.
+fn said(text: Vec<u8>) -> Reply
+    ensures { answer_of result ≡ said text.items }
+{
+    Reply {
+        state: None,
+        file: None,
+        text,
+    }
+}
+
+/// The value of a position, and who wins it.
+pub(crate) fn value(alloc: Global, state: &[u8], code: &[u8], heaps: &[u64]) -> Result<Reply, Fault>
+    ensures ok { IfOk result (λ reply. value state.now code.now heaps.now ≡ Ok (answer_of reply)) }
+    ensures err { IfErr result (λ e. e ≢ Fault.OutOfMemory → value state.now code.now heaps.now ≡ Err e) }
+{
+    let replica = load(alloc, state)?;
+    let code = read_code(code)?;
+    let text = value_text(alloc, &replica, code, heaps)?;
+    Ok(said(text))
+}
+
+// The lines of a position's value and of who wins it, or of the first heap whose nim-value is not known.
+fn value_text(
+    alloc: Global,
+    replica: &Replica<Global>,
+    code: Code,
+    heaps: &[u64],
+) -> Result<Vec<u8>, AllocError>
+    ensures { IfOk result (λ text. text.items ≡ value_text code heaps.now (value_in replica.now.ops code heaps.now)) }
+{
+    match replica.value(code, heaps) {
+        Ok(value) => {
+            let mut text = number_line(alloc, b"value ", u64::from(value))?;
+            text.extend_from_slice(outcome_line(&replica.outcome(code, heaps)))?;
+            Ok(text)
+        }
+        Err(unknown) => number_line(alloc, b"unknown at ", unknown.index as u64),
+    }
+}
+
+// The line of who wins, and none where it is not known.
+fn outcome_line(outcome: &Outcome) -> &'static [u8]
+    ensures { result.now ≡ outcome_line outcome.now }
+{
+    match outcome {
+        Outcome::NextWins => b"next player wins\n",
+        Outcome::NextLoses => b"next player loses\n",
+        Outcome::Unknown { .. } => b"",
+    }
+}
+
+/// One page of the catalogue.
+pub(crate) fn page(alloc: Global, state: &[u8], number: u32) -> Result<Reply, Fault>
+    ensures ok { IfOk result (λ reply. page state.now number ≡ Ok (answer_of reply)) }
+    ensures err { IfErr result (λ e. e ≢ Fault.OutOfMemory → page state.now number ≡ Err e) }
+{
+    let replica = load(alloc, state)?;
+    let mut text = Vec::new(alloc);
+    if !replica.page(number, &mut text)? {
+        return Err(Fault::NoPage);
+    }
+    Ok(said(text))
+}
+
+/// The catalogue.
+pub(crate) fn show(alloc: Global, state: &[u8]) -> Result<Reply, Fault>
+    ensures ok { IfOk result (λ reply. show state.now ≡ Ok (answer_of reply)) }
+    ensures err { IfErr result (λ e. e ≢ Fault.OutOfMemory → show state.now ≡ Err e) }
+{
+    let replica = load(alloc, state)?;
+    let mut text = Vec::new(alloc);
+    replica.catalogue(&mut text)?;
+    Ok(said(text))
+}
+
+/// All operations as one delta.
+pub(crate) fn delta(alloc: Global, state: &[u8]) -> Result<Reply, Fault>
+    ensures ok { IfOk result (λ reply. delta state.now ≡ Ok (answer_of reply)) }
+    ensures err { IfErr result (λ e. e ≢ Fault.OutOfMemory → delta state.now ≡ Err e) }
+{
+    let replica = load(alloc, state)?;
+    let mut file = Vec::new(alloc);
+    replica.delta(&Clock::new(alloc), &mut file)?;
+    let text = number_line(alloc, b"operations ", replica.len() as u64)?;
+    Ok(Reply {
+        state: None,
+        file: Some(file),
+        text,
+    })
+}

@@ -1,0 +1,41 @@
+//! Commands over the bytes of their files.
+
+ghost use Rattle.std.specs.Prelude.{◌≡◌, ◌≢◌, Ok, Err, IfOk, IfErr};
+ghost use Rattle.census_core.specs.Performed.{performed};
+ghost use Rattle.census_core.specs.Replies.{answer_of};
+
+use crate::asking::{delta, page, show, value};
+use crate::fault::Fault;
+use crate::issuing::{compute, import, note, period, unnote};
+use crate::reply::Reply;
+use crate::request::Request;
+use crate::states::{init, merge};
+use std::alloc::Global;
+
+/// Does one command, from the bytes of the state file and of another file: what is to be written, and the text. `Init`
+/// does not look at `state`; only `Import` and `Merge` look at `file`. After a fault nothing is to be written.
+///
+/// The first fault is answered: `Load`, then the command's own in the order in which it reads its words, then `Issue`, then
+/// `TooMany`. `OutOfMemory` may come before any of them.
+pub fn perform(alloc: Global, request: &Request, state: &[u8], file: &[u8]) -> Result<Reply, Fault>
+    ensures ok { IfOk result (λ reply. performed request.now state.now file.now ≡ Ok (answer_of reply)) }
+    ensures err { IfErr result (λ e. e ≢ Fault.OutOfMemory → performed request.now state.now file.now ≡ Err e) }
+{
+    match request {
+        Request::Init { id } => init(alloc, *id),
+        Request::Import => import(alloc, state, file),
+        Request::Compute { code, count } => compute(alloc, state, code, *count),
+        Request::Period {
+            code,
+            start,
+            period: span,
+        } => period(alloc, state, code, *start, *span),
+        Request::Note { name, text } => note(alloc, state, name, text),
+        Request::Unnote { name } => unnote(alloc, state, name),
+        Request::Merge => merge(alloc, state, file),
+        Request::Delta => delta(alloc, state),
+        Request::Value { code, heaps } => value(alloc, state, code, heaps),
+        Request::Page { number } => page(alloc, state, *number),
+        Request::Show => show(alloc, state),
+    }
+}

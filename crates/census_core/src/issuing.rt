@@ -1,0 +1,103 @@
+//! The commands that issue an operation.
+
+ghost use Rattle.std.specs.Prelude.{◌≡◌, ◌≢◌, Ok, Err, IfOk, IfErr};
+ghost use Rattle.oct_ops.specs.Views.{content};
+ghost use Rattle.census_core.specs.Issuing.{block_of, compute, import, issued, note, period, unnote};
+ghost use Rattle.census_core.specs.Replies.{answer_of};
+
+use crate::codes::read_code;
+use crate::fault::Fault;
+use crate::import::import_block;
+use crate::reply::Reply;
+use crate::states::{load, save};
+use crate::texts::issued_line;
+use oct_ops::{Block, Body, Note, Period};
+use oct_replica::Replica;
+use serde_json::Value;
+use std::alloc::Global;
+
+// Issues an operation of this body, and writes the state.
+fn issue(alloc: Global, mut replica: Replica<Global>, body: Body<Global>) -> Result<Reply, Fault>
+    ensures ok { IfOk result (λ reply. issued replica (content body) ≡ Ok (answer_of reply)) }
+    ensures err { IfErr result (λ e. e ≢ Fault.OutOfMemory → issued replica (content body) ≡ Err e) }
+{
+    match replica.issue(body) {
+        Ok(dot) => {
+            let text = issued_line(alloc, dot)?;
+            save(alloc, &replica, text)
+        }
+        Err((refused, _)) => Err(Fault::from(refused)),
+    }
+}
+
+/// Issues the block of a JSON file.
+pub(crate) fn import(alloc: Global, state: &[u8], file: &[u8]) -> Result<Reply, Fault>
+    ensures ok { IfOk result (λ reply. import state.now file.now ≡ Ok (answer_of reply)) }
+    ensures err { IfErr result (λ e. e ≢ Fault.OutOfMemory → import state.now file.now ≡ Err e) }
+{
+    let replica = load(alloc, state)?;
+    let block = read_block(alloc, file)?;
+    issue(alloc, replica, Body::Block(block))
+}
+
+// The block of a JSON file.
+fn read_block(alloc: Global, file: &[u8]) -> Result<Block<Global>, Fault>
+    ensures ok { IfOk result (λ block. block_of file.now ≡ Ok block) }
+    ensures err { IfErr result (λ e. e ≢ Fault.OutOfMemory → block_of file.now ≡ Err e) }
+{
+    let value = match Value::from_slice(alloc, file) {
+        Ok(value) => value,
+        Err(e) if e.is_memory() => return Err(Fault::OutOfMemory),
+        Err(_) => return Err(Fault::Json),
+    };
+    let block = import_block(alloc, &value)?;
+    Ok(block)
+}
+
+/// Computes the next nim-values of a game, and issues them as a block.
+pub(crate) fn compute(alloc: Global, state: &[u8], code: &[u8], count: u32) -> Result<Reply, Fault>
+    ensures ok { IfOk result (λ reply. compute state.now code.now count ≡ Ok (answer_of reply)) }
+    ensures err { IfErr result (λ e. e ≢ Fault.OutOfMemory → compute state.now code.now count ≡ Err e) }
+{
+    let replica = load(alloc, state)?;
+    let code = read_code(code)?;
+    let block = replica.compute(code, count)?;
+    issue(alloc, replica, Body::Block(block))
+}
+
+/// Issues a period claim.
+pub(crate) fn period(
+    alloc: Global,
+    state: &[u8],
+    code: &[u8],
+    start: u32,
+    span: u32,
+) -> Result<Reply, Fault>
+    ensures ok { IfOk result (λ reply. period state.now code.now start span ≡ Ok (answer_of reply)) }
+    ensures err { IfErr result (λ e. e ≢ Fault.OutOfMemory → period state.now code.now start span ≡ Err e) }
+{
+    let replica = load(alloc, state)?;
+    let code = read_code(code)?;
+    let claim = Period::new(code, start, span)?;
+    issue(alloc, replica, Body::Period(claim))
+}
+
+/// Issues a note.
+pub(crate) fn note(alloc: Global, state: &[u8], name: &[u8], text: &[u8]) -> Result<Reply, Fault>
+    ensures ok { IfOk result (λ reply. note state.now name.now text.now ≡ Ok (answer_of reply)) }
+    ensures err { IfErr result (λ e. e ≢ Fault.OutOfMemory → note state.now name.now text.now ≡ Err e) }
+{
+    let replica = load(alloc, state)?;
+    let note = Note::new(alloc, name, text)?;
+    issue(alloc, replica, Body::Note(note))
+}
+
+/// Issues the removal of the live notes of a name.
+pub(crate) fn unnote(alloc: Global, state: &[u8], name: &[u8]) -> Result<Reply, Fault>
+    ensures ok { IfOk result (λ reply. unnote state.now name.now ≡ Ok (answer_of reply)) }
+    ensures err { IfErr result (λ e. e ≢ Fault.OutOfMemory → unnote state.now name.now ≡ Err e) }
+{
+    let replica = load(alloc, state)?;
+    let removal = replica.removal(name)?;
+    issue(alloc, replica, Body::Removal(removal))
+}

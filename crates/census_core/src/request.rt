@@ -1,0 +1,48 @@
+//! What a command asks for.
+
+/// One command of the program over the bytes of its files: all but `fold`, `serve` and `sync`. Texts are as they stand on
+/// the command line.
+#[derive(Debug, Drop)]
+pub enum Request {
+    /// A new state of this author.
+    Init {
+        id: u32,
+    },
+    /// Issues the block of a JSON file.
+    Import,
+    /// Computes the next so many nim-values of a code, and issues them as a block.
+    Compute {
+        code: Vec<u8>,
+        count: u32,
+    },
+    /// Issues the claim that a code's nim-values repeat from a heap on.
+    Period {
+        code: Vec<u8>,
+        start: u32,
+        period: u32,
+    },
+    /// Issues a note.
+    Note {
+        name: Vec<u8>,
+        text: Vec<u8>,
+    },
+    /// Issues the removal of the live notes of a name.
+    Unnote {
+        name: Vec<u8>,
+    },
+    /// Takes a delta file in.
+    Merge,
+    /// Writes all operations as one delta file.
+    Delta,
+    /// The nim-value of a position, and who wins it.
+    Value {
+        code: Vec<u8>,
+        heaps: Vec<u64>,
+    },
+    /// One page of the catalogue.
+    Page {
+        number: u32,
+    },
+    /// The catalogue.
+    Show,
+}

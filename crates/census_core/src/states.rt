@@ -1,0 +1,65 @@
+//! The commands that make a state, or merge a delta into one; and states as files hold them.
+
+ghost use Rattle.std.specs.Prelude.{◌≡◌, ◌≢◌, Ok, Err, IfOk, IfErr};
+ghost use Rattle.std.specs.List.{All};
+ghost use Rattle.oct_ops.specs.Operations.{listed};
+ghost use Rattle.oct_ops.specs.Valid.{IsOp};
+ghost use Rattle.census_core.specs.Replies.{answer_of};
+ghost use Rattle.census_core.specs.States.{init, merge};
+ghost use Rattle.census_core.specs.Stored.{loaded, saved};
+
+use crate::fault::Fault;
+use crate::reply::Reply;
+use crate::texts::number_line;
+use oct_delta::laws::texts_are_read;
+use oct_replica::Replica;
+use std::alloc::Global;
+
+/// The replica of a state's text.
+pub(crate) fn load(alloc: Global, state: &[u8]) -> Result<Replica<Global>, Fault>
+    ensures ok { IfOk result (λ replica. loaded state.now ≡ Ok replica) }
+    ensures valid { IfOk result (λ replica. All IsOp (listed replica.ops)) }
+    ensures err { IfErr result (λ e. e ≢ Fault.OutOfMemory → loaded state.now ≡ Err e) }
+{
+    texts_are_read();
+    let replica = Replica::load(alloc, state)?;
+    Ok(replica)
+}
+
+/// The reply that writes the replica's state, and this text.
+pub(crate) fn save(alloc: Global, replica: &Replica<Global>, text: Vec<u8>) -> Result<Reply, Fault>
+    ensures ok { IfOk result (λ reply. saved replica.now text.items ≡ Ok (answer_of reply)) }
+    ensures err { IfErr result (λ e. e ≢ Fault.OutOfMemory → saved replica.now text.items ≡ Err e) }
+{
+    let mut state = Vec::new(alloc);
+    replica.save(&mut state)?;
+    Ok(Reply {
+        state: Some(state),
+        file: None,
+        text,
+    })
+}
+
+/// A new state of the author.
+pub(crate) fn init(alloc: Global, id: u32) -> Result<Reply, Fault>
+    ensures ok { IfOk result (λ reply. init id ≡ Ok (answer_of reply)) }
+    ensures err { IfErr result (λ e. e ≢ Fault.OutOfMemory → init id ≡ Err e) }
+{
+    let Ok(replica) = Replica::new(alloc, id) else {
+        return Err(Fault::Zero);
+    };
+    let text = number_line(alloc, b"author ", u64::from(id))?;
+    save(alloc, &replica, text)
+}
+
+/// Takes the file's delta in.
+pub(crate) fn merge(alloc: Global, state: &[u8], file: &[u8]) -> Result<Reply, Fault>
+    ensures ok { IfOk result (λ reply. merge state.now file.now ≡ Ok (answer_of reply)) }
+    ensures err { IfErr result (λ e. e ≢ Fault.OutOfMemory → merge state.now file.now ≡ Err e) }
+{
+    texts_are_read();
+    let mut replica = load(alloc, state)?;
+    let new = replica.take(file)?;
+    let text = number_line(alloc, b"new ", u64::from(new))?;
+    save(alloc, &replica, text)
+}

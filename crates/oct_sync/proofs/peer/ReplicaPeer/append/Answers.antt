@@ -1,0 +1,18 @@
+use Rattle.std.proofs.Common.{◌≡◌, ℕ, List, take, ap, ◌∙◌, subst}
+use Rattle.oct_ops.specs.Body.{Operation}
+use Rattle.oct_ops.specs.Operations.{set_of, union}
+use Rattle.oct_replica.specs.Content.{ReplicaContent}
+use Rattle.oct_replica.specs.Taking.{IsCutBy}
+use Rattle.oct_replica.specs.declared.error.TakeError.{TakeError}
+use Rattle.oct_replica.specs.declared.error.TakeError.TheVariants.{Version, Refused, OutOfMemory}
+use Rattle.oct_sync.proofs.peer.ReplicaPeer.append.Goals as goal
+
+first_in : (old new : ReplicaContent) (list : List Operation) (e : TakeError) → IsCutBy old new list e → (count : ℕ) × (new.ops ≡ union old.ops (set_of (take count list)))
+first_in old new list Version cut = absurd cut
+first_in old new list Refused cut = absurd cut
+first_in old new list (OutOfMemory done) cut = (done, ap (λ (r : ReplicaContent). r.ops) cut.held)
+
+pub returns-in-Err-clause-err : goal.returns-in-Err-clause-err
+returns-in-Err-clause-err g c =
+    first_in c.args.self.now c.take_list.new.self c.args.ops.now.items c.in-Err.field-0
+    (subst (λ xs. IsCutBy c.args.self.now c.take_list.new.self xs c.in-Err.field-0) (c.in-Ok.ensures.ok ∙ ap (λ v. v.items) c.replace.ensures.value) c.in-Err.ensures.err)

@@ -1,0 +1,69 @@
+#!/usr/bin/env bash
+# Plays the example session of the README with the program, in a folder of its own, and says whether each line is printed
+# as it stands in session.txt and in the README. Takes some seconds; the connection is on the loopback, on a free port,
+# which is printed as 4000.
+set -euo pipefail
+here=$(cd "$(dirname "${BASH_SOURCE[0]}")" && pwd)
+top=$(dirname "$here")
+"$top/census" --version >/dev/null
+census=$top/crates/census/out/census
+room=$(mktemp -d)
+trap 'rm -rf "$room"' EXIT
+
+# Whether somebody listens on the port.
+listens() {
+  grep -qi "^ *[0-9]*: 0100007F:$(printf %04X "$1") [0-9A-F:]* 0A" /proc/net/tcp
+}
+
+# A port on which nobody listens.
+free_port() {
+  local port
+  for port in {42110..42200}; do
+    listens "$port" || { echo "$port"; return; }
+  done
+  return 1
+}
+
+# Waits at most ten seconds until somebody listens on the port.
+wait_for() {
+  local turn
+  for turn in {1..100}; do
+    listens "$1" && return
+    sleep 0.1
+  done
+  return 1
+}
+
+# Does a line of the session, which it prints first.
+play() {
+  local port=$1 line=$2
+  printf '$ %s\n' "$line"
+  line=${line//:4000/:$port}
+  case $line in
+    *'&')
+      timeout 60 bash -c "${line%&}" >served 2>&1 &
+      wait_for "$port" ;;
+    *)
+      timeout 60 bash -c "$line" 2>&1 || true ;;
+  esac
+  if [[ $line == *" sync "* ]]; then
+    wait
+    cat served
+  fi
+}
+
+played() {
+  local port line
+  port=$(free_port)
+  cd "$room"
+  export PATH=$room:$PATH
+  ln -s "$census" census
+  while read -r line; do
+    [[ $line == '$ '* ]] && play "$port" "${line#\$ }"
+  done <"$here/session.txt"
+}
+
+played >"$room/played"
+diff "$here/session.txt" "$room/played"
+awk '/^    \$ census init anna/ { on = 1 } on && !/^    / { exit } on { print substr($0, 5) }' "$top/README.md" | diff "$here/session.txt" -
+echo "the example session is as it stands"
