@@ -19,7 +19,10 @@ listens() {
 free_port() {
   local port
   for port in {42110..42200}; do
-    listens "$port" || { echo "$port"; return; }
+    if ! listens "$port"; then
+      echo "$port"
+      return
+    fi
   done
   return 1
 }
@@ -28,7 +31,7 @@ free_port() {
 wait_for() {
   local turn
   for turn in {1..100}; do
-    listens "$1" && return
+    if listens "$1"; then return; fi
     sleep 0.1
   done
   return 1
@@ -59,7 +62,7 @@ played() {
   export PATH=$room:$PATH
   ln -s "$census" census
   while read -r line; do
-    [[ $line == '$ '* ]] && play "$port" "${line#\$ }"
+    if [[ $line == '$ '* ]]; then play "$port" "${line#\$ }"; fi
   done <"$here/session.txt"
 }
 
