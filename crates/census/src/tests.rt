@@ -30,27 +30,56 @@ fn ends(rt: &HostRuntime, words: &[&str], status: u8, output: &str, errors: &str
         && done.errors.as_slice() == errors.as_bytes()
 }
 
+// The name of a new folder for files of a test.
+fn fresh_folder(rt: &HostRuntime, name: &str) -> Result<String, Fail> {
+    let temp = env::temp_dir(rt)?;
+    let folder = temp.join(rt.alloc(), name)?;
+    let text = String::from_str(rt.alloc(), folder.as_path().to_str().ok_or("no text")?)?;
+    let _ = fs::remove_dir_all(rt, text.as_str());
+    fs::create_dir(rt, text.as_str())?;
+    Ok(text)
+}
+
 #[test]
 fn does_commands_over_files(rt: HostRuntime) -> Result<(), Fail> {
-    let temp = env::temp_dir(&rt)?;
-    let folder = temp.join(rt.alloc(), "census-does_commands")?;
-    let _ = fs::remove_dir_all(&rt, folder.as_path());
-    fs::create_dir(&rt, folder.as_path())?;
-    let state = folder.join(rt.alloc(), "state")?;
-    let json = folder.join(rt.alloc(), "block.json")?;
+    let folder = fresh_folder(&rt, "census-does_commands_over_files")?;
+    let state = format!(in rt.alloc(); "{folder}/state")?;
+    let json = format!(in rt.alloc(); "{folder}/block.json")?;
     fs::write(
         &rt,
-        json.as_path(),
+        json.as_str(),
         "{\"code\":\"0.07\",\"start\":0,\"values\":[0,0,1,1,2,0,3]}",
     )?;
-    let state = state.as_path().to_str().ok_or("no text")?;
-    let json = json.as_path().to_str().ok_or("no text")?;
-    assert!(rt; ends(&rt, &["init", state, "7"], 0, "author 7\n", ""));
-    assert!(rt; ends(&rt, &["init", state, "7"], 3, "", "census: Exists\n"));
-    assert!(rt; ends(&rt, &["sync", state, "nowhere"], 3, "", "census: Net\n"));
-    assert!(rt; ends(&rt, &["import", state, json], 0, "issued 7.1\n", ""));
-    assert!(rt; ends(&rt, &["show", state], 0, DAWSON, ""));
-    fs::remove_dir_all(&rt, folder.as_path())?;
+    assert!(rt; ends(&rt, &["init", state.as_str(), "7"], 0, "author 7\n", ""));
+    assert!(rt;
+        ends(
+            &rt,
+            &["init", state.as_str(), "7"],
+            3,
+            "",
+            "census: Exists\n"
+        )
+    );
+    assert!(rt;
+        ends(
+            &rt,
+            &["sync", state.as_str(), "nowhere"],
+            3,
+            "",
+            "census: Net\n"
+        )
+    );
+    assert!(rt;
+        ends(
+            &rt,
+            &["import", state.as_str(), json.as_str()],
+            0,
+            "issued 7.1\n",
+            ""
+        )
+    );
+    assert!(rt; ends(&rt, &["show", state.as_str()], 0, DAWSON, ""));
+    fs::remove_dir_all(&rt, folder.as_str())?;
     Ok(())
 }
 

@@ -1,5 +1,5 @@
 -- The text of a state is read as the state, and other bytes are read as none.
-use Rattle.std.proofs.Common.{arith, inl, inr, ◌≡◌, ◌≢◌, ℕ, ◌+◌, ◌<◌, ◌≤◌, ◌^◌, Bool, true, false, cond, List, ◌++◌, length, take, drop, Option, Some, None, Ok, Err, refl, sym, ap, subst, ◌∙◌, append_assoc, nat_eq, nat_lt}
+use Rattle.std.proofs.Common.{arith, inl, inr, ◌≡◌, ◌≢◌, ℕ, ◌+◌, ◌<◌, ◌≤◌, ◌^◌, Bool, true, false, cond, List, ◌++◌, length, take, drop, Option, Some, None, Result, Ok, Err, refl, sym, ap, subst, ◌∙◌, append_assoc, nat_eq, nat_lt}
 use Rattle.std.specs.Prelude.{◌↔◌, option_map}
 use Rattle.std.specs.Int.{w32, from_be_bytes}
 use Rattle.std.specs.Cmp.Lexicographic.{same_text}
@@ -26,6 +26,7 @@ use Rattle.oct_replica.specs.declared.error.LoadError.TheVariants.{Version, Refu
 use Rattle.census_core.specs.Refusals.{load_fault}
 use Rattle.census_core.specs.Steps.{found}
 use Rattle.census_core.specs.Stored.{loaded, read_authored, read_held}
+use Rattle.census_core.specs.declared.fault.Fault.{Fault}
 use Rattle.census_core.specs.declared.fault.Fault.TheVariants as fault
 
 abbrev pub Law : Type 0
@@ -95,9 +96,15 @@ option_of f (Some x) y e = (x, refl, cc)
 positive : (n : ℕ) → nat_eq n 0 ≡ false → 1 ≤ n
 positive n h = let other : n ≢ 0 = eqb-false n 0 h in omega (arith, other)
 
+err_ok : {r : ReplicaContent} {e : Fault} → ◌≡◌ {A = Result ReplicaContent Fault} (Err e) (Ok r) → ⊥
+err_ok e = cc
+
+some_of : {q r : ReplicaContent} → ◌≡◌ {A = Result ReplicaContent Fault} (Ok q) (Ok r) → Some q ≡ Some r
+some_of e = cc
+
 module _ (law : Law) where
   -- the bytes after a tag
-  authored_state : (bytes : Bytes) (r : ReplicaContent) → IsBytes bytes → has_tag bytes ≡ true → read_authored (drop 4 bytes) ≡ Some r → (author : ℕ) × (ops : Operations) × IsState bytes author ops
+  authored_state : (bytes : Bytes) (r : ReplicaContent) → IsBytes bytes → has_tag bytes ≡ true → read_authored (drop 4 bytes) ≡ Some r → IsState bytes r.author r.ops
   authored_state bytes r are tagged read =
       let found_bytes = drop 4 bytes in
       let author = from_be_bytes w32 (take 4 found_bytes) in
@@ -110,26 +117,38 @@ module _ (law : Law) where
       let text = (law (drop 4 found_bytes) list.0 (bytes-drop 4 found_bytes fits)).0 list.1 in
       let enough : 4 ≤ length found_bytes = ltb-false _ _ long.0 in
       let front : u32 author ≡ take 4 found_bytes = be_bytes_4 (take 4 found_bytes) author (omega (arith, length-take 4 found_bytes)) (bytes-take 4 found_bytes fits) refl in
-      let below : (bs : Bytes) → IsBytes bs → from_be_bytes w32 bs < 2 ^ 32 = λ bs are. omega (arith, are 0, are 1, are 2, are 3) in (
-        author,
-        set_of list.0,
-        record {
-          author_fits = (positive author some.0, below (take 4 found_bytes) (bytes-take 4 found_bytes fits));
-          rest = drop 4 found_bytes;
-          list = subst (λ (l : List Operation). IsDeltaText (drop 4 found_bytes) l) (sym (listed-set_of op_cmp_total op_cmp_exact list.0 (text_rises (drop 4 found_bytes) list.0 text))) text;
-          spelled =
-              tag_there state_tag bytes tagged
-              ∙ ap (λ (z : Bytes). state_tag ++ z) (sym (take-append-drop 4 found_bytes) ∙ ap (λ (z : Bytes). z ++ drop 4 found_bytes) (sym front))
-              ∙ sym (append_assoc state_tag (u32 author) (drop 4 found_bytes));
-        },
-      )
+      let below : (bs : Bytes) → IsBytes bs → from_be_bytes w32 bs < 2 ^ 32 = λ bs are. omega (arith, are 0, are 1, are 2, are 3) in
+      subst (λ (q : ReplicaContent). IsState bytes q.author q.ops) list.2 (record {
+        author_fits = (positive author some.0, below (take 4 found_bytes) (bytes-take 4 found_bytes fits));
+        rest = drop 4 found_bytes;
+        list = subst (λ (l : List Operation). IsDeltaText (drop 4 found_bytes) l) (sym (listed-set_of op_cmp_total op_cmp_exact list.0 (text_rises (drop 4 found_bytes) list.0 text))) text;
+        spelled =
+            tag_there state_tag bytes tagged
+            ∙ ap (λ (z : Bytes). state_tag ++ z) (sym (take-append-drop 4 found_bytes) ∙ ap (λ (z : Bytes). z ++ drop 4 found_bytes) (sym front))
+            ∙ sym (append_assoc state_tag (u32 author) (drop 4 found_bytes));
+      })
 
   none_read : (bytes : Bytes) → IsBytes bytes → has_tag bytes ≡ true → ((author : ℕ) (ops : Operations) → ¬ IsState bytes author ops) → read_authored (drop 4 bytes) ≡ None
   none_read bytes are tagged none = by (read_authored (drop 4 bytes)) refl
     where
       by : (o : Option ReplicaContent) → read_authored (drop 4 bytes) ≡ o → o ≡ None
       by None h = refl
-      by (Some r) h = let s = authored_state bytes r are tagged h in absurd (none s.0 s.1 s.2)
+      by (Some r) h = absurd (none r.author r.ops (authored_state bytes r are tagged h))
+
+  -- what is read is a text
+  loaded_state : (bytes : Bytes) (r : ReplicaContent) → IsBytes bytes → loaded bytes ≡ Ok r → IsState bytes r.author r.ops
+  loaded_state bytes r are read = by (has_tag bytes) refl (read_authored (drop 4 bytes)) refl
+    where
+      by : (b : Bool) → has_tag bytes ≡ b → (o : Option ReplicaContent) → read_authored (drop 4 bytes) ≡ o → IsState bytes r.author r.ops
+      by false untagged o h = absurd (err_ok (sym (ap (λ b. cond b (found (fault.Load Refused) (read_authored (drop 4 bytes))) (Err (fault.Load Version))) untagged) ∙ read))
+      by true tagged o h = of o h (sym (ap (λ b. cond b (found (fault.Load Refused) (read_authored (drop 4 bytes))) (Err (fault.Load Version))) tagged) ∙ read)
+        where
+          of : (o : Option ReplicaContent) → read_authored (drop 4 bytes) ≡ o → found (fault.Load Refused) (read_authored (drop 4 bytes)) ≡ Ok r → IsState bytes r.author r.ops
+          of None h is = absurd (err_ok (sym (ap (found (fault.Load Refused)) h) ∙ is))
+          of (Some q) h is = authored_state bytes r are tagged (h ∙ some_of (sym (ap (found (fault.Load Refused)) h) ∙ is))
+
+  pub states_read : (bytes : Bytes) (r : ReplicaContent) → IsBytes bytes → (loaded bytes ≡ Ok r) ↔ IsState bytes r.author r.ops
+  states_read bytes r are = (loaded_state bytes r are, state_read law bytes r.author r.ops are)
 
   -- a refusal that is not want of memory is the one that reading gives
   pub state_refused : (bytes : Bytes) (e : LoadError) → IsBytes bytes → RefusesState bytes e → load_fault e ≢ fault.OutOfMemory → loaded bytes ≡ Err (load_fault e)

@@ -10,6 +10,7 @@ mod import;
 mod import_error;
 mod input;
 mod issuing;
+pub mod laws;
 mod lines;
 mod output;
 mod reply;

@@ -26,7 +26,10 @@ const MAX_READ: usize = 65_536;
 /// Besides what a session refuses, the answer is `Cut` where the input ended before the session was done, `Read` where a
 /// read failed, `Write` where a write or a flush failed or a write took no byte, and `Turns` where more than `MAX_READS`
 /// reads would be needed. What the peer holds then is what the bytes that were read say, and what was written is a prefix
-/// of what the session sends.
+/// of what the session sends. The peer's author stays.
+///
+/// Where it is done and the bytes that were read are what the other side sends for those that were written, the peer holds
+/// what `laws::both_sides_hold_all` says.
 pub fn drive<A: Allocator + Copy, P: Peer<A>, R: Read, W: Write>(
     alloc: A,
     role: Role,

@@ -13,12 +13,13 @@
 //! in pieces of any size: what a side holds and sends follows from the bytes alone, and not from how they were cut.
 //!
 //! - `Session` is one side, which is fed the other side's bytes and adds what it sends to a vector.
-//! - `Peer` is whoever a side speaks for: it keeps a set of operations, as a `Store` does.
+//! - `Peer` is whoever a side speaks for: it keeps a set of operations, as a `Replica` does.
 //! - `drive` runs a session to its end over a reader and a writer.
-//! - `SyncError` says why a session ended early, and `laws` what holds of all sessions.
+//! - `SyncError` says why a session ended early, and `laws` what holds of all sessions: bytes may be cut anywhere, and two
+//!   sides that answer each other both end with all that either held.
 //!
-//! `specs/Frames` says what frames are and how operations are packed into them, `specs/Session` what each side does, and
-//! `specs/Driven` what was read and written where a session was driven.
+//! `specs/Frames` says what frames are and how operations are packed into them, `specs/Session` what each side does,
+//! `specs/Driven` what was read and written where a session was driven, and `specs/Exchange` what two sides come to.
 #![tactic(auto)]
 
 mod deltas;

@@ -11,7 +11,7 @@ use oct_replica::Replica;
 use std::alloc::{AllocError, Allocator};
 use std::mem;
 
-/// Keeps a finite set of operations, says by a clock what it holds, and takes operations in.
+/// Keeps a finite set of operations under an author, says by a clock what it holds, and takes operations in.
 pub trait Peer<A: Allocator + Copy> {
     ghost held: { Self → Operations };
 

@@ -23,8 +23,8 @@ use std::marker::Model;
 /// keeps no operations but those of the delta frame that comes; a caller hands it one `Peer` at every call, which nothing
 /// else changes meanwhile. After a refusal it answers `Failed`.
 ///
-///     let mut session = Session::client(alloc, &store, &mut out)?;      // its clock frame is in `out`
-///     session.feed(&mut store, &bytes, &mut out)?                       // More: `session.wanted()` bytes or fewer are to come
+///     let mut session = Session::client(alloc, &replica, &mut out)?;    // its clock frame is in `out`
+///     session.feed(&mut replica, &bytes, &mut out)?                     // More: `session.wanted()` bytes or fewer are to come
 #[derive(Drop)]
 pub struct Session<A: Allocator + Copy> {
     alloc: A,

@@ -59,7 +59,7 @@ fn sends_one(alloc: Global, state: &[u8], delta: &[u8]) -> bool {
     let Some(file) = &reply.file else {
         return false;
     };
-    file.as_slice() == delta && reply.text.as_slice() == b"operations 1\n"
+    file.as_slice() == delta && reply.text.as_slice() == b"operations 1\n".as_slice()
 }
 
 #[test]
