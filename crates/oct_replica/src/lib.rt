@@ -31,6 +31,3 @@ mod valid;
 
 pub use error::{AuthorError, ComputeError, IssueError, LoadError, RemovalError, TakeError};
 pub use replica::Replica;
-
-#[cfg(test)]
-mod tests;

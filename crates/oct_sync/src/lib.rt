@@ -35,8 +35,6 @@ mod role;
 mod sending;
 mod session;
 mod state;
-#[cfg(test)]
-mod tests;
 
 pub use driver::{MAX_READS, drive};
 pub use error::SyncError;

@@ -1,9 +1,11 @@
-use super::*;
 use metered::Metered;
 use oct_code::Code;
 use oct_delta::decode;
 use oct_ops::{Body, Dot, Note};
 use oct_period::{Outcome, Unknown};
+use oct_replica::{
+    AuthorError, ComputeError, IssueError, LoadError, RemovalError, Replica, TakeError,
+};
 use std::alloc::{Allocator, Global};
 use std::test::Fail;
 

@@ -149,6 +149,25 @@ fn devices_may_be_slow_or_end_or_fail(rt: HostRuntime) {
     assert!(rt; all);
 }
 
+// Whether a client whose reader fails after the server's delta has taken it in, and sent its clock alone.
+fn keeps_what_came(alloc: Global, side: &Side) -> bool {
+    let mut source = source_of(side);
+    let mut sink = sink_of(side);
+    source.left = 4;
+    let Ok(mut replica) = Replica::new(alloc, side.author) else {
+        return false;
+    };
+    replica.take(side.holds).is_ok()
+        && drive(alloc, side.role, &mut replica, &mut source, &mut sink) == Err(SyncError::Read)
+        && sink.expected.len() == side.sends.len().saturating_sub(side.first)
+        && shows(alloc, &replica, side.shows)
+}
+
+#[test]
+fn what_came_before_a_failure_is_kept(rt: HostRuntime) {
+    assert!(rt; keeps_what_came(rt.alloc(), &side_of(Role::Client)));
+}
+
 /// Gives one byte a read: the first bytes of a clock frame of the greatest length, and then zeros without end.
 #[derive(Clone, Copy)]
 struct Trickle {

@@ -2,9 +2,9 @@
 
 mod driven;
 
-use super::*;
 use metered::Metered;
 use oct_replica::Replica;
+use oct_sync::{MAX_READS, Progress, Role, Session, SyncError, drive};
 use std::alloc::{Allocator, Global};
 
 /// One side of an exchange: what it holds at first, what comes to it, what it sends, how much of that before its last
@@ -66,6 +66,37 @@ fn empty_side_of(role: Role) -> Side {
         }
     }
     side
+}
+
+const PENDING: &str =
+    "census 2\ngame 0.77 known 1\nvalues 0 0\nblock 2.1 at 5 count 3 pending\nauthor 2 through 1 last 1\nend\n";
+
+const AT_THE_OLD_LIMIT: &str =
+    "census 2\ngame 0.77 known 1\nvalues 0 0\nblock 1.1 at 4095 count 1 pending\nblock 1.2 at 4096 count 1 pending\nauthor 1 through 2 last 2\nend\n";
+
+// A client that gets an empty delta of the new format; a server that sends blocks at the old limit and past it, in two
+// frames; and a client of author 7, whose note has the dot of another one that the server has, so that neither is sent.
+fn further_sides() -> [Side; 3] {
+    let mut given_none = side_of(Role::Client);
+    given_none.comes =
+        b"\x00\x00\x00\x05\x01\x00\x00\x00\x00\x00\x00\x00\x09\x02OGD2\x00\x00\x00\x00\x00\x00\x00\x01\x03\x00\x00\x00\x01\x03";
+    given_none.shows = PENDING;
+    let mut limits = side_of(Role::Server);
+    limits.holds =
+        b"OGD2\x00\x00\x00\x02\x00\x00\x00\x01\x00\x00\x00\x01\x01\x00\x02\x07\x07\x00\x00\x0f\xff\x00\x01\x00\x00\x00\x00\x00\x00\x00\x01\x00\x00\x00\x02\x01\x00\x02\x07\x07\x00\x00\x10\x00\x00\x01\x00\x00\x00\x00";
+    limits.comes = b"\x00\x00\x00\x05\x01\x00\x00\x00\x00\x00\x00\x00\x01\x03";
+    limits.sends =
+        b"\x00\x00\x00\x0d\x01\x00\x00\x00\x01\x00\x00\x00\x01\x00\x00\x00\x02\x00\x00\x00\x20\x02OGD1\x00\x00\x00\x01\x00\x00\x00\x01\x00\x00\x00\x01\x01\x00\x02\x07\x07\x00\x00\x0f\xff\x00\x01\x00\x00\x00\x00\x00\x00\x00\x20\x02OGD2\x00\x00\x00\x01\x00\x00\x00\x01\x00\x00\x00\x02\x01\x00\x02\x07\x07\x00\x00\x10\x00\x00\x01\x00\x00\x00\x00\x00\x00\x00\x01\x03\x00\x00\x00\x01\x03";
+    limits.shows = AT_THE_OLD_LIMIT;
+    let mut forked = side_of(Role::Client);
+    forked.author = 7;
+    forked.holds = b"OGD1\x00\x00\x00\x01\x00\x00\x00\x07\x00\x00\x00\x01\x03\x01a\x03one";
+    forked.comes =
+        b"\x00\x00\x00\x0d\x01\x00\x00\x00\x01\x00\x00\x00\x07\x00\x00\x00\x01\x00\x00\x00\x01\x03\x00\x00\x00\x01\x03";
+    forked.sends =
+        b"\x00\x00\x00\x0d\x01\x00\x00\x00\x01\x00\x00\x00\x07\x00\x00\x00\x01\x00\x00\x00\x01\x03";
+    forked.shows = "census 2\nnote a 7.1 one\nauthor 7 through 1 last 1\nend\n";
+    [given_none, limits, forked]
 }
 
 // A session of the role, whose first bytes are in `out`.
@@ -181,6 +212,10 @@ fn sides_exchange_what_they_lack(rt: HostRuntime) {
                 all &= outcome.is_ok_and(|outcome| outcome.is_done(&side));
             }
         }
+    }
+    for side in further_sides() {
+        let outcome = outcome_of(&heap, u64::MAX, &side, side.comes, usize::MAX);
+        all &= outcome.is_ok_and(|outcome| outcome.is_done(&side));
     }
     assert!(rt; all);
 }
