@@ -6,7 +6,6 @@ use crate::network::exchange;
 use crate::task::{Task, read_task};
 use census_core::{Fault, INPUT_LIMIT, Reply, Request, fold_lines, perform, write_out};
 use clap::error::ErrorKind;
-use oct_sync::Role;
 use std::alloc::Global;
 use std::convert::AsStr;
 use std::io::{Read, Write};
@@ -84,18 +83,8 @@ where
     E: Write,
 {
     match task {
-        Task::Fold => {
-            let refused = fold_lines(rt.alloc(), input, output)?;
-            let _ = writeln!(errors, "refused {refused}");
-            Ok(())
-        }
-        Task::Init { state, id } => {
-            if exists(rt, state)? {
-                return Err(Fault::Exists);
-            }
-            let reply = perform(rt.alloc(), &Request::Init { id: *id }, b"", b"")?;
-            finish(rt, &reply, state, None, output)
-        }
+        Task::Fold => fold(rt.alloc(), input, output, errors),
+        Task::Init { state, id } => init(rt, state, *id, output),
         Task::Perform {
             state,
             read,
@@ -105,15 +94,41 @@ where
             let reply = reply_to(rt, state, *read, request)?;
             finish(rt, &reply, state, *written, output)
         }
-        Task::Serve { state, address } => {
-            exchange(rt, Role::Server, state, address)?;
-            write_out(output, b"done\n")
-        }
-        Task::Sync { state, address } => {
-            exchange(rt, Role::Client, state, address)?;
+        Task::Exchange {
+            role,
+            state,
+            address,
+        } => {
+            exchange(rt, *role, state, address)?;
             write_out(output, b"done\n")
         }
     }
+}
+
+// Folds the input, and says how many lines were refused.
+fn fold<I: Read, O: Write, E: Write>(
+    alloc: Global,
+    input: &mut I,
+    output: &mut O,
+    errors: &mut E,
+) -> Result<(), Fault> {
+    let refused = fold_lines(alloc, input, output)?;
+    let _ = writeln!(errors, "refused {refused}");
+    Ok(())
+}
+
+// Makes a state file, where nothing stands in its place.
+fn init<R: Files + AllocGlobal, O: Write>(
+    rt: &R,
+    state: &str,
+    id: u32,
+    output: &mut O,
+) -> Result<(), Fault> {
+    if exists(rt, state)? {
+        return Err(Fault::Exists);
+    }
+    let reply = perform(rt.alloc(), &Request::Init { id }, b"", b"")?;
+    finish(rt, &reply, state, None, output)
 }
 
 // What the request gives over the bytes of its files.

@@ -2,6 +2,7 @@
 
 use census_core::{Fault, Request, number};
 use clap::ArgMatches;
+use oct_sync::Role;
 use std::alloc::Global;
 
 /// What a command line asks for. Names of files and addresses are as they stand there.
@@ -23,13 +24,9 @@ pub enum Task<'a> {
         written: Option<&'a str>,
         request: Request,
     },
-    /// One connection as the server.
-    Serve {
-        state: &'a str,
-        address: &'a str,
-    },
-    /// One connection as the client.
-    Sync {
+    /// One session with another replica: as the server, which waits for it, or as the client, which begins it.
+    Exchange {
+        role: Role,
         state: &'a str,
         address: &'a str,
     },
@@ -51,14 +48,8 @@ pub fn read_task<'a>(alloc: Global, matches: &ArgMatches<'a>) -> Result<Task<'a>
         "merge" => Ok(over(state, Some(word(found, "DELTA")), None, Request::Merge)),
         "delta" => Ok(over(state, None, Some(word(found, "OUT")), Request::Delta)),
         "show" => Ok(over(state, None, None, Request::Show)),
-        "serve" => Ok(Task::Serve {
-            state,
-            address: word(found, "ADDR"),
-        }),
-        "sync" => Ok(Task::Sync {
-            state,
-            address: word(found, "ADDR"),
-        }),
+        "serve" => Ok(exchange(Role::Server, state, found)),
+        "sync" => Ok(exchange(Role::Client, state, found)),
         "fold" => Ok(Task::Fold),
         _ => Ok(over(state, None, None, request_of(alloc, name, found)?)),
     }
@@ -76,6 +67,15 @@ fn over<'a>(
         read,
         written,
         request,
+    }
+}
+
+// A session of this role.
+fn exchange<'a>(role: Role, state: &'a str, found: &ArgMatches<'a>) -> Task<'a> {
+    Task::Exchange {
+        role,
+        state,
+        address: word(found, "ADDR"),
     }
 }
 

@@ -45,11 +45,7 @@ fn does_commands_over_files(rt: HostRuntime) -> Result<(), Fail> {
     let folder = fresh_folder(&rt, "census-does_commands_over_files")?;
     let state = format!(in rt.alloc(); "{folder}/state")?;
     let json = format!(in rt.alloc(); "{folder}/block.json")?;
-    fs::write(
-        &rt,
-        json.as_str(),
-        "{\"code\":\"0.07\",\"start\":0,\"values\":[0,0,1,1,2,0,3]}",
-    )?;
+    fs::write(&rt, json.as_str(), BLOCK)?;
     assert!(rt; ends(&rt, &["init", state.as_str(), "7"], 0, "author 7\n", ""));
     assert!(rt;
         ends(
@@ -82,6 +78,8 @@ fn does_commands_over_files(rt: HostRuntime) -> Result<(), Fail> {
     fs::remove_dir_all(&rt, folder.as_str())?;
     Ok(())
 }
+
+const BLOCK: &str = "{\"code\":\"0.07\",\"start\":0,\"values\":[0,0,1,1,2,0,3]}";
 
 const DAWSON: &str = "\
 census 2
