@@ -1,4 +1,10 @@
 //! What the program does between its input and its output.
+//!
+//! - `fold_lines` reads lines of deltas, and writes the catalogue of what they say.
+//! - `perform` does a `Request`, from the bytes of the state file and of another file to the `Reply` that is to be written.
+//! - `import_block` reads the block of a JSON value, and `number` a word of the command line.
+//! - `read_whole` and `write_out` read and write all of a stream.
+//! - `Fault` says why a run ended early, and `laws` what holds of every state file.
 #![tactic(auto)]
 
 mod asking;
