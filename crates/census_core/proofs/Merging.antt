@@ -8,6 +8,7 @@ use Rattle.oct_delta.specs.Decoding.{format_at, read_as, read_delta}
 use Rattle.oct_delta.specs.Delta.{Format, IsDeltaText}
 use Rattle.oct_delta.specs.Taken.{operations_of}
 use Rattle.oct_delta.specs.Text.{Bytes}
+use Rattle.oct_delta.proofs.Deltas.{Law, read_none}
 use Rattle.oct_replica.specs.Content.{ReplicaContent}
 use Rattle.oct_replica.specs.Taking.{count_new, with_all}
 use Rattle.oct_replica.specs.declared.error.TakeError.{TakeError}
@@ -18,14 +19,6 @@ use Rattle.census_core.specs.States.{delta_of, delta_refusal, merge, merged}
 use Rattle.census_core.specs.Steps.{◌>>=◌}
 use Rattle.census_core.specs.Stored.{loaded, saved}
 use Rattle.census_core.specs.declared.fault.Fault.TheVariants as fault
-use Rattle.census_core.proofs.StoredStates.{Law}
-
-none_read : Law → (file : Bytes) → IsBytes file → ((ops : List Operation) → ¬ IsDeltaText file ops) → read_delta file ≡ None
-none_read law file are none = by (read_delta file) refl
-  where
-    by : (o : Option (List Operation)) → read_delta file ≡ o → o ≡ None
-    by None h = refl
-    by (Some ops) h = absurd (none ops ((law file ops are).0 h))
 
 refused_as : (file : Bytes) → read_delta file ≡ None → (b : Bool) → is_none (format_at file) ≡ b → delta_of file ≡ Err (fault.Merge (cond b Version Refused))
 refused_as file none b named =
@@ -42,7 +35,7 @@ delta_refused : Law → (file : Bytes) (result : Result ℕ TakeError) (cause : 
     → take_fault cause ≢ fault.OutOfMemory → delta_of file ≡ Err (take_fault cause)
 delta_refused law file result Version are is version refused other = let none = version.0 is in refused_as file (unnamed file none) true (ap is_none none)
 delta_refused law file result Refused are is version refused other =
-    let h = refused.0 is in refused_as file (none_read law file are h.1) false (named (format_at file) h.0)
+    let h = refused.0 is in refused_as file (read_none law file are h.1) false (named (format_at file) h.0)
   where
     named : (o : Option Format) → IsSome o → is_none o ≡ false
     named None h = absurd cc

@@ -1,24 +1,23 @@
 -- The text of a state is read as the state, and other bytes are read as none.
-use Rattle.std.proofs.Common.{arith, inl, inr, ◌≡◌, ◌≢◌, ℕ, ◌+◌, ◌<◌, ◌≤◌, ◌^◌, Bool, true, false, cond, List, ◌++◌, length, take, drop, Option, Some, None, Result, Ok, Err, refl, sym, ap, subst, ◌∙◌, append_assoc, nat_eq, nat_lt}
+use Rattle.std.proofs.Common.{arith, inl, inr, ◌≡◌, ◌≢◌, ℕ, ◌<◌, ◌≤◌, ◌^◌, Bool, true, false, cond, List, ◌++◌, length, take, drop, Option, Some, None, Result, Ok, Err, refl, sym, ap, subst, ◌∙◌, append_assoc, nat_eq, nat_lt}
 use Rattle.std.specs.Prelude.{◌↔◌, option_map}
 use Rattle.std.specs.Int.{w32, from_be_bytes}
-use Rattle.std.specs.Cmp.Lexicographic.{same_text}
-use Rattle.std.specs.List.{starts_with, All}
-use Rattle.std.proofs.lemmas.Bool.{cases_lt, le-ltb, ltb-false, ne_eqb, eqb-false}
-use Rattle.std.proofs.lemmas.List.{take_at, drop_at, take-append-drop, length-append, length-take, get_or-drop, get_or-take, get_or_past}
+use Rattle.std.specs.List.{All}
+use Rattle.std.proofs.lemmas.Bool.{le-ltb, ltb-false, ne_eqb, eqb-false}
+use Rattle.std.proofs.lemmas.List.{take_at, drop_at, take-append-drop, length-append, length-take}
 use Rattle.std.proofs.lemmas.Nat.{be_bytes_4, from_be_bytes-to_be_bytes_4}
 use Rattle.oct_ops.specs.Body.{Operation}
 use Rattle.oct_ops.specs.Operations.{Operations, listed, set_of}
 use Rattle.oct_ops.specs.OrderLaws.{op_cmp_total, op_cmp_exact}
 use Rattle.oct_ops.specs.SetLaws.{listed-set_of, set_of-listed}
-use Rattle.oct_ops.specs.Sets.{rises}
-use Rattle.oct_ops.specs.Order.{op_cmp}
 use Rattle.oct_ops.specs.Valid.{IsOp, IsU32}
 use Rattle.oct_delta.specs.Bytes.{IsBytes}
 use Rattle.oct_delta.specs.Decoding.{read_delta}
 use Rattle.oct_delta.specs.Delta.{IsDeltaText}
 use Rattle.oct_delta.specs.State.{IsState, state_tag}
 use Rattle.oct_delta.specs.Text.{Bytes, u32}
+use Rattle.oct_delta.proofs.Codecs.{IsBytes-drop, IsBytes-take}
+use Rattle.oct_delta.proofs.Deltas.{Law, tag_there, text_rising}
 use Rattle.oct_replica.specs.Content.{ReplicaContent}
 use Rattle.oct_replica.specs.States.{RefusesState, has_tag}
 use Rattle.oct_replica.specs.declared.error.LoadError.{LoadError}
@@ -28,27 +27,6 @@ use Rattle.census_core.specs.Steps.{found}
 use Rattle.census_core.specs.Stored.{loaded, read_authored, read_held}
 use Rattle.census_core.specs.declared.fault.Fault.{Fault}
 use Rattle.census_core.specs.declared.fault.Fault.TheVariants as fault
-
-abbrev pub Law : Type 0
-Law = (bytes : Bytes) (ops : List Operation) → IsBytes bytes → (read_delta bytes ≡ Some ops) ↔ IsDeltaText bytes ops
-
--- ---- bytes
-
-bytes-drop : (n : ℕ) (bytes : Bytes) → IsBytes bytes → IsBytes (drop n bytes)
-bytes-drop n bytes are i = rw get_or-drop (are (n + i))
-
-bytes-take : (n : ℕ) (bytes : Bytes) → IsBytes bytes → IsBytes (take n bytes)
-bytes-take n bytes are i = elim (cases_lt i n) [
-  | inl lt ↦ rw (get_or-take n bytes i 0 lt) (are i)
-  | inr le ↦ rw (get_or_past (take n bytes) i 0 (omega (arith, length-take n bytes))) (omega arith)
-]
-
-tag_there : (tag bytes : Bytes) → starts_with nat_eq bytes tag ≡ true → bytes ≡ tag ++ drop (length tag) bytes
-tag_there tag bytes h = sym (take-append-drop (length tag) bytes) ∙ ap (λ (z : Bytes). z ++ drop (length tag) bytes) (sym (same_text tag (take (length tag) bytes) (sym h)))
-
-text_rises : (bytes : Bytes) (ops : List Operation) → IsDeltaText bytes ops → rises op_cmp ops ≡ true
-text_rises bytes ops (inl d) = d.list.rising
-text_rises bytes ops (inr d) = d.list.rising
 
 valid_each : (bytes : Bytes) (ops : List Operation) → IsDeltaText bytes ops → All IsOp ops
 valid_each bytes ops (inl d) i o lt = (d.list.each i o lt).valid
@@ -81,7 +59,7 @@ module _ (law : Law) where
       let spelled : bytes ≡ state_tag ++ (u32 author ++ s.rest) = s.spelled ∙ append_assoc state_tag (u32 author) s.rest in
       let rest_is : drop 8 bytes ≡ s.rest = ap (drop 8) spelled ∙ drop_at (u32 author) s.rest 4 refl in
       ap loaded spelled
-      ∙ ap (found (fault.Load Refused)) (authored_read author s.rest ops s.author_fits.0 s.author_fits.1 (subst IsBytes rest_is (bytes-drop 8 bytes are)) s.list)
+      ∙ ap (found (fault.Load Refused)) (authored_read author s.rest ops s.author_fits.0 s.author_fits.1 (subst IsBytes rest_is (IsBytes-drop 8 bytes are)) s.list)
 
 -- ---- what is read is a text
 
@@ -108,20 +86,20 @@ module _ (law : Law) where
   authored_state bytes r are tagged read =
       let found_bytes = drop 4 bytes in
       let author = from_be_bytes w32 (take 4 found_bytes) in
-      let fits = bytes-drop 4 bytes are in
+      let fits = IsBytes-drop 4 bytes are in
       let held = read_held author (drop 4 found_bytes) in
       let none : Option ReplicaContent = None in
       let long = guard_some (nat_lt (length found_bytes) 4) (cond (nat_eq author 0) none held) r read in
       let some = guard_some (nat_eq author 0) held r long.1 in
       let list = option_of (λ (l : List Operation). record { author = author; ops = set_of l }) (read_delta (drop 4 found_bytes)) r some.1 in
-      let text = (law (drop 4 found_bytes) list.0 (bytes-drop 4 found_bytes fits)).0 list.1 in
+      let text = (law (drop 4 found_bytes) list.0 (IsBytes-drop 4 found_bytes fits)).0 list.1 in
       let enough : 4 ≤ length found_bytes = ltb-false _ _ long.0 in
-      let front : u32 author ≡ take 4 found_bytes = be_bytes_4 (take 4 found_bytes) author (omega (arith, length-take 4 found_bytes)) (bytes-take 4 found_bytes fits) refl in
+      let front : u32 author ≡ take 4 found_bytes = be_bytes_4 (take 4 found_bytes) author (omega (arith, length-take 4 found_bytes)) (IsBytes-take 4 found_bytes fits) refl in
       let below : (bs : Bytes) → IsBytes bs → from_be_bytes w32 bs < 2 ^ 32 = λ bs are. omega (arith, are 0, are 1, are 2, are 3) in
       subst (λ (q : ReplicaContent). IsState bytes q.author q.ops) list.2 (record {
-        author_fits = (positive author some.0, below (take 4 found_bytes) (bytes-take 4 found_bytes fits));
+        author_fits = (positive author some.0, below (take 4 found_bytes) (IsBytes-take 4 found_bytes fits));
         rest = drop 4 found_bytes;
-        list = subst (λ (l : List Operation). IsDeltaText (drop 4 found_bytes) l) (sym (listed-set_of op_cmp_total op_cmp_exact list.0 (text_rises (drop 4 found_bytes) list.0 text))) text;
+        list = subst (λ (l : List Operation). IsDeltaText (drop 4 found_bytes) l) (sym (listed-set_of op_cmp_total op_cmp_exact list.0 (text_rising (drop 4 found_bytes) list.0 text))) text;
         spelled =
             tag_there state_tag bytes tagged
             ∙ ap (λ (z : Bytes). state_tag ++ z) (sym (take-append-drop 4 found_bytes) ∙ ap (λ (z : Bytes). z ++ drop 4 found_bytes) (sym front))

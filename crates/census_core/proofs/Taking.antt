@@ -1,5 +1,5 @@
 -- The operations of the lines, taken in one list after another.
-use Rattle.std.proofs.Common.{arith, ◌≡◌, ◌↔◌, ◌≤◌, ◌+◌, ℕ, Bool, true, false, List, [], ◌∷◌, ◌++◌, cond, Option, Some, None, Result, Err, IsSome, refl, sym, ap, ◌∙◌}
+use Rattle.std.proofs.Common.{arith, ◌≡◌, ◌↔◌, ◌≤◌, ◌+◌, ℕ, Bool, true, false, List, [], ◌∷◌, ◌++◌, cond, Option, None, Result, Err, IsSome, sym, ap, ◌∙◌}
 use Rattle.std.specs.Prelude.{⊤, count_by, filter, is_none, unwrap_or}
 use Rattle.std.specs.Result.{IsErrOf}
 use Rattle.std.proofs.lemmas.List.Sums.{sum_by-cons}
@@ -10,6 +10,7 @@ use Rattle.oct_delta.specs.Decoding.{format_at, read_as, read_delta}
 use Rattle.oct_delta.specs.Delta.{IsDeltaText}
 use Rattle.oct_delta.specs.Taken.{operations_of, set_of_read}
 use Rattle.oct_delta.specs.Text.{Bytes}
+use Rattle.oct_delta.proofs.Deltas.{Law, read_none}
 use Rattle.oct_ops.specs.Body.{Operation}
 use Rattle.oct_ops.specs.Operations.{Operations, empty, insert, set_of, union}
 use Rattle.oct_ops.specs.OrderLaws.{op_cmp_total, op_cmp_exact}
@@ -43,23 +44,13 @@ untaken s line none = sym (union_none s) ∙ ap (λ (m : Option (List Operation)
 pub refused_once : (line : Bytes) (n : ℕ) → operations_of_line line ≡ None → n + 1 ≡ cond (is_refused line) (n + 1) n
 refused_once line n none = ap (λ (m : Option (List Operation)). cond (is_none m) (n + 1) n) (sym none)
 
--- bytes that begin with no tag, or are no text, spell nothing
-abbrev pub Law : Type 0
-Law = (bytes : Bytes) (ops : List Operation) → IsBytes bytes → (read_delta bytes ≡ Some ops) ↔ IsDeltaText bytes ops
-
-read_none : Law → (bytes : Bytes) → IsBytes bytes → ((ops : List Operation) → ¬ IsDeltaText bytes ops) → read_delta bytes ≡ None
-read_none law bytes are none = elim (read_delta bytes) as (λ o. read_delta bytes ≡ o → o ≡ None) [
-  | None ↦ λ _. refl
-  | Some ops ↦ λ e. absurd (none ops ((law bytes ops are).0 e))
-] refl
-
 -- the two answers for bytes that are no delta
 abbrev pub IsNoDelta : TakeError → Type 0
 IsNoDelta Version = ⊤
 IsNoDelta Refused = ⊤
 IsNoDelta (OutOfMemory done) = ⊥
 
--- what either says of the bytes
+-- bytes that begin with no tag, or are no text, spell nothing
 pub nothing_read : Law → (bytes : Bytes) → IsBytes bytes → (r : Result ℕ TakeError) → (e : TakeError) → r ≡ Err e → IsNoDelta e
     → IsErrOf r Version ↔ (format_at bytes ≡ None) → IsErrOf r Refused ↔ (IsSome (format_at bytes) × ((ops : List Operation) → ¬ IsDeltaText bytes ops))
     → read_delta bytes ≡ None

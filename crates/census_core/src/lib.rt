@@ -36,6 +36,3 @@ pub use output::write_out;
 pub use reply::Reply;
 pub use request::Request;
 pub use words::number;
-
-#[cfg(test)]
-mod tests;

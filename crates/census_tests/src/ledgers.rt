@@ -1,77 +1,219 @@
-//! Additions to a ledger without memory.
+//! Ledgers of Kayles: what is said of blocks in whatever order they come, without memory and after each refusal of memory.
 
 use metered::Metered;
 use oct_code::Code;
 use oct_ops::{Block, Dot};
-use oct_verify::Ledger;
+use oct_verify::Status::{Pending, Proved, Refuted};
+use oct_verify::{Ledger, Status};
 use std::alloc::{Allocator, Global};
-use std::process::Abort;
-use std::test::Fail;
 
 /// The nim-values of Kayles.
 const KAYLES: [u32; 12] = [0, 1, 2, 3, 1, 4, 3, 2, 1, 4, 2, 6];
 
-// Adds a block of author 1 to a ledger.
-fn add<A: Allocator + Copy>(
-    ledger: &mut Ledger<A>,
-    alloc: A,
-    number: u32,
-    start: u32,
-    values: &[u32],
-) -> Result<(), Fail> {
-    let values = Vec::from_slice(alloc, values)?;
-    let dot = Dot::new(1, number)?;
-    let Ok(block) = Block::new(ledger.code(), start, values) else {
-        return Err("no block")?;
+/// A block of author 1: its number, its first heap and its values.
+type Row = (u32, u32, &'static [u32]);
+
+/// A block that is added, and what is said then: its status, the known length, and how many comparisons were made.
+type Step = (Row, Status, u32, u64);
+
+// Blocks of which the first settles the second, and that the third.
+const NEAR: Row = (1, 1, &[1, 2, 3, 1, 4]);
+
+const NEXT: Row = (2, 6, &[3]);
+
+const FAR: Row = (3, 7, &[2]);
+
+// Blocks of which each but the first begins within another one.
+const FIRST: Row = (1, 0, &[0, 1, 2, 3, 1]);
+
+const INNER: Row = (2, 2, &[2, 3]);
+
+const LAST: Row = (3, 3, &[3, 1, 4, 3, 2]);
+
+// A block, and the one that goes on from it.
+const BEFORE: Row = (1, 1, &[1, 2, 3, 1]);
+
+const AFTER: Row = (2, 5, &[4, 3, 2]);
+
+// Blocks that come one after the other.
+const CASES: [&[Step]; 11] = [
+    &[
+        (FAR, Pending, 1, 0),
+        (NEXT, Pending, 1, 0),
+        (NEAR, Proved, 8, 3),
+    ],
+    &[
+        (FAR, Pending, 1, 0),
+        (NEAR, Proved, 6, 1),
+        (NEXT, Proved, 8, 3),
+    ],
+    &[
+        (NEXT, Pending, 1, 0),
+        (FAR, Pending, 1, 0),
+        (NEAR, Proved, 8, 3),
+    ],
+    &[
+        (NEXT, Pending, 1, 0),
+        (NEAR, Proved, 7, 2),
+        (FAR, Proved, 8, 3),
+    ],
+    &[
+        (NEAR, Proved, 6, 1),
+        (FAR, Pending, 6, 1),
+        (NEXT, Proved, 8, 3),
+    ],
+    &[
+        (NEAR, Proved, 6, 1),
+        (NEXT, Proved, 7, 2),
+        (FAR, Proved, 8, 3),
+    ],
+    &[
+        (FIRST, Proved, 5, 1),
+        (INNER, Proved, 5, 2),
+        (LAST, Proved, 8, 3),
+        (FIRST, Proved, 8, 3),
+        (INNER, Proved, 8, 3),
+    ],
+    &[
+        (LAST, Pending, 1, 0),
+        (INNER, Pending, 1, 0),
+        ((1, 0, &KAYLES), Proved, 12, 3),
+    ],
+    &[
+        (AFTER, Pending, 1, 0),
+        (BEFORE, Proved, 8, 2),
+        (AFTER, Proved, 8, 2),
+    ],
+    &[(
+        (1, 1, &[1, 2, 3, 1, 5, 0]),
+        Refuted {
+            at: 5,
+            claimed: 5,
+            truth: 4,
+        },
+        1,
+        1,
+    )],
+    &[((1, 4_095, &[0]), Pending, 1, 0)],
+];
+
+// The status of a block, which is added if it is not there; none where memory is refused. The block and its copy take two
+// requests.
+#[tactic(auto, using(oct_verify::proofs::Filings::filed_itself))]
+fn status<A: Allocator + Copy>(alloc: A, ledger: &mut Ledger<A>, row: Row) -> Option<Status> {
+    let (number, start, values) = row;
+    let Ok(dot) = Dot::new(1, number) else {
+        return None;
     };
-    if ledger.add(dot, block).is_err() {
-        return Err("no memory")?;
+    let Ok(values) = Vec::from_slice(alloc, values) else {
+        return None;
+    };
+    let Ok(block) = Block::new(ledger.code(), start, values) else {
+        return None;
+    };
+    let Ok(again) = block.copy(alloc) else {
+        return None;
+    };
+    match ledger.add(dot, block) {
+        Ok(()) => Some(ledger.status(&dot, &again)),
+        Err(_) => None,
     }
-    Ok(())
 }
 
-// Adds the block that settles two parked ones, with so many requests granted. Says whether that was enough; a refusal
-// changes nothing, and the block that came back can be added.
-fn settles_with(rt: &impl Abort, heap: &Metered<Global>, grants: u64) -> Result<bool, Fail> {
-    heap.arm(u64::MAX);
-    let mut ledger = Ledger::new(heap, Code::parse(b"0.77")?);
-    add(&mut ledger, heap, 3, 3, &[3, 1, 4, 3, 2])?;
-    add(&mut ledger, heap, 2, 2, &[2, 3])?;
-    let values = Vec::from_slice(heap, &KAYLES)?;
-    let Ok(block) = Block::new(ledger.code(), 0, values) else {
-        return Err("no block")?;
-    };
-    let dot = Dot::new(1, 1)?;
-    assert_eq!(rt; (ledger.known(), ledger.checks()), (1, 0));
-    heap.arm(grants);
-    let added = ledger.add(dot, block);
-    heap.arm(u64::MAX);
-    let was_enough = match added {
-        Ok(()) => true,
-        Err((_, block)) => {
-            assert_eq!(rt; (ledger.known(), ledger.checks()), (1, 0));
-            assert_eq!(rt; block.values(), KAYLES.as_slice());
-            if ledger.add(dot, block).is_err() {
-                return Err("no memory")?;
-            }
-            false
+// Whether so many nim-values are known, each that of its heap, after so many comparisons.
+fn knows<A: Allocator + Copy>(ledger: &Ledger<A>, known: u32, checks: u64) -> bool {
+    let values = ledger.known_values();
+    let mut right = ledger.known() == known
+        && ledger.checks() == checks
+        && values.len() == known as usize
+        && KAYLES.starts_with(values);
+    for heap in 0..13u32 {
+        right &= ledger.value(heap) == values.get(heap as usize).copied();
+    }
+    right
+}
+
+// Whether the next values are refused at each request in turn, and are those of Kayles in the end.
+fn goes_on<A: Allocator + Copy>(heap: &Metered<Global>, ledger: &Ledger<A>) -> bool {
+    let count = 12u32.saturating_sub(ledger.known());
+    for grants in 0..64u64 {
+        heap.arm(grants);
+        if let Ok(next) = ledger.next_values(count) {
+            return grants > 0 && next.len() == count as usize && KAYLES.ends_with(&next);
         }
+    }
+    false
+}
+
+// Makes a step, at first with so many requests granted by the heap, in which `alloc` asks for memory. Says whether these were
+// too few; none where a refusal changes anything, or what is said in the end is wrong or takes memory.
+fn makes<A: Allocator + Copy>(
+    heap: &Metered<Global>,
+    alloc: A,
+    ledger: &mut Ledger<A>,
+    step: &Step,
+    grants: u64,
+) -> Option<bool> {
+    let (row, said, known, checks) = *step;
+    let (before, compared) = (ledger.known(), ledger.checks());
+    heap.arm(grants);
+    let refused = status(alloc, ledger, row).is_none();
+    if refused && !knows(ledger, before, compared) {
+        return None;
+    }
+    heap.arm(u64::MAX);
+    status(alloc, ledger, row);
+    heap.arm(1_002);
+    let right = status(alloc, ledger, row) == Some(said)
+        && knows(ledger, known, checks)
+        && heap.left() == 1_000
+        && goes_on(heap, ledger);
+    if right { Some(refused) } else { None }
+}
+
+// The same of a new ledger and of all the steps.
+fn follows<A: Allocator + Copy>(
+    heap: &Metered<Global>,
+    alloc: A,
+    code: Code,
+    steps: &[Step],
+    grants: u64,
+) -> Option<bool> {
+    heap.arm(1_000);
+    let mut ledger = Ledger::new(alloc, code);
+    let mut right = ledger.code() == code && knows(&ledger, 1, 0) && heap.left() == 1_000;
+    let mut refused = false;
+    for step in steps {
+        match makes(heap, alloc, &mut ledger, step, grants) {
+            Some(again) => refused |= again,
+            None => right = false,
+        }
+    }
+    if right { Some(refused) } else { None }
+}
+
+// Whether all cases come out right where each request for memory is refused in turn.
+fn are_right(heap: &Metered<Global>) -> bool {
+    let Ok(code) = Code::parse(b"0.77") else {
+        return false;
     };
-    assert_eq!(rt; (ledger.known(), ledger.checks()), (12, 3));
-    assert_eq!(rt; ledger.known_values(), KAYLES.as_slice());
-    Ok(was_enough)
+    for grants in 0..64u64 {
+        let mut refused = false;
+        for steps in &CASES {
+            match follows(heap, heap, code, steps, grants) {
+                Some(again) => refused |= again,
+                None => return false,
+            }
+        }
+        if !refused {
+            return grants > 2;
+        }
+    }
+    false
 }
 
 #[test]
-fn a_refused_addition_changes_nothing(rt: HostRuntime) -> Result<(), Fail> {
+fn blocks_settle_in_every_order(rt: HostRuntime) {
     let heap = Metered::new(rt.alloc());
-    let mut refusals = 0u32;
-    for grants in 0..64 {
-        if settles_with(&rt, &heap, grants)? {
-            assert!(rt; refusals > 0);
-            return Ok(());
-        }
-        refusals = refusals.saturating_add(1);
-    }
-    Err("always refused")?
+    assert!(rt; are_right(&heap));
 }

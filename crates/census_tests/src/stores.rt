@@ -1,115 +1,402 @@
-//! Insertions into a store and joins of stores without memory.
+//! Stores: what they show, insertions and joins, where each request for memory is refused in turn; and calls that make none.
 
+use crate::deltas::is_refused;
+use crate::vectors::{A, B, C, D, I, many_notes};
 use metered::Metered;
 use oct_code::Code;
-use oct_join::Join;
-use oct_ops::{Block, Body, Dot, Op};
-use oct_store::Store;
-use std::alloc::{Allocator, Global};
-use std::process::Abort;
-use std::test::Fail;
+use oct_delta::{DeltaError, OpList, Reader, decode, decode_clock, op_size};
+use oct_join::{Clock, Join};
+use oct_ops::Op;
+use oct_store::{Author, Store};
+use std::alloc::{AllocError, Allocator, Global};
 
-// A block of Kayles under its dot.
-fn block<A: Allocator + Copy>(
+// The operations of A, C, B and I in order: two blocks of one dot, another block, and the notes 5.1 and 5.3.
+const ALL: &[u8] = b"OGD1\x00\x00\x00\x05\
+      \x00\x00\x00\x01\x00\x00\x00\x01\x01\x00\x02\x07\x07\x00\x00\x00\x00\x00\x05\
+      \x00\x00\x00\x00\x00\x00\x00\x01\x00\x00\x00\x02\x00\x00\x00\x03\x00\x00\x00\x01\
+      \x00\x00\x00\x01\x00\x00\x00\x01\x01\x00\x02\x07\x07\x00\x00\x00\x01\x00\x04\
+      \x00\x00\x00\x01\x00\x00\x00\x02\x00\x00\x00\x03\x00\x00\x00\x01\
+      \x00\x00\x00\x02\x00\x00\x00\x01\x01\x00\x02\x07\x07\x00\x00\x00\x05\x00\x03\
+      \x00\x00\x00\x04\x00\x00\x00\x03\x00\x00\x00\x02\
+      \x00\x00\x00\x05\x00\x00\x00\x01\x03\x01a\x00\
+      \x00\x00\x00\x05\x00\x00\x00\x03\x03\x01a\x00";
+
+// Their clock, which covers all but the last.
+const CLOCK: &[u8] = b"\x00\x00\x00\x03\x00\x00\x00\x01\
+      \x00\x00\x00\x01\x00\x00\x00\x02\x00\x00\x00\x01\x00\x00\x00\x05\x00\x00\x00\x01";
+
+// Inserts a copy of the operation where so many requests for memory are granted, and says whether it is new. After a
+// refusal the operation comes back, and there is no answer. `heap` counts the requests of `alloc`, here and below.
+fn puts_with<A: Allocator + Copy>(
+    heap: &Metered<Global>,
+    store: &mut Store<A>,
+    op: &Op<A>,
+    copy: Op<A>,
+    grants: u64,
+) -> Option<bool> {
+    heap.arm(grants);
+    let inserted = store.insert(copy);
+    heap.arm(u64::MAX);
+    match inserted {
+        Ok(added) => Some(added),
+        Err((_, back)) => if back == *op { None } else { Some(false) },
+    }
+}
+
+// Whether the operation is new to the store, after each request for memory was refused in turn and left it out. There is
+// one at least where the store was empty.
+fn puts<A: Allocator + Copy>(
+    heap: &Metered<Global>,
     alloc: A,
-    author: u32,
-    number: u32,
-    start: u32,
-    values: &[u32],
-) -> Result<Op<A>, Fail> {
-    let values = Vec::from_slice(alloc, values)?;
-    let Ok(block) = Block::new(Code::parse(b"0.77")?, start, values) else {
-        return Err("no block")?;
-    };
-    Ok(Op::new(Dot::new(author, number)?, Body::Block(block)))
+    store: &mut Store<A>,
+    op: &Op<A>,
+) -> bool {
+    for grants in 0..100u64 {
+        let Ok(copy) = op.copy(alloc) else {
+            return false;
+        };
+        if let Some(added) = puts_with(heap, store, op, copy, grants) {
+            return added && store.contains(op) && (grants > 0 || store.len() > 1);
+        }
+        if store.contains(op) {
+            return false;
+        }
+    }
+    false
 }
 
-// The block of author 1, and that of author 2 which goes on from it.
-fn first<A: Allocator + Copy>(alloc: A) -> Result<Op<A>, Fail> {
-    block(alloc, 1, 1, 0, &[0, 1, 2, 3, 1])
+// Whether the operations are new to the store, which takes them in so.
+fn takes_ops<A: Allocator + Copy>(
+    heap: &Metered<Global>,
+    alloc: A,
+    store: &mut Store<A>,
+    ops: &[Op<A>],
+) -> bool {
+    let mut all = true;
+    for op in ops {
+        all &= puts(heap, alloc, store, op);
+    }
+    all
 }
 
-fn second<A: Allocator + Copy>(alloc: A) -> Result<Op<A>, Fail> {
-    block(alloc, 2, 1, 5, &[4, 3, 2])
-}
-
-fn insert<A: Allocator + Copy>(store: &mut Store<A>, op: Op<A>) -> Result<bool, Fail> {
-    match store.insert(op) {
-        Ok(added) => Ok(added),
-        Err(_) => Err("no memory")?,
+fn takes<A: Allocator + Copy>(
+    heap: &Metered<Global>,
+    alloc: A,
+    store: &mut Store<A>,
+    delta: &[u8],
+) -> bool {
+    match decode(alloc, delta) {
+        Ok(list) => takes_ops(heap, alloc, store, list.as_slice()),
+        Err(_) => false,
     }
 }
 
-// Inserts with so many requests granted, and says whether that was enough.
-fn inserts_with(rt: &impl Abort, heap: &Metered<Global>, grants: u64) -> Result<bool, Fail> {
-    heap.arm(u64::MAX);
-    let mut store = Store::new(heap);
-    let op = first(heap)?;
-    heap.arm(grants);
-    let inserted = store.insert(op);
-    heap.arm(u64::MAX);
-    let was_enough = match inserted {
-        Ok(added) => {
-            assert!(rt; added);
-            true
-        }
-        Err((_, op)) => {
-            assert!(rt; store.is_empty());
-            assert!(rt; op == first(heap)?);
-            assert!(rt; insert(&mut store, op)?);
-            false
-        }
+// Whether the store has the first of the operations, perhaps some more of them, and no other.
+fn has_some<A: Allocator + Copy>(store: &Store<A>, ops: &[Op<A>]) -> bool {
+    let [first, ..] = ops else {
+        return false;
     };
-    assert_eq!(rt; store.len(), 1);
-    assert!(rt; store.contains(&first(heap)?));
-    assert!(rt; !insert(&mut store, first(heap)?)?);
-    Ok(was_enough)
+    let mut all = store.contains(first);
+    for op in store.iter() {
+        all &= ops.contains(op);
+    }
+    all
+}
+
+fn has_all<A: Allocator + Copy>(store: &Store<A>, ops: &[Op<A>]) -> bool {
+    store.len() == ops.len() && has_some(store, ops)
+}
+
+// An author of whom the first operation is there, and this is the last.
+fn row(author: u32, last: u32) -> Author {
+    Author {
+        author,
+        through: 1,
+        last,
+    }
+}
+
+/// A call that sums up a store.
+#[derive(Clone, Copy)]
+enum Summary {
+    Clock,
+    Authors,
+    Forks,
+}
+
+// Whether the summary of a store with all those operations is right, or nothing without memory.
+fn sums_up<A: Allocator + Copy>(
+    store: &Store<A>,
+    summary: Summary,
+    clock: &Clock<A>,
+) -> Option<bool> {
+    match summary {
+        Summary::Clock => match store.clock() {
+            Ok(read) => Some(read.entries() == clock.entries()),
+            Err(_) => None,
+        },
+        Summary::Authors => match store.authors() {
+            Ok(authors) => {
+                Some(authors.as_slice() == [row(1, 1), row(2, 1), row(5, 3)].as_slice())
+            }
+            Err(_) => None,
+        },
+        Summary::Forks => match store.forks() {
+            Ok(forks) => match forks.as_slice() {
+                [fork] => Some(
+                    fork.contents == 2 && fork.dot.author() == 1 && fork.dot.number() == 1,
+                ),
+                _ => Some(false),
+            },
+            Err(_) => None,
+        },
+    }
+}
+
+// Whether it is right after each request for memory was refused in turn.
+fn sums_up_again<A: Allocator + Copy>(
+    heap: &Metered<Global>,
+    store: &Store<A>,
+    summary: Summary,
+    clock: &Clock<A>,
+) -> bool {
+    for grants in 0..100u64 {
+        heap.arm(grants);
+        let answer = sums_up(store, summary, clock);
+        heap.arm(u64::MAX);
+        if let Some(right) = answer {
+            return right && grants > 0;
+        }
+    }
+    false
+}
+
+/// A call that copies operations of a store.
+#[derive(Clone, Copy)]
+enum Choice {
+    All,
+    Beyond,
+    OfGame,
+}
+
+fn copied<A: Allocator + Copy>(
+    store: &Store<A>,
+    choice: Choice,
+    clock: &Clock<A>,
+    game: Code,
+) -> Result<OpList<A>, AllocError> {
+    match choice {
+        Choice::All => store.list(),
+        Choice::Beyond => store.beyond(clock),
+        Choice::OfGame => store.of_game(game),
+    }
+}
+
+// Whether these operations are copied after each request for memory was refused in turn.
+fn copies_again<A: Allocator + Copy>(
+    heap: &Metered<Global>,
+    store: &Store<A>,
+    choice: Choice,
+    clock: &Clock<A>,
+    ops: &[Op<A>],
+) -> bool {
+    let Ok(game) = Code::parse(b"0.77") else {
+        return false;
+    };
+    for grants in 0..100u64 {
+        heap.arm(grants);
+        let answer = copied(store, choice, clock, game);
+        heap.arm(u64::MAX);
+        if let Ok(list) = answer {
+            return grants > 0 && list.as_slice() == ops;
+        }
+    }
+    false
+}
+
+// Whether all these calls answer so of a store with those operations: the three blocks come first, and what the clock does
+// not cover last.
+fn answers<A: Allocator + Copy>(
+    heap: &Metered<Global>,
+    store: &Store<A>,
+    ops: &[Op<A>],
+    clock: &Clock<A>,
+) -> bool {
+    let (Some(blocks), Some(last)) = (ops.get(..3), ops.get(4..)) else {
+        return false;
+    };
+    sums_up_again(heap, store, Summary::Clock, clock)
+        && sums_up_again(heap, store, Summary::Authors, clock)
+        && sums_up_again(heap, store, Summary::Forks, clock)
+        && copies_again(heap, store, Choice::All, clock, ops)
+        && copies_again(heap, store, Choice::Beyond, clock, last)
+        && copies_again(heap, store, Choice::OfGame, clock, blocks)
+}
+
+// Whether a store into which the deltas came, each twice, has these operations and answers so.
+fn shows_ops<A: Allocator + Copy>(
+    heap: &Metered<Global>,
+    alloc: A,
+    ops: &[Op<A>],
+    clock: &Clock<A>,
+) -> bool {
+    let mut store = Store::new(alloc);
+    let mut all = true;
+    for delta in &[C, I, A, B] {
+        all &= takes(heap, alloc, &mut store, delta);
+        all &= !takes(heap, alloc, &mut store, delta);
+    }
+    all && has_all(&store, ops) && answers(heap, &store, ops, clock)
+}
+
+fn shows_all<A: Allocator + Copy>(heap: &Metered<Global>, alloc: A, ops: &[Op<A>]) -> bool {
+    match decode_clock(alloc, CLOCK) {
+        Ok(clock) => shows_ops(heap, alloc, ops, &clock),
+        Err(_) => false,
+    }
+}
+
+fn shows<A: Allocator + Copy>(heap: &Metered<Global>, alloc: A) -> bool {
+    match decode(alloc, ALL) {
+        Ok(list) => shows_all(heap, alloc, list.as_slice()),
+        Err(_) => false,
+    }
 }
 
 #[test]
-fn a_refused_insertion_changes_nothing(rt: HostRuntime) -> Result<(), Fail> {
+fn stores_show_what_they_hold(rt: HostRuntime) {
     let heap = Metered::new(rt.alloc());
-    for grants in 0..64 {
-        if inserts_with(&rt, &heap, grants)? {
-            assert!(rt; grants > 0);
-            return Ok(());
-        }
-    }
-    Err("always refused")?
+    assert!(rt; shows(&heap, &heap));
 }
 
-// Joins with so many requests granted, and says whether that was enough.
-fn joins_with(rt: &impl Abort, heap: &Metered<Global>, grants: u64) -> Result<bool, Fail> {
-    heap.arm(u64::MAX);
-    let mut one = Store::new(heap);
-    insert(&mut one, first(heap)?)?;
-    let mut other = Store::new(heap);
-    insert(&mut other, second(heap)?)?;
-    insert(&mut other, block(heap, 1, 2, 2, &[2, 3])?)?;
-    heap.arm(grants);
-    let joined = one.join(&other);
-    heap.arm(u64::MAX);
-    if joined.is_err() {
-        assert!(rt; one.contains(&first(heap)?));
-        for op in one.iter() {
-            assert!(rt; *op == first(heap)? || other.contains(op));
-        }
-        one.join(&other)?;
+// Whether a store that takes in the operations has them, and no other.
+fn holds_ops<A: Allocator + Copy>(heap: &Metered<Global>, alloc: A, ops: &[Op<A>]) -> bool {
+    let mut store = Store::new(alloc);
+    takes_ops(heap, alloc, &mut store, ops) && has_all(&store, ops)
+}
+
+fn holds<A: Allocator + Copy>(heap: &Metered<Global>, alloc: A, delta: &[u8]) -> bool {
+    match decode(alloc, delta) {
+        Ok(list) => holds_ops(heap, alloc, list.as_slice()),
+        Err(_) => false,
     }
-    assert_eq!(rt; one.len(), 3);
-    assert!(rt; one.contains(&second(heap)?));
-    assert!(rt; one.contains(&block(heap, 1, 2, 2, &[2, 3])?));
-    Ok(joined.is_ok())
 }
 
 #[test]
-fn a_refused_join_leaves_a_set_between(rt: HostRuntime) -> Result<(), Fail> {
+fn refused_insertions_change_nothing(rt: HostRuntime) {
     let heap = Metered::new(rt.alloc());
-    for grants in 0..64 {
-        if joins_with(&rt, &heap, grants)? {
-            assert!(rt; grants > 0);
-            return Ok(());
+    assert!(rt; holds(&heap, &heap, &many_notes()));
+}
+
+// Whether a store with the operation of A is joined with the other, after each request for memory was refused in turn and
+// left a set between.
+fn joins_again<A: Allocator + Copy>(
+    heap: &Metered<Global>,
+    alloc: A,
+    other: &Store<A>,
+    ops: &[Op<A>],
+) -> bool {
+    for grants in 0..100u64 {
+        let mut store = Store::new(alloc);
+        if !takes(heap, alloc, &mut store, A) {
+            return false;
+        }
+        heap.arm(grants);
+        let joined = store.join(other);
+        heap.arm(u64::MAX);
+        if joined.is_ok() {
+            return grants > 0 && has_all(&store, ops);
+        }
+        if !has_some(&store, ops) {
+            return false;
         }
     }
-    Err("always refused")?
+    false
+}
+
+fn joins_all<A: Allocator + Copy>(heap: &Metered<Global>, alloc: A, ops: &[Op<A>]) -> bool {
+    let mut other = Store::new(alloc);
+    let mut all = true;
+    for delta in &[C, I, B] {
+        all &= takes(heap, alloc, &mut other, delta);
+    }
+    all && joins_again(heap, alloc, &other, ops)
+}
+
+fn joins<A: Allocator + Copy>(heap: &Metered<Global>, alloc: A) -> bool {
+    match decode(alloc, ALL) {
+        Ok(list) => joins_all(heap, alloc, list.as_slice()),
+        Err(_) => false,
+    }
+}
+
+#[test]
+fn refused_joins_leave_a_set_between(rt: HostRuntime) {
+    let heap = Metered::new(rt.alloc());
+    assert!(rt; joins(&heap, &heap));
+}
+
+fn new_reader_is_empty<A: Allocator + Copy>(alloc: A) -> bool {
+    let reader = Reader::new(alloc);
+    reader.items().is_empty()
+}
+
+fn new_store_is_empty<A: Allocator + Copy>(alloc: A) -> bool {
+    let store = Store::new(alloc);
+    store.is_empty() && store.len() == 0 && store.last(1) == 0
+}
+
+// Whether a store of two operations, of which the second is removed, answers as it should.
+fn removes<A: Allocator + Copy>(store: &mut Store<A>, block: &Op<A>, claim: &Op<A>) -> bool {
+    let before = store.contains(claim) && store.last(1) == 2 && store.len() == 2;
+    let removed = store.remove(claim) && !store.remove(claim);
+    let after = store.contains(block)
+        && !store.contains(claim)
+        && store.last(1) == 1
+        && store.len() == 1
+        && !store.is_empty();
+    before && removed && after
+}
+
+// Whether these calls make no request for memory, and answer as they should for the operations of D.
+fn makes_no_request<A: Allocator + Copy>(
+    heap: &Metered<Global>,
+    alloc: A,
+    block: &Op<A>,
+    claim: &Op<A>,
+    store: &mut Store<A>,
+) -> bool {
+    heap.arm(1_000);
+    is_refused(alloc, b"OGD9\x00\x00\x00\x00", DeltaError::Version)
+        && is_refused(alloc, &D[..60], DeltaError::Refused)
+        && op_size(block) == 46
+        && op_size(claim) == 20
+        && new_reader_is_empty(alloc)
+        && new_store_is_empty(alloc)
+        && removes(store, block, claim)
+        && heap.left() == 1_000
+}
+
+fn calls_on_d<A: Allocator + Copy>(heap: &Metered<Global>, alloc: A, ops: &[Op<A>]) -> bool {
+    let mut store = Store::new(alloc);
+    match ops {
+        [block, claim] => {
+            takes_ops(heap, alloc, &mut store, ops)
+                && makes_no_request(heap, alloc, block, claim, &mut store)
+        }
+        _ => false,
+    }
+}
+
+fn calls_without_requests<A: Allocator + Copy>(heap: &Metered<Global>, alloc: A) -> bool {
+    match decode(alloc, D) {
+        Ok(list) => calls_on_d(heap, alloc, list.as_slice()),
+        Err(_) => false,
+    }
+}
+
+#[test]
+fn some_calls_make_no_request(rt: HostRuntime) {
+    let heap = Metered::new(rt.alloc());
+    assert!(rt; calls_without_requests(&heap, &heap));
 }

@@ -10,16 +10,13 @@ use Rattle.oct_code.specs.DigitFaults.{is_head, are_octal, ends_in_zero, digits_
 use Rattle.oct_code.specs.declared.error.DigitsError.{DigitsError}
 use Rattle.oct_code.specs.declared.error.DigitsError.TheVariants.{Head, Long, Digit, Trailing}
 use Rattle.std.proofs.lemmas.List.Sums.{AllPass-from_list_all}
+use Rattle.std.proofs.lemmas.Bool.{not-false}
 use borrow.Author.Tests.{ltb-false}
 
 -- what passes a guard passed its test, and what follows
 guard_ok : {A E : Type 0} (b : Bool) (e : E) (x : Result A E) (y : A) → cond b (Err e) x ≡ Ok y → (b ≡ false) × (x ≡ Ok y)
 guard_ok true e x y h = cc
 guard_ok false e x y h = (refl, h)
-
-not_true : (b : Bool) → not b ≡ false → b ≡ true
-not_true true h = refl
-not_true false h = cc
 
 head_passes : (d : ℕ) → not (is_head d) ≡ false → (d ≡ 0) ⊎ (d ≡ 4)
 head_passes d h = grind (arith, nat_tests)
@@ -31,7 +28,7 @@ short : (n : ℕ) → nat_lt MAX_DIGITS n ≡ false → n ≤ MAX_DIGITS
 short n h = ltb-false MAX_DIGITS n h
 
 octal : (digits : List ℕ) → not (are_octal digits) ≡ false → All (λ d. d ≤ 7) digits
-octal digits h k d below = leb-true (get_or digits k d) 7 (AllPass-from_list_all (λ e. nat_le e 7) digits (not_true _ h) k d below)
+octal digits h k d below = leb-true (get_or digits k d) 7 (AllPass-from_list_all (λ e. nat_le e 7) digits (not-false _ h) k d below)
 
 pub accepted : (head : ℕ) (digits : List ℕ) → digits_fault head digits ≡ Ok tt → IsCode (record { head = head; digits = digits })
 accepted head digits ok =

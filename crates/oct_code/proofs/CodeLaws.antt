@@ -1,15 +1,15 @@
 -- Codes have no fault, and their texts are those of one code.
-use Rattle.std.proofs.Common.{arith, ◌≡◌, ◌≢◌, ◌⊎◌, ◌==◌, ℕ, suc, ◌+◌, ◌-◌, ◌≤◌, Bool, true, false, not, ◌&&◌, cond, List, [], ◌∷◌, ◌++◌, length, replicate, Result, Ok, Err, Option, Some, None, refl, sym, ap, ◌∙◌, nat_eq}
+use Rattle.std.proofs.Common.{arith, ◌≡◌, ◌≢◌, ◌⊎◌, ◌==◌, ℕ, suc, ◌+◌, ◌-◌, ◌≤◌, Bool, true, false, ◌&&◌, cond, List, [], ◌∷◌, ◌++◌, length, replicate, Result, Ok, Err, Option, Some, None, refl, sym, ap, ◌∙◌, nat_eq}
 use mathlib.Core.Logic.{inl, inr}
 use Rattle.std.specs.Prelude.{slice_get, codes}
 use Rattle.std.specs.List.{All}
 use Rattle.std.specs.Option.{option_eq}
-use Rattle.std.proofs.lemmas.Bool.{ne_eqb, le-ltb, le-leb}
+use Rattle.std.proofs.lemmas.Bool.{ne_eqb, le-ltb, le-leb, not_from_true}
 use Rattle.std.proofs.lemmas.List.Elements.{All-head, All-tail}
 use Rattle.oct_code.specs.Code.{Code, IsCode}
 use Rattle.oct_code.specs.CodeText.{IsCodeText, code_text, digit_bytes}
 use Rattle.oct_code.specs.DigitFaults.{is_head, are_octal, digits_fault}
-use Rattle.oct_code.specs.TextFaults.{trimmed, is_empty, digits_of, around_point}
+use Rattle.oct_code.specs.TextFaults.{trimmed, is_empty, digits_of, around_point, code_of_parts}
 use Rattle.oct_code.specs.Laws.{FaultlessAreCodes, WrittenIsRead, TextHasOneCode}
 use Rattle.oct_code.specs.declared.limits.TheConstants.{MAX_DIGITS}
 use Rattle.oct_code.specs.declared.error.DigitsError.{DigitsError}
@@ -23,10 +23,6 @@ pass : (b : Bool) (e : DigitsError) (x : Result (Unit {0}) DigitsError) → b �
 pass true e x h k = cc
 pass false e x h k = k
 
-not_true : (b : Bool) → b ≡ true → not b ≡ false
-not_true true h = refl
-not_true false h = cc
-
 head_is : (d : ℕ) → (d ≡ 0) ⊎ (d ≡ 4) → is_head d ≡ true
 head_is d (inl e) = ap is_head e
 head_is d (inr e) = ap is_head e
@@ -36,14 +32,14 @@ octal_is [] all = refl
 octal_is (d ∷ digits) all =
     ap (λ b. b && are_octal digits) (le-leb d 7 (All-head (λ d. d ≤ 7) d digits all)) ∙ octal_is digits (All-tail (λ d. d ≤ 7) d digits all)
 
-last_is : (o : Option ℕ) → o ≢ Some 0 → option_eq nat_eq o (Some 0) ≡ false
+pub last_is : (o : Option ℕ) → o ≢ Some 0 → option_eq nat_eq o (Some 0) ≡ false
 last_is None h = refl
 last_is (Some d) h = ne_eqb d 0 (λ e. h (ap Some e))
 
 faultless : (c : Code) → IsCode c → digits_fault c.head c.digits ≡ Ok tt
 faultless c valid =
-    pass _ Head _ (not_true _ (head_is c.head valid.head)) (pass _ Long _ (le-ltb MAX_DIGITS (length c.digits) valid.len)
-    (pass _ Digit _ (not_true _ (octal_is c.digits valid.octal)) (pass _ Trailing _ (last_is _ valid.last) refl)))
+    pass _ Head _ (not_from_true _ (head_is c.head valid.head)) (pass _ Long _ (le-ltb MAX_DIGITS (length c.digits) valid.len)
+    (pass _ Digit _ (not_from_true _ (octal_is c.digits valid.octal)) (pass _ Trailing _ (last_is _ valid.last) refl)))
 
 pub faultless_are_codes : FaultlessAreCodes
 faultless_are_codes c = (accepted c.head c.digits, faultless c)
@@ -100,20 +96,16 @@ digits_again [] = refl
 digits_again (d ∷ digits) = let same : 48 + d - 48 ≡ d = omega arith in λ i. same i ∷ digits_again digits i
 
 -- the code that a text's parts spell
-abbrev read_parts : Option (ℕ × List ℕ) → Code
-read_parts None = record { head = 0; digits = [] }
-read_parts (Some found) = record { head = found.0 - 48; digits = digits_of (trimmed found.1) }
-
-read-is : (text : List ℕ) (c : Code) → IsCodeText text c → read_parts (around_point text) ≡ c
+pub read-is : (text : List ℕ) (c : Code) → IsCodeText text c → code_of_parts (around_point text) ≡ c
 read-is text c s =
     let bytes : List ℕ = digit_bytes (c.digits ++ replicate s.zeros 0) in
     let digits : digits_of (trimmed bytes) ≡ c.digits = ap digits_of (trimmed-spelled c.digits s.zeros ∙ trimmed-digits c.digits s.valid.last) ∙ digits_again c.digits in
     let code : (head : ℕ) → head ≡ c.head → ◌≡◌ {A = Code} (record { head = head; digits = digits_of (trimmed bytes) }) c = λ head is. λ i. record { head = is i; digits = digits i } in
-    ap (λ t. read_parts (around_point t)) s.spelled ∙ elim s.head [
-      | inl w ↦ ap (λ b. read_parts (around_point (b ++ codes "." ++ bytes))) w.0 ∙ code 0 (sym w.1)
-      | inr w ↦ ap (λ b. read_parts (around_point (b ++ codes "." ++ bytes))) w ∙ elim s.valid.head [
-        | inl z ↦ ap (λ h. read_parts (around_point (digit_bytes (h ∷ []) ++ codes "." ++ bytes))) z ∙ code 0 (sym z)
-        | inr z ↦ ap (λ h. read_parts (around_point (digit_bytes (h ∷ []) ++ codes "." ++ bytes))) z ∙ code 4 (sym z)
+    ap (λ t. code_of_parts (around_point t)) s.spelled ∙ elim s.head [
+      | inl w ↦ ap (λ b. code_of_parts (around_point (b ++ codes "." ++ bytes))) w.0 ∙ code 0 (sym w.1)
+      | inr w ↦ ap (λ b. code_of_parts (around_point (b ++ codes "." ++ bytes))) w ∙ elim s.valid.head [
+        | inl z ↦ ap (λ h. code_of_parts (around_point (digit_bytes (h ∷ []) ++ codes "." ++ bytes))) z ∙ code 0 (sym z)
+        | inr z ↦ ap (λ h. code_of_parts (around_point (digit_bytes (h ∷ []) ++ codes "." ++ bytes))) z ∙ code 4 (sym z)
       ]
     ]
 

@@ -1,5 +1,5 @@
 pub mod Accepted
-mod CodeLaws
+pub mod CodeLaws
 mod Parsed
 mod Spelled
 mod Written

@@ -6,14 +6,17 @@ use Rattle.std.proofs.lemmas.List.Elements.{All-head, All-tail, All-cons}
 use Rattle.std.proofs.lemmas.List.{length-replicate, append-nil}
 use Rattle.std.proofs.Common.{length-append, append_assoc}
 use Rattle.std.specs.List.{All}
-use Rattle.std.proofs.lemmas.Bool.{ne_eqb, eqb-true, ltb-false, both_ways, le-ltb, le-leb}
+use Rattle.std.proofs.lemmas.Bool.{ne_eqb, eqb-true, ltb-false, both_ways, le-ltb, le-leb, and_from, not-false, not_from_true}
 use Rattle.std.proofs.lemmas.Bool.Decides.{nat_tests}
+use Rattle.std.proofs.Math.Bool.{and-false}
+use Rattle.std.specs.Cmp.{first_so, second_so}
 use Rattle.oct_code.specs.Code.{Code, IsCode}
 use Rattle.oct_code.specs.CodeText.{IsCodeText, digit_bytes}
 use Rattle.oct_code.specs.TextFaults.{parts, text_fault, trimmed, is_empty, digits_of, around_point, after_head, parts_fault, is_head_byte, is_digit_byte, are_digit_bytes}
 use Rattle.oct_code.specs.declared.error.CodeError.{CodeError}
 use Rattle.oct_code.specs.declared.error.CodeError.TheVariants.{Form, Head, Digit, Long}
 use Rattle.oct_code.specs.declared.limits.TheConstants.{MAX_DIGITS}
+use Rattle.oct_code.proofs.Written.{length-bytes}
 
 -- ---- the bytes without the zeros at their end
 
@@ -25,16 +28,12 @@ not_empty : (bytes : List ℕ) (b : ℕ) → is_empty (bytes ++ b ∷ []) ≡ fa
 not_empty [] b = refl
 not_empty (c ∷ bytes) b = refl
 
-and_false : (a : Bool) → (a && false) ≡ false
-and_false true = refl
-and_false false = refl
-
 trimmed-push : (bytes : List ℕ) (b : ℕ) → (b ≡ 48 → ⊥) → trimmed (bytes ++ b ∷ []) ≡ bytes ++ b ∷ []
 trimmed-push [] b other = ap (λ t. cond (t && true) [] (b ∷ [])) (ne_eqb b 48 other)
 trimmed-push (c ∷ bytes) b other =
     ap (λ rest. cond ((c == 48) && is_empty rest) [] (c ∷ rest)) (trimmed-push bytes b other)
     ∙ ap (λ t. cond ((c == 48) && t) [] (c ∷ bytes ++ b ∷ [])) (not_empty bytes b)
-    ∙ ap (λ t. cond t [] (c ∷ bytes ++ b ∷ [])) (and_false (c == 48))
+    ∙ ap (λ t. cond t [] (c ∷ bytes ++ b ∷ [])) (and-false (c == 48))
 
 pub trimmed-kept : (digits front : List ℕ) (last : ℕ) → digits ≡ front ++ last ∷ [] → (last ≡ 48 → ⊥) → trimmed digits ≡ digits
 trimmed-kept digits front last is other = ap trimmed is ∙ trimmed-push front last other ∙ sym is
@@ -46,18 +45,10 @@ empty_is : (bytes : List ℕ) → is_empty bytes ≡ true → bytes ≡ []
 empty_is [] h = refl
 empty_is (b ∷ bytes) h = cc
 
-and_left : (a b : Bool) → (a && b) ≡ true → a ≡ true
-and_left true b h = refl
-and_left false b h = cc
-
-and_right : (a b : Bool) → (a && b) ≡ true → b ≡ true
-and_right true b h = h
-and_right false b h = cc
-
 splits_by : (b : ℕ) (bytes : List ℕ) (t : Bool) → ((b == 48) && is_empty (trimmed bytes)) ≡ t → (n : ℕ) → bytes ≡ trimmed bytes ++ replicate n 48 → (m : ℕ) × (b ∷ bytes ≡ cond t [] (b ∷ trimmed bytes) ++ replicate m 48)
 splits_by b bytes true h n e =
-    let zero : b ≡ 48 = eqb-true b 48 (and_left _ _ h) in
-    let rest : bytes ≡ replicate n 48 = e ∙ ap (λ l. l ++ replicate n 48) (empty_is _ (and_right (b == 48) _ h)) in
+    let zero : b ≡ 48 = eqb-true b 48 (first_so _ _ h) in
+    let rest : bytes ≡ replicate n 48 = e ∙ ap (λ l. l ++ replicate n 48) (empty_is _ (second_so (b == 48) _ h)) in
     (suc n, λ i. zero i ∷ rest i)
 splits_by b bytes false h n e = (n, ap (λ l. b ∷ l) e)
 
@@ -103,20 +94,20 @@ last_digit (b ∷ c ∷ bytes) all h =
 
 least_byte : (bytes : List ℕ) → are_digit_bytes bytes ≡ true → All (λ b. 48 ≤ b) bytes
 least_byte [] h = λ k d lt. absurd (omega (arith, lt))
-least_byte (b ∷ bytes) h = All-cons (λ b. 48 ≤ b) b bytes (leb-true 48 b (and_left _ _ (and_left _ _ h))) (least_byte bytes (and_right (is_digit_byte b) _ h))
+least_byte (b ∷ bytes) h = All-cons (λ b. 48 ≤ b) b bytes (leb-true 48 b (first_so _ _ (first_so _ _ h))) (least_byte bytes (second_so (is_digit_byte b) _ h))
 
 octal_digits : (bytes : List ℕ) → are_digit_bytes bytes ≡ true → All (λ d. d ≤ 7) (digits_of bytes)
 octal_digits [] h = λ k d lt. absurd (omega (arith, lt))
 octal_digits (b ∷ bytes) h =
-    let most = leb-true b 55 (and_right (nat_le 48 b) _ (and_left _ _ h)) in
-    All-cons (λ d. d ≤ 7) (b - 48) (digits_of bytes) (omega (arith, most)) (octal_digits bytes (and_right (is_digit_byte b) _ h))
+    let most = leb-true b 55 (second_so (nat_le 48 b) _ (first_so _ _ h)) in
+    All-cons (λ d. d ≤ 7) (b - 48) (digits_of bytes) (omega (arith, most)) (octal_digits bytes (second_so (is_digit_byte b) _ h))
 
 bytes_again : (bytes : List ℕ) → are_digit_bytes bytes ≡ true → digit_bytes (digits_of bytes) ≡ bytes
 bytes_again [] h = refl
 bytes_again (b ∷ bytes) h =
-    let least = leb-true 48 b (and_left _ _ (and_left _ _ h)) in
+    let least = leb-true 48 b (first_so _ _ (first_so _ _ h)) in
     let same : 48 + (b - 48) ≡ b = omega (arith, least) in
-    λ i. same i ∷ bytes_again bytes (and_right (is_digit_byte b) _ h) i
+    λ i. same i ∷ bytes_again bytes (second_so (is_digit_byte b) _ h) i
 
 octal_by : (b : ℕ) (rest : List ℕ) (t : Bool) → is_digit_byte b ≡ true → are_digit_bytes rest ≡ true → are_digit_bytes (cond t [] (b ∷ rest)) ≡ true
 octal_by b rest true h k = refl
@@ -124,7 +115,7 @@ octal_by b rest false h k = ap (λ x. x && are_digit_bytes rest) h ∙ k
 
 pub trimmed-octal : (bytes : List ℕ) → are_digit_bytes bytes ≡ true → are_digit_bytes (trimmed bytes) ≡ true
 trimmed-octal [] h = refl
-trimmed-octal (b ∷ bytes) h = octal_by b (trimmed bytes) ((b == 48) && is_empty (trimmed bytes)) (and_left _ _ h) (trimmed-octal bytes (and_right (is_digit_byte b) _ h))
+trimmed-octal (b ∷ bytes) h = octal_by b (trimmed bytes) ((b == 48) && is_empty (trimmed bytes)) (first_so _ _ h) (trimmed-octal bytes (second_so (is_digit_byte b) _ h))
 
 zero_bytes : (n : ℕ) → digit_bytes (replicate n 0) ≡ replicate n 48
 zero_bytes zero = refl
@@ -156,10 +147,6 @@ guard_none : (b : Bool) (e : CodeError) (x : Option CodeError) → cond b (Some 
 guard_none true e x h = cc
 guard_none false e x h = (refl, h)
 
-not_false : (b : Bool) → not b ≡ false → b ≡ true
-not_false true h = refl
-not_false false h = cc
-
 pub fine : (head : ℕ) (bytes : List ℕ) → parts_fault head bytes ≡ None → Fine head bytes
 fine head bytes ok =
     let last : Option CodeError = cond (nat_lt MAX_DIGITS (length (trimmed bytes))) (Some Long) None in
@@ -169,7 +156,7 @@ fine head bytes ok =
     let second = guard_none (not (is_head_byte head)) Head octals first.1 in
     let third = guard_none (not (are_digit_bytes bytes)) Digit last second.1 in
     let fourth = guard_none (nat_lt MAX_DIGITS (length (trimmed bytes))) Long None third.1 in
-    record { some = first.0; of_head = not_false _ second.0; octal = not_false _ third.0; short = ltb-false MAX_DIGITS (length (trimmed bytes)) fourth.0 }
+    record { some = first.0; of_head = not-false _ second.0; octal = not-false _ third.0; short = ltb-false MAX_DIGITS (length (trimmed bytes)) fourth.0 }
 
 head_digit : (head : ℕ) → is_head_byte head ≡ true → (head - 48 ≡ 0) ⊎ (head - 48 ≡ 4)
 head_digit head h = grind (arith, nat_tests)
@@ -245,28 +232,20 @@ pass : (b : Bool) (e : CodeError) (x : Option CodeError) → b ≡ false → x �
 pass true e x h k = cc
 pass false e x h k = k
 
-not_true : (b : Bool) → b ≡ true → not b ≡ false
-not_true true h = refl
-not_true false h = cc
-
 parts_none : (head : ℕ) (bytes : List ℕ) → Fine head bytes → parts_fault head bytes ≡ None
 parts_none head bytes f =
-    pass _ Form _ f.some (pass _ Head _ (not_true _ f.of_head) (pass _ Digit _ (not_true _ f.octal) (pass _ Long _ (le-ltb MAX_DIGITS (length (trimmed bytes)) f.short) refl)))
+    pass _ Form _ f.some (pass _ Head _ (not_from_true _ f.of_head) (pass _ Digit _ (not_from_true _ f.octal) (pass _ Long _ (le-ltb MAX_DIGITS (length (trimmed bytes)) f.short) refl)))
 
 filled_in : (l : List ℕ) → 0 < length l → is_empty l ≡ false
 filled_in [] h = absurd (omega (arith, h))
 filled_in (b ∷ l) h = refl
-
-both : (a b : Bool) → a ≡ true → b ≡ true → (a && b) ≡ true
-both true b h k = k
-both false b h k = cc
 
 octal_spelled : (digits : List ℕ) (n : ℕ) → All (λ d. d ≤ 7) digits → are_digit_bytes (digit_bytes (digits ++ replicate n 0)) ≡ true
 octal_spelled [] zero all = refl
 octal_spelled [] (suc n) all = octal_spelled [] n all
 octal_spelled (d ∷ digits) n all =
     let one : d ≤ 7 = All-head (λ d. d ≤ 7) d digits all in
-    both _ _ (both _ _ (le-leb 48 (48 + d) (omega arith)) (le-leb (48 + d) 55 (omega (arith, one)))) (octal_spelled digits n (All-tail (λ d. d ≤ 7) d digits all))
+    and_from _ _ (and_from _ _ (le-leb 48 (48 + d) (omega arith)) (le-leb (48 + d) 55 (omega (arith, one)))) (octal_spelled digits n (All-tail (λ d. d ≤ 7) d digits all))
 
 no_longer_by : (b : ℕ) (rest : List ℕ) (t : Bool) (n : ℕ) → length rest ≤ n → length (cond t [] (b ∷ rest)) ≤ suc n
 no_longer_by b rest true n h = omega arith
@@ -280,22 +259,18 @@ trimmed-zeros : (n : ℕ) (bytes : List ℕ) → trimmed (bytes ++ replicate n 4
 trimmed-zeros zero bytes = ap trimmed (append-nil bytes)
 trimmed-zeros (suc n) bytes = ap trimmed (sym (append_assoc bytes (48 ∷ []) (replicate n 48))) ∙ trimmed-zeros n (bytes ++ 48 ∷ []) ∙ trimmed-zero bytes
 
-length_spelled : (digits : List ℕ) → length (digit_bytes digits) ≡ length digits
-length_spelled [] = refl
-length_spelled (d ∷ digits) = ap suc (length_spelled digits)
-
 pub trimmed-spelled : (digits : List ℕ) (n : ℕ) → trimmed (digit_bytes (digits ++ replicate n 0)) ≡ trimmed (digit_bytes digits)
 trimmed-spelled digits n = ap trimmed (map_both digits (replicate n 0) ∙ ap (λ l. digit_bytes digits ++ l) (zero_bytes n)) ∙ trimmed-zeros n (digit_bytes digits)
 
 fine_spelled : (c : Code) (n head : ℕ) → IsCode c → 0 < length c.digits + n → is_head_byte head ≡ true → Fine head (digit_bytes (c.digits ++ replicate n 0))
 fine_spelled c n head valid some of_head =
-    let size : length (digit_bytes (c.digits ++ replicate n 0)) ≡ length c.digits + n = length_spelled _ ∙ length-append c.digits (replicate n 0) ∙ ap (λ k. length c.digits + k) (length-replicate n 0) in
+    let size : length (digit_bytes (c.digits ++ replicate n 0)) ≡ length c.digits + n = length-bytes _ ∙ length-append c.digits (replicate n 0) ∙ ap (λ k. length c.digits + k) (length-replicate n 0) in
     let cut_length : length (trimmed (digit_bytes (c.digits ++ replicate n 0))) ≡ length (trimmed (digit_bytes c.digits)) = ap length (trimmed-spelled c.digits n) in
     record {
       some = filled_in _ (omega (arith, size, some));
       of_head = of_head;
       octal = octal_spelled c.digits n valid.octal;
-      short = omega (arith, cut_length, no_longer (digit_bytes c.digits), length_spelled c.digits, valid.len);
+      short = omega (arith, cut_length, no_longer (digit_bytes c.digits), length-bytes c.digits, valid.len);
     }
 
 pub no_fault : (text : List ℕ) (c : Code) → IsCodeText text c → text_fault text ≡ None

@@ -14,7 +14,7 @@ byte_at [] i lt = absurd (omega (arith, lt))
 byte_at (d ∷ digits) zero lt = refl
 byte_at (d ∷ digits) (suc i) lt = byte_at digits i (omega (arith, lt))
 
-length-bytes : (digits : List ℕ) → length (digit_bytes digits) ≡ length digits
+pub length-bytes : (digits : List ℕ) → length (digit_bytes digits) ≡ length digits
 length-bytes [] = refl
 length-bytes (d ∷ digits) = ap suc (length-bytes digits)
 

@@ -4,4 +4,5 @@ pub mod CodeText
 pub mod DigitFaults
 pub mod Fields
 pub mod Laws
+pub mod Tests
 pub mod TextFaults

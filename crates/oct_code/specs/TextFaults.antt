@@ -5,6 +5,7 @@ use Rattle.std.specs.List.{list_all}
 use Rattle.oct_code.specs.declared.error.CodeError.{CodeError}
 use Rattle.oct_code.specs.declared.error.CodeError.TheVariants.{Form, Head, Digit, Long}
 use Rattle.oct_code.specs.declared.limits.TheConstants.{MAX_DIGITS}
+use Rattle.oct_code.specs.Code.{Code}
 
 abbrev pub is_empty : List ℕ → Bool
 is_empty [] = true
@@ -56,6 +57,11 @@ text_fault text = fault_of_parts (around_point text)
 -- what the digits' bytes spell
 abbrev pub digits_of : List ℕ → List ℕ
 digits_of bytes = map (λ b. b - 48) bytes
+
+-- the code of a head's byte, and of the bytes after the point, whose zeros at the end are dropped
+abbrev pub code_of_parts : Option (ℕ × List ℕ) → Code
+code_of_parts None = record { head = 0; digits = [] }
+code_of_parts (Some p) = record { head = p.0 - 48; digits = digits_of (trimmed p.1) }
 
 -- the parts that a function lends, as values
 abbrev pub parts_now : Option (ℕ × Bor (List ℕ)) → Option (ℕ × List ℕ)

@@ -180,6 +180,3 @@ impl PartialOrd for Code {
         Some(self.cmp(other))
     }
 }
-
-#[cfg(test)]
-mod tests;

@@ -2,7 +2,7 @@
 use Rattle.std.proofs.Common.{◌≡◌, ℕ, zero, suc, ◌+◌, ◌*◌, ◌<◌, ◌≤◌, Bool, true, false, cond, ltb, eqb, leb, ◌&&◌, List, [], ◌∷◌, length, take, drop, Option, Some, None, Ok, Err, refl, subst, arith, leb-true}
 use Rattle.std.specs.Int.{Width, w16, w32, byte_len, from_be_bytes}
 use Rattle.std.specs.Prelude.{is_ok}
-use Rattle.std.proofs.lemmas.Bool.{ltb-true}
+use Rattle.std.proofs.lemmas.Bool.{ltb-true, and_parts}
 use Rattle.std.proofs.lemmas.List.{length-drop}
 use Rattle.std.specs.declared.cmp.Ordering.{Ordering}
 use Rattle.oct_code.specs.DigitFaults.{digits_fault}
@@ -18,7 +18,6 @@ use Rattle.oct_delta.specs.declared.encoding.TheConstants.{MAX_OP_SIZE}
 use Rattle.oct_delta.specs.Bytes.{IsBytes}
 use Rattle.oct_delta.specs.Reading.{◌>>=◌, Read, checked, byte_at, number_at, bytes_at, chain_at, follows, next_at, code_at, dot_at, is_count, is_span, front_at, block_at, is_claim, period_at, note_at, dot_count_at, dots_at, removal_at, body_at, op_at}
 use Rattle.oct_delta.proofs.Codecs.{IsBytes-drop, IsBytes-rest, bind_ok, ok_is, checked_ok, short_ok, as_part, done, failed}
-use Rattle.oct_delta.proofs.Ranges.{both_true}
 
 -- A reader that is short has fewer than n bytes, and takes at most n; what it reads is so.
 record Bounded {A : Type 0} (at : List ℕ → Read A) (n : ℕ) (P : A → Type 0) : Type 0 where
@@ -146,7 +145,7 @@ front_at_bounded limit =
     then_bounded (λ code bytes. number_at w32 bytes >>= λ start. number_at w16 start.1 >>= λ count. checked (is_span limit start.0 count.0) (made code start.0 count.0) count.1) 6 code_bounded
     (λ code _. then_bounded (λ start bytes. number_at w16 bytes >>= λ count. checked (is_span limit start count.0) (made code start count.0) count.1) 2 (number_bounded w32)
     (λ start _. then_bounded (λ count bytes. checked (is_span limit start count) (made code start count) bytes) 0 (number_bounded w16)
-    (λ count _. checked_bounded (is_span limit start count) (made code start count) (λ h. leb-true _ _ (both_true (leb 1 count) (leb count 1024) (both_true (is_count count) (leb (start + count) limit) h).0).1))))
+    (λ count _. checked_bounded (is_span limit start count) (made code start count) (λ h. leb-true _ _ (and_parts (leb 1 count) (leb count 1024) (and_parts (is_count count) (leb (start + count) limit) h).0).1))))
 
 block_bounded : (limit : ℕ) → Bounded (block_at limit) 4359 Any
 unfolding block_at
@@ -178,7 +177,7 @@ dot_count_bounded : Bounded dot_count_at 2 (λ n. n ≤ 1024)
 unfolding dot_count_at
 dot_count_bounded =
     then_bounded (λ n bytes. checked (is_count n) n bytes) 0 (number_bounded w16)
-    (λ n _. checked_bounded (is_count n) n (λ h. leb-true _ _ (both_true (leb 1 n) (leb n 1024) h).1))
+    (λ n _. checked_bounded (is_count n) n (λ h. leb-true _ _ (and_parts (leb 1 n) (leb n 1024) h).1))
 
 removal_bounded : Bounded removal_at 8194 Any
 unfolding removal_at

@@ -1,6 +1,5 @@
 -- Clocks are read as they are written.
-use Rattle.std.proofs.Common.{◌≡◌, ◌↔◌, ℕ, ◌+◌, ◌^◌, ◌<◌, ◌≤◌, max, Bool, true, false, cond, ◌&&◌, ◌==◌, eqb, leb, List, [], ◌∷◌, ◌++◌, length, Option, Some, None, Result, Ok, Err, refl, sym, ap, subst, ◌∙◌, arith, leb-true, le-leb}
-use lib.Dec.{T}
+use Rattle.std.proofs.Common.{◌≡◌, ◌↔◌, ℕ, ◌+◌, ◌^◌, ◌<◌, ◌≤◌, max, true, false, cond, ◌&&◌, ◌==◌, eqb, leb, List, [], ◌∷◌, ◌++◌, length, Option, Some, None, Result, Ok, Err, refl, sym, ap, subst, ◌∙◌, arith, leb-true, le-leb}
 use Rattle.std.specs.Int.{w32}
 use Rattle.std.specs.List.{list_all, flat_map, AllByRecursion}
 use Rattle.std.specs.Prelude.{IfOk, IfErr, unwrap_or}
@@ -8,7 +7,7 @@ use Rattle.std.specs.Option.{option_map}
 use Rattle.std.specs.declared.cmp.Ordering.{Ordering}
 use Rattle.std.specs.declared.cmp.Ordering.TheVariants.{Equal, Greater}
 use Rattle.std.specs.Ordering.{nat_cmp, ordering_then, is_lt, is_eq}
-use Rattle.std.specs.Cmp.{IsTotalOrder, nat_cmp_total, on_total}
+use Rattle.std.specs.Cmp.{IsTotalOrder, nat_cmp_total, on_total, first_so, second_so}
 use Rattle.std.specs.Cmp.Lexicographic.{slice_cmp}
 use Rattle.std.specs.FinMap as map
 use Rattle.std.specs.FinMap.{nat_cmp-IsAntisymmetric}
@@ -17,10 +16,13 @@ use Rattle.std.proofs.lemmas.Cmp.{ranked, by_ranked}
 use Rattle.std.proofs.lemmas.List.{append-nil, nil_from_length}
 use Rattle.std.proofs.lemmas.List.Elements.{All-from_recursion, recursion_from_All}
 use Rattle.std.proofs.lemmas.Bool.Decides.{nat_tests}
+use Rattle.std.proofs.lemmas.Bool.{and_from, and_parts}
+use Rattle.std.proofs.lemmas.Float.{T_from_true}
+use Rattle.oct_code.specs.Tests.{true_from_T}
 use Rattle.oct_join.specs.Clock.{Clock, IsEntry, IsClock, entries, through, raised}
 use Rattle.oct_join.specs.Entries.{Entries, AreOfClock}
 use Rattle.oct_ops.specs.Sets.{rises}
-use Rattle.oct_ops.specs.SetLaws.{and_first, and_second}
+use Rattle.oct_ops.specs.OrderLaws.{then_equal}
 use Rattle.oct_delta.specs.declared.fault.Fault.{Fault}
 use Rattle.oct_delta.specs.declared.fault.ReadError.{ReadError}
 use Rattle.oct_delta.specs.declared.fault.ReadError.TheVariants.{Memory, Fault as Unread}
@@ -29,9 +31,8 @@ use Rattle.oct_delta.specs.Text.{Bytes, u32}
 use Rattle.oct_delta.specs.Reading.{◌>>=◌, Read, GivesIfRoom, checked, follows, skipped, with_front, number_at, next_at, chain_at}
 use Rattle.oct_delta.specs.Decoding.{all_of}
 use Rattle.oct_delta.specs.Clocks.{entry_bytes, entries_bytes, IsClockText, author_cmp, entry_at, entries_at, read_clock}
-use Rattle.oct_delta.proofs.Codecs.{Codec, Chained, number_codec, wide32, then_codec, checked_codec, same_codec, then_equal, bind_ok, ok_is, done}
+use Rattle.oct_delta.proofs.Codecs.{Codec, Chained, number_codec, wide32, then_codec, checked_codec, same_codec, bind_ok, ok_is, done, skipped_ok}
 use Rattle.oct_delta.proofs.Chains.{IsNext, items_codec, each_from_chain, rises_from_chain, chain_from_rising}
-use Rattle.oct_delta.proofs.Ranges.{both_true, and_true}
 use Rattle.oct_delta.proofs.Deltas.{all_is}
 
 abbrev entry_cmp : ℕ × ℕ → ℕ × ℕ → Ordering
@@ -39,7 +40,7 @@ entry_cmp a b = ordering_then (nat_cmp a.0 b.0) (nat_cmp a.1 b.1)
 
 entry_from_test : (e : ℕ × ℕ) → e.0 < 2 ^ 32 → e.1 < 2 ^ 32 → (leb 1 e.0 && leb 1 e.1) ≡ true → IsEntry e
 entry_from_test e a n h =
-    let both = both_true (leb 1 e.0) (leb 1 e.1) h in
+    let both = and_parts (leb 1 e.0) (leb 1 e.1) h in
     record { author = (leb-true _ _ both.0, a); number = (leb-true _ _ both.1, n) }
 
 entry_codec : Codec entry_at entry_bytes entry_cmp IsEntry
@@ -55,7 +56,7 @@ entry_codec =
     (λ e. ap (λ (z : Bytes). u32 e.0 ++ z) (append-nil (u32 e.1)))
     (λ a b. ap (ordering_then (nat_cmp a.0 b.0)) (then_equal (nat_cmp a.1 b.1)))
     (λ e g. entry_from_test e g.0 g.1.0 g.1.1.1)
-    (λ e h. (h.author.1, (h.number.1, (refl, and_true _ _ (le-leb _ _ h.author.0) (le-leb _ _ h.number.0)))))
+    (λ e h. (h.author.1, (h.number.1, (refl, and_from _ _ (le-leb _ _ h.author.0) (le-leb _ _ h.number.0)))))
 
 abbrev IsNextEntry : Option (ℕ × ℕ) → ℕ × ℕ → Type 0
 IsNextEntry = IsNext author_cmp IsEntry
@@ -72,16 +73,8 @@ sorted_is : (es : Entries) → is_sorted nat_cmp es ≡ rises author_cmp es
 sorted_is [] = refl
 sorted_is (e ∷ es) = ap (λ b. list_all (λ f. is_lt (nat_cmp e.0 f.0)) es && b) (sorted_is es)
 
-from_T : (b : Bool) → T b → b ≡ true
-from_T true h = refl
-from_T false h = absurd h
-
-to_T : (b : Bool) → b ≡ true → T b
-to_T true h = tt
-to_T false h = cc
-
 pub entries_rise : (t : Clock) → rises author_cmp (entries t) ≡ true
-entries_rise t = sym (sorted_is (entries t)) ∙ from_T _ (map.entries_sorted t)
+entries_rise t = sym (sorted_is (entries t)) ∙ true_from_T _ (map.entries_sorted t)
 
 is_less : (x y : ℕ) → is_lt (nat_cmp x y) ≡ true → x < y
 is_less x y h = by_ranked _ _ _ (nat_cmp x y) (ranked x y (nat_cmp x y) refl) (λ _ lt. lt) (λ e _. absurd (not_less Equal (sym (ap is_lt e) ∙ h) refl)) (λ e _. absurd (not_less Greater (sym (ap is_lt e) ∙ h) refl))
@@ -93,13 +86,13 @@ is_less x y h = by_ranked _ _ _ (nat_cmp x y) (ranked x y (nat_cmp x y) refl) (�
 few_above : (bound : ℕ) (es : Entries) → bound < 2 ^ 32 → AllByRecursion IsEntry es → AllByRecursion (λ e. bound < e.0) es → rises author_cmp es ≡ true → length es + bound < 2 ^ 32
 few_above bound [] low valid above r = omega (arith, low)
 few_above bound (e ∷ es) low valid above r =
-    let rest = few_above e.0 es valid.0.author.1 valid.1 (each_above es (and_first _ _ r)) (and_second (list_all (λ f. is_lt (nat_cmp e.0 f.0)) es) _ r) in
+    let rest = few_above e.0 es valid.0.author.1 valid.1 (each_above es (first_so _ _ r)) (second_so (list_all (λ f. is_lt (nat_cmp e.0 f.0)) es) _ r) in
     let first : bound < e.0 = above.0 in
     omega (arith, rest, first)
   where
     each_above : (fs : Entries) → list_all (λ f. is_lt (nat_cmp e.0 f.0)) fs ≡ true → AllByRecursion (λ f. e.0 < f.0) fs
     each_above [] h = tt
-    each_above (f ∷ fs) h = (is_less e.0 f.0 (and_first _ _ h), each_above fs (and_second (is_lt (nat_cmp e.0 f.0)) _ h))
+    each_above (f ∷ fs) h = (is_less e.0 f.0 (first_so _ _ h), each_above fs (second_so (is_lt (nat_cmp e.0 f.0)) _ h))
 
 positive : (es : Entries) → AllByRecursion IsEntry es → AllByRecursion (λ e. 0 < e.0) es
 positive [] h = tt
@@ -109,7 +102,7 @@ positive (e ∷ es) h = (h.0.author.0, positive es h.1)
 pub few_of_clock : (es : Entries) → AreOfClock es → length es < 2 ^ 32
 few_of_clock es of_clock =
     let each = recursion_from_All IsEntry es of_clock.valid in
-    let rise : rises author_cmp es ≡ true = sym (sorted_is es) ∙ from_T _ of_clock.sorted in
+    let rise : rises author_cmp es ≡ true = sym (sorted_is es) ∙ true_from_T _ of_clock.sorted in
     omega (arith, few_above 0 es (omega arith) each (positive es each) rise)
 
 few_entries : (t : Clock) → IsClock t → length (entries t) < 2 ^ 32
@@ -152,7 +145,7 @@ from_its_entries : (t : Clock) → map.from_entries (entries t) ≡ t
 from_its_entries t = map.same_map nat_cmp_total nat_cmp-IsAntisymmetric _ _ (λ q. map.get-from_entries nat_cmp_total (entries t) q ∙ sym (map.get-entries t q))
 
 sorted_entries : (bytes : Bytes) (es : Entries) → AreRead bytes es → entries (map.from_sorted es) ≡ es
-sorted_entries bytes es is = map.entries-from_sorted nat_cmp es (to_T _ (sorted_is es ∙ is.rise))
+sorted_entries bytes es is = map.entries-from_sorted nat_cmp es (T_from_true _ (sorted_is es ∙ is.rise))
 
 -- bytes that are read to the end are a clock's text
 pub some_clock : (bytes : Bytes) (es : Entries) → IsBytes bytes → entries_at bytes ≡ Ok (es, []) → (t : Clock) × IsClockText bytes t × (entries t ≡ es)
@@ -178,10 +171,6 @@ reads_clock bytes t fits = (λ h. by (all_of (entries_at bytes)) refl h, λ is. 
         subst (IsClockText bytes) same found.1
 
 -- ---- the check, and the building
-
-skipped_ok : {A : Type 0} (r : Read A) (rest : Bytes) → skipped r ≡ Ok rest → (x : A) × (r ≡ Ok (x, rest))
-skipped_ok {A} (Ok x) rest e = let same : x.1 ≡ rest = cc in (x.0, ap (λ (z : Bytes). let y : A × Bytes = (x.0, z) in Ok y) same)
-skipped_ok (Err f) rest e = absurd cc
 
 pub checked_entries : (bytes rest : Bytes) (n : ℕ) → number_at w32 bytes ≡ Ok (n, rest) → skipped (chain_at (next_at author_cmp entry_at) None n rest) ≡ Ok [] → (es : Entries) × (entries_at bytes ≡ Ok (es, []))
 checked_entries bytes rest n count read =

@@ -6,10 +6,12 @@ use Rattle.std.specs.Prelude.{slice_index}
 use Rattle.std.specs.Cmp.Lexicographic.{same_text}
 use Rattle.std.proofs.lemmas.List.{append-nil, take-append-drop}
 use Rattle.std.proofs.lemmas.List.Elements.{All-from_recursion, recursion_from_All}
+use Rattle.std.specs.Cmp.{first_so, second_so}
 use Rattle.oct_code.specs.declared.limits.TheConstants.{LIMIT, OLD_LIMIT}
 use Rattle.oct_ops.specs.Body.{Operation}
 use Rattle.oct_ops.specs.Limits.{keeps_old_limits}
-use Rattle.oct_ops.specs.SetLaws.{and_first, and_second}
+use Rattle.oct_ops.specs.Order.{op_cmp}
+use Rattle.oct_ops.specs.Sets.{rises}
 use Rattle.oct_delta.specs.declared.format.Edition.{Edition}
 use Rattle.oct_delta.specs.declared.format.Edition.TheVariants.{First, Second}
 use Rattle.oct_delta.specs.Bytes.{IsBytes}
@@ -94,7 +96,7 @@ reads_none e bytes list fits is none = by (read_delta bytes) refl
 
 -- ---- the tag of any bytes
 
-tag_there : (tag bytes : Bytes) → starts_with nat_eq bytes tag ≡ true → bytes ≡ tag ++ drop (length tag) bytes
+pub tag_there : (tag bytes : Bytes) → starts_with nat_eq bytes tag ≡ true → bytes ≡ tag ++ drop (length tag) bytes
 tag_there tag bytes h = sym (take-append-drop (length tag) bytes) ∙ ap (λ (z : Bytes). z ++ drop (length tag) bytes) (sym (same_text tag (take (length tag) bytes) (sym h)))
 
 pub format_named : (bytes : Bytes) → (format_at bytes ≡ None) ⊎ ((e : Edition) × (bytes ≡ (format e).tag ++ drop 4 bytes))
@@ -120,6 +122,20 @@ reads bytes ops fits = (forth (format_named bytes), back)
     back (inl d) = reads_list First bytes (list_bytes ops) ops d.spelled (record { list = d.list; spelled = refl })
     back (inr d) = reads_list Second bytes (list_bytes ops) ops d.spelled (record { list = d.list; spelled = refl })
 
+pub text_rising : (bytes : Bytes) (ops : List Operation) → IsDeltaText bytes ops → rises op_cmp ops ≡ true
+text_rising bytes ops (inl d) = d.list.rising
+text_rising bytes ops (inr d) = d.list.rising
+
+-- what reading gives, as a premise
+abbrev pub Law : Type 0
+Law = (bytes : Bytes) (ops : List Operation) → IsBytes bytes → (read_delta bytes ≡ Some ops) ↔ IsDeltaText bytes ops
+
+pub read_none : Law → (bytes : Bytes) → IsBytes bytes → ((ops : List Operation) → ¬ IsDeltaText bytes ops) → read_delta bytes ≡ None
+read_none law bytes are none = elim (read_delta bytes) as (λ o. read_delta bytes ≡ o → o ≡ None) [
+  | None ↦ λ _. refl
+  | Some ops ↦ λ e. absurd (none ops ((law bytes ops are).0 e))
+] refl
+
 -- ---- fronts
 
 -- a text at the front of another is all of it
@@ -141,7 +157,7 @@ text_front_is_all bytes more a b (inr p) q = by Second (ap (λ (z : Bytes). z ++
 
 keep_old : (ops : List Operation) → AllByRecursion (Fits LIMIT) ops → list_all keeps_old_limits ops ≡ true → AllByRecursion (Fits OLD_LIMIT) ops
 keep_old [] h k = tt
-keep_old (o ∷ ops) h k = (record { valid = h.0.valid; within = and_first _ _ k }, keep_old ops h.1 (and_second (keeps_old_limits o) _ k))
+keep_old (o ∷ ops) h k = (record { valid = h.0.valid; within = first_so _ _ k }, keep_old ops h.1 (second_so (keeps_old_limits o) _ k))
 
 pub encoded_is_text : (ops : List Operation) → IsOpList LIMIT ops → IsDeltaText (encoded ops) ops
 encoded_is_text ops list = by (list_all keeps_old_limits ops) refl

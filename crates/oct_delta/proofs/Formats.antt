@@ -9,7 +9,7 @@ use Rattle.std.specs.Ordering.{nat_cmp, ordering_then}
 use Rattle.std.specs.Cmp.Lexicographic.{slice_cmp}
 use Rattle.std.proofs.lemmas.List.{append-nil}
 use Rattle.std.proofs.lemmas.List.Elements.{All-from_recursion, recursion_from_All}
-use Rattle.std.proofs.lemmas.Bool.{eqb-true, eqb-false}
+use Rattle.std.proofs.lemmas.Bool.{eqb-true, eqb-false, and_parts}
 use Rattle.oct_code.specs.Code.{Code, IsCode, code_cmp}
 use Rattle.oct_code.specs.DigitFaults.{digits_fault}
 use Rattle.oct_code.specs.declared.limits.TheConstants.{LIMIT}
@@ -18,7 +18,7 @@ use Rattle.oct_ops.specs.Faults.{is_dot, is_name, is_text}
 use Rattle.oct_ops.specs.Limits.{keeps_limit}
 use Rattle.oct_ops.specs.Operation.{Dot, Block, Period, Note, Removal}
 use Rattle.oct_ops.specs.Order.{block_cmp, period_cmp, note_cmp, removal_cmp, kind_of, same_kind_cmp, op_cmp}
-use Rattle.oct_ops.specs.OrderLaws.{dot_cmp_total}
+use Rattle.oct_ops.specs.OrderLaws.{dot_cmp_total, then_equal}
 use Rattle.oct_ops.specs.Body.{Body, Operation}
 use Rattle.oct_ops.specs.Body as kind
 use Rattle.oct_ops.specs.Valid.{IsU32, IsDot, IsBlock, IsPeriod, IsNote, IsRemoval, IsBody}
@@ -26,9 +26,9 @@ use Rattle.oct_delta.specs.declared.input.Front.{Front}
 use Rattle.oct_delta.specs.Text.{code_bytes, dot_bytes, block_bytes, note_bytes, period_bytes, removal_bytes, body_bytes, op_bytes, u16, u32}
 use Rattle.oct_delta.specs.Delta.{Fits}
 use Rattle.oct_delta.specs.Reading.{◌>>=◌, checked, byte_at, number_at, bytes_at, chain_at, numbers_at, code_at, dot_at, is_count, is_span, front_at, block_at, is_claim, period_at, note_at, dots_at, dot_count_at, removal_at, body_at, op_at, next_op_at}
-use Rattle.oct_delta.proofs.Codecs.{Codec, byte_codec, bytes_codec, number_codec, wide16, wide32, then_codec, checked_codec, same_codec, chain_codec, Chained, variant_codec, if_codec, refused_codec, then_assoc, then_equal, bytes_cmp}
+use Rattle.oct_delta.proofs.Codecs.{Codec, byte_codec, bytes_codec, number_codec, wide16, wide32, then_codec, checked_codec, same_codec, chain_codec, Chained, variant_codec, if_codec, refused_codec, then_assoc, bytes_cmp}
 use Rattle.oct_delta.proofs.Chains.{IsNext, next_codec, items_codec, each_from_chain, rises_from_chain, chain_from_rising}
-use Rattle.oct_delta.proofs.Ranges.{both_true, code_from_test, test_from_code, dot_from_test, test_from_dot, faultless_from_span, span_from_faultless, faultless_from_claim, claim_from_faultless, claim_small, note_from_test, test_from_note, faultless_from_dots, dots_from_faultless, count_small}
+use Rattle.oct_delta.proofs.Ranges.{code_from_test, test_from_code, dot_from_test, test_from_dot, faultless_from_span, span_from_faultless, faultless_from_claim, claim_from_faultless, claim_small, note_from_test, test_from_note, faultless_from_dots, dots_from_faultless, count_small}
 
 pub code_codec : Codec code_at code_bytes code_cmp IsCode
 unfolding code_at
@@ -112,7 +112,7 @@ block_order a b c d = rw (then_equal d, then_assoc a (ordering_then b c) d, then
 
 front_from_span : (limit : ℕ) → limit ≤ LIMIT → (f : Front) → IsCode f.code → IsTrue (is_span limit f.start f.count) → FitsFront limit f
 front_from_span limit low f code span =
-    let outer = both_true (is_count f.count) (leb (f.start + f.count) limit) span in
+    let outer = and_parts (is_count f.count) (leb (f.start + f.count) limit) span in
     let end : f.start + f.count ≤ limit = leb-true _ _ outer.1 in
     let small : f.count < 2 ^ 16 = count_small f.count outer.0 in
     record { code = code; start = omega (arith, end, low); count = small; span = span }

@@ -1,5 +1,5 @@
 mod Rows
-mod Codecs
+pub mod Codecs
 mod Loops
 mod Chains
 mod Ranges
@@ -8,7 +8,7 @@ mod Rising
 mod Lists
 mod Removals
 pub mod Deltas
-mod Written
+pub mod Written
 pub mod Sizes
 pub mod ClockTexts
 mod Streams

@@ -16,8 +16,8 @@ use Rattle.oct_delta.specs.declared.fault.ReadError.TheVariants.{Memory, Fault a
 use Rattle.oct_delta.specs.Bytes.{IsBytes}
 use Rattle.oct_delta.specs.Text.{op_bytes, list_bytes}
 use Rattle.oct_delta.specs.Delta.{Fits, Format, IsOpList, IsList, IsDelta}
-use Rattle.oct_delta.specs.Reading.{Read, GivesIfRoom, skipped, checked, follows, number_at, op_at, next_at, next_op_at, chain_at}
-use Rattle.oct_delta.proofs.Codecs.{Chained, number_codec, wide32, bind_ok, checked_ok, ok_is, as_part, done, failed}
+use Rattle.oct_delta.specs.Reading.{GivesIfRoom, skipped, checked, follows, number_at, op_at, next_at, next_op_at, chain_at}
+use Rattle.oct_delta.proofs.Codecs.{Chained, number_codec, wide32, bind_ok, checked_ok, ok_is, as_part, done, failed, skipped_ok}
 use Rattle.oct_delta.proofs.Chains.{each_from_chain, rises_from_chain, chain_from_rising}
 use Rattle.oct_delta.proofs.Formats.{ops_codec, IsNextOp}
 
@@ -32,14 +32,10 @@ list_from_chain limit ops few chain = record {
   rising = rises_from_chain op_cmp (Fits limit) op_cmp_total None ops chain;
 }
 
-not_skipped : {A : Type 0} (read : Read A) (rest : List ℕ) → skipped read ≡ Ok rest → (x : A) × (read ≡ Ok (x, rest))
-not_skipped {A} (Ok x) rest e = let same : x.1 ≡ rest = cc in (x.0, ap (λ (z : List ℕ). let y : A × List ℕ = (x.0, z) in Ok y) same)
-not_skipped (Err f) rest e = absurd cc
-
 pub list_takes : (limit : ℕ) → limit ≤ LIMIT → (bytes rest : List ℕ) (n : ℕ) → IsBytes bytes → number_at w32 bytes ≡ Ok (n, rest) → skipped (chain_at (next_op_at limit) None n rest) ≡ Ok [] → (ops : List Operation) × IsList limit bytes ops
 list_takes limit low bytes rest n fits count read =
     let t = (number_codec wide32).takes bytes (n, rest) fits count in
-    let found = not_skipped (chain_at (next_op_at limit) None n rest) [] read in
+    let found = skipped_ok (chain_at (next_op_at limit) None n rest) [] read in
     let u = (ops_codec limit low None n).takes rest (found.0, []) t.0.rest_fits found.1 in
     let text : bytes ≡ list_bytes found.0 =
     t.0.parts ∙ ap (λ (z : List ℕ). to_be_bytes w32 n ++ z) (u.0.parts ∙ append-nil (flat_map op_bytes found.0)) ∙ ap (λ (k : ℕ). to_be_bytes w32 k ++ flat_map op_bytes found.0) (sym u.1.0) in (

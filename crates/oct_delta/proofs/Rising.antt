@@ -5,6 +5,7 @@ use Rattle.std.proofs.lemmas.List.{append-nil, take_at, length-append}
 use Rattle.oct_code.specs.declared.limits.TheConstants.{LIMIT}
 use Rattle.oct_ops.specs.Body.{Operation}
 use Rattle.oct_ops.specs.Order.{op_cmp}
+use Rattle.oct_ops.specs.OrderLaws.{then_equal}
 use Rattle.oct_delta.specs.declared.fault.Fault.{Fault}
 use Rattle.oct_delta.specs.declared.fault.Fault.TheVariants.{Malformed}
 use Rattle.oct_delta.specs.Text.{op_bytes}
@@ -12,7 +13,7 @@ use Rattle.oct_delta.specs.Delta.{Fits}
 use Rattle.oct_delta.specs.Bytes.{IsBytes}
 use Rattle.oct_delta.specs.Reading.{◌>>=◌, Read, follows, skipped, op_at, next_at, next_op_at, chain_at}
 use Rattle.oct_delta.specs.Passing.{Passed}
-use Rattle.oct_delta.proofs.Codecs.{bytes_cmp, then_equal, failed}
+use Rattle.oct_delta.proofs.Codecs.{bytes_cmp, failed}
 use Rattle.oct_delta.proofs.Formats.{op_codec}
 
 -- the text of the operation before, or nothing

@@ -33,8 +33,6 @@ mod output;
 mod reader;
 mod state;
 mod streaming;
-#[cfg(test)]
-mod tests;
 
 pub use clock::{decode_clock, encode_clock};
 pub use decoding::decode;

@@ -16,8 +16,6 @@
 
 mod clock;
 mod join;
-#[cfg(test)]
-mod tests;
 
 pub use clock::Clock;
 pub use join::{Join, gather};

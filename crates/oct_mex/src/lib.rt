@@ -20,6 +20,3 @@ mod values;
 
 pub use difference::first_difference;
 pub use values::Values;
-
-#[cfg(test)]
-mod tests;

@@ -5,19 +5,16 @@ use Rattle.std.specs.List.Sorted.{IsSorted, IsPermutation}
 use Rattle.std.specs.Ordering.{eq_by_cmp, is_eq, is_gt, is_lt, ordering_reverse, match_ordering}
 use Rattle.std.specs.declared.cmp.Ordering.{Ordering}
 use Rattle.std.specs.declared.cmp.Ordering.TheVariants.{Less, Equal, Greater}
-use Rattle.std.specs.Cmp.{IsTotalOrder, tied_itself}
+use Rattle.std.specs.Cmp.{IsTotalOrder, tied_itself, first_so, second_so}
 use Rattle.std.specs.FinMap.{IsAntisymmetric}
 use Rattle.std.specs.BTreeSet.{insert_key}
 use Rattle.std.proofs.lemmas.List.Sums.{sum_by-cons}
 use Rattle.std.proofs.lemmas.List.Sorted.{sum_by-IsPermutation, list_any-IsPermutation}
+use Rattle.std.proofs.lemmas.Bool.{and_from}
+use Rattle.oct_code.specs.Tests.{less_from_lt}
 use Rattle.oct_ops.specs.Arranged.{arranged}
 use Rattle.oct_ops.specs.Sets.{set_of, listed, rises}
-use Rattle.oct_ops.specs.SetLaws.{and_both, and_first, and_second, same_set, contains-set_of, listed-set_of, listed-arranged}
-
-less_is : (r : Ordering) → is_lt r ≡ true → r ≡ Less
-less_is Less h = refl
-less_is Equal h = cc
-less_is Greater h = cc
+use Rattle.oct_ops.specs.SetLaws.{same_set, contains-set_of, listed-set_of, listed-arranged}
 
 -- how often an item is there
 abbrev ones : {K : Type 0} → (K → K → Ordering) → K → K → ℕ
@@ -42,9 +39,9 @@ module _ {K : Type 0} (R : K → K → Ordering) (total : IsTotalOrder R) (exact
   none_above : (x y : K) (ys : List K) → R x y ≡ Equal → list_all (λ z. is_lt (R y z)) ys ≡ true → count R x ys ≡ 0
   none_above x y [] tied above = refl
   none_above x y (z ∷ zs) tied above =
-      let less : R x z ≡ Less = ap (λ k. R k z) (exact x y tied) ∙ less_is _ (and_first _ _ above) in
+      let less : R x z ≡ Less = ap (λ k. R k z) (exact x y tied) ∙ less_from_lt _ (first_so _ _ above) in
       let apart : ones R x z ≡ 0 = ap (λ o. cond (is_eq o) 1 0) less in
-      let later : count R x zs ≡ 0 = none_above x y zs tied (and_second _ _ above) in
+      let later : count R x zs ≡ 0 = none_above x y zs tied (second_so _ _ above) in
       omega (arith, apart, later)
 
   -- in a rising list no item is there twice
@@ -52,9 +49,9 @@ module _ {K : Type 0} (R : K → K → Ordering) (total : IsTotalOrder R) (exact
   once [] rising x = omega arith
   once (y ∷ ys) rising x =
       elim (R x y) as (λ o. R x y ≡ o → cond (is_eq o) 1 0 + count R x ys ≤ 1) [
-        | Less ↦ λ _. let later = once ys (and_second _ _ rising) x in omega (arith, later)
-        | Equal ↦ λ tied. let later = none_above x y ys tied (and_first _ _ rising) in omega (arith, later)
-        | Greater ↦ λ _. let later = once ys (and_second _ _ rising) x in omega (arith, later)
+        | Less ↦ λ _. let later = once ys (second_so _ _ rising) x in omega (arith, later)
+        | Equal ↦ λ tied. let later = none_above x y ys tied (first_so _ _ rising) in omega (arith, later)
+        | Greater ↦ λ _. let later = once ys (second_so _ _ rising) x in omega (arith, later)
       ] refl
 
 -- ---- a list that was sorted in one order, and that rose in another one
@@ -68,7 +65,7 @@ module _ {K : Type 0} (R S : K → K → Ordering) (total : IsTotalOrder R) (exa
   below_all : (y z : K) (zs : List K) → S y z ≡ Less → list_all (λ x. is_lt (S z x)) zs ≡ true → list_all (λ x. is_lt (S y x)) zs ≡ true
   below_all y z [] less above = refl
   below_all y z (x ∷ zs) less above =
-      and_both _ _ (ap is_lt (by.trans y z x less (less_is _ (and_first _ _ above)))) (below_all y z zs less (and_second _ _ above))
+      and_from _ _ (ap is_lt (by.trans y z x less (less_from_lt _ (first_so _ _ above)))) (below_all y z zs less (second_so _ _ above))
 
   sorted_rises : (xs : List K) → IsSorted S xs → ((x : K) → count R x xs ≤ 1) → rises S xs ≡ true
   sorted_rises [] sorted single = refl
@@ -77,7 +74,7 @@ module _ {K : Type 0} (R S : K → K → Ordering) (total : IsTotalOrder R) (exa
       let first : is_lt (S z y) ≡ false = sorted 0 y (omega arith) (omega arith) in
       let rising : rises S (z ∷ zs) ≡ true = sorted_rises (z ∷ zs) (sorted_tail S y (z ∷ zs) sorted) (λ x. let all : ones R x y + count R x (z ∷ zs) ≤ 1 = single x in omega (arith, all)) in
       elim (S y z) as (λ o. S y z ≡ o → rises S (y ∷ z ∷ zs) ≡ true) [
-        | Less ↦ λ less. and_both _ _ (and_both _ _ (ap is_lt less) (below_all y z zs less (and_first _ _ rising))) rising
+        | Less ↦ λ less. and_from _ _ (and_from _ _ (ap is_lt less) (below_all y z zs less (first_so _ _ rising))) rising
         | Equal ↦ λ tied.
             let same : y ≡ z = by_exact y z tied in
             let here : ones R y y ≡ 1 = ap (λ o. cond (is_eq o) 1 0) (tied_itself total y) in

@@ -1,6 +1,7 @@
 -- The live notes of a set are those of its notes and removals alone.
 use Rattle.std.proofs.Common.{◌≡◌, ℕ, Bool, true, false, not, ◌&&◌, ◌||◌, cond, List, [], ◌∷◌, map, refl, sym, ap, ◌∙◌}
 use Rattle.std.specs.List.{list_any, filter}
+use Rattle.std.specs.Cmp.{first_so}
 use Rattle.oct_ops.specs.Arranged.{arranged}
 use Rattle.oct_ops.specs.Body.{Body, Operation}
 use Rattle.oct_ops.specs.Body as kind
@@ -42,11 +43,7 @@ naming d o h = elim o.body as (λ b. names_dot d b ≡ true → concerns_notes b
 noting : (o : Operation) → is_note o.body ≡ true → concerns_notes o.body ≡ true
 noting o h = elim o.body as (λ b. is_note b ≡ true → concerns_notes b ≡ true) [ kind.Block b ↦ λ e. e | kind.Period p ↦ λ e. e | kind.Note n ↦ λ e. refl | kind.Removal r ↦ λ e. refl ] h
 
-first : (a b : Bool) → (a && b) ≡ true → a ≡ true
-first true b h = refl
-first false b h = h
-
-same_test : (p q : Operation → Bool) → ((o : Operation) → p o ≡ q o) → (ops : List Operation) → filter p ops ≡ filter q ops
+pub same_test : (p q : Operation → Bool) → ((o : Operation) → p o ≡ q o) → (ops : List Operation) → filter p ops ≡ filter q ops
 same_test p q same [] = refl
 same_test p q same (o ∷ ops) = λ i. cond (same o i) (o ∷ same_test p q same ops i) (same_test p q same ops i)
 
@@ -63,11 +60,11 @@ live_notes-of ops =
     ap live_notes (listed-keep op_cmp_total op_cmp_exact (λ o. concerns_notes o.body) ops)
     ∙ ap (arranged note_order)
     (same_test (is_live (kept (listed ops))) (is_live (listed ops)) (live-kept (listed ops)) (kept (listed ops))
-    ∙ filter-kept (is_live (listed ops)) (λ o h. noting o (first (is_note o.body) _ h)) (listed ops))
+    ∙ filter-kept (is_live (listed ops)) (λ o h. noting o (first_so (is_note o.body) _ h)) (listed ops))
 
 pub live_dots-of : (ops : Operations) (name : List ℕ) → live_dots (listed (notes_of ops)) name ≡ live_dots (listed ops) name
 live_dots-of ops name =
     ap (λ l. live_dots l name) (listed-keep op_cmp_total op_cmp_exact (λ o. concerns_notes o.body) ops)
     ∙ ap (λ l. arranged dot_cmp (map (λ o. o.dot) l))
     (same_test (λ o. is_live (kept (listed ops)) o && is_named name o) (λ o. is_live (listed ops) o && is_named name o) (λ o. ap (λ b. b && is_named name o) (live-kept (listed ops) o)) (kept (listed ops))
-    ∙ filter-kept (λ o. is_live (listed ops) o && is_named name o) (λ o h. noting o (first (is_note o.body) _ (first (is_live (listed ops) o) _ h))) (listed ops))
+    ∙ filter-kept (λ o. is_live (listed ops) o && is_named name o) (λ o h. noting o (first_so (is_note o.body) _ (first_so (is_live (listed ops) o) _ h))) (listed ops))

@@ -1,16 +1,17 @@
 -- The live notes of a set, as the loops gather them.
-use Rattle.std.proofs.Common.{◌≡◌, ℕ, ◌==◌, Bool, true, false, not, ◌&&◌, ◌||◌, cond, List, [], ◌∷◌, ◌++◌, map, refl, sym, ap, ◌∙◌, subst}
+use Rattle.std.proofs.Common.{◌≡◌, ℕ, ◌==◌, Bool, true, false, not, ◌&&◌, ◌||◌, cond, List, [], ◌∷◌, ◌++◌, map, sym, ap, ◌∙◌, subst}
 use Rattle.std.proofs.lemmas.Cmp.{nat_list_cmp_total}
 use Rattle.std.proofs.lemmas.List.{append-nil}
 use Rattle.std.proofs.lemmas.List.Folds.{list_any-append}
 use Rattle.std.specs.List.{filter, list_any, list_all, dedup, AllByRecursion}
 use Rattle.std.specs.List.Sorted.{IsSorted, IsPermutation}
-use Rattle.std.specs.Ordering.{nat_cmp, eq_by_cmp, is_lt, is_gt, ordering_then}
-use Rattle.std.specs.declared.cmp.Ordering.{Ordering}
-use Rattle.std.specs.declared.cmp.Ordering.TheVariants.{Less, Equal, Greater}
-use Rattle.std.specs.Cmp.{IsTotalOrder, then_total, on_total, tied_then, unsigned_tied}
+use Rattle.std.specs.Ordering.{nat_cmp, eq_by_cmp, is_lt, is_gt}
+use Rattle.std.specs.Cmp.{IsTotalOrder, then_total, on_total, tied_then, unsigned_tied, first_so, second_so}
 use Rattle.std.specs.FinMap.{IsAntisymmetric}
+use Rattle.std.proofs.lemmas.Bool.{and_right}
+use Rattle.std.proofs.Math.Bool.{or_assoc}
 use Rattle.oct_code.specs.CodeOrder.{both_tie}
+use Rattle.oct_code.specs.Tests.{not_above}
 use Rattle.oct_ops.specs.Arranged.{arranged}
 use Rattle.oct_ops.specs.Body.{Operation}
 use Rattle.oct_ops.specs.Body as kind
@@ -20,9 +21,10 @@ use Rattle.oct_ops.specs.Operations.{Operations, keep, listed}
 use Rattle.oct_ops.specs.Sets.{rises}
 use Rattle.oct_ops.specs.Order.{op_cmp, body_cmp}
 use Rattle.oct_ops.specs.OrderLaws.{op_cmp_total, op_cmp_exact, dot_cmp_total, dot_cmp_exact}
-use Rattle.oct_ops.specs.SetLaws.{and_first, and_second, listed-keep, listed-rises}
+use Rattle.oct_ops.specs.SetLaws.{listed-keep, listed-rises}
 use Rattle.oct_notes.specs.Notes.{AreRemoved, is_note, is_live, is_named, is_removed, leaves, live_notes, live_dots, name_of, names_dot, note_order}
 use Rattle.oct_notes.proofs.Arranging.{NeverFalls, dedup_is_arranged, sorted_is_arranged}
+use Rattle.oct_notes.proofs.Kept.{same_test}
 
 pub note_order_total : IsTotalOrder note_order
 note_order_total = then_total (on_total (λ o. name_of o.body) nat_list_cmp_total) op_cmp_total
@@ -31,10 +33,6 @@ pub note_order_exact : IsAntisymmetric note_order
 note_order_exact o p tie = op_cmp_exact o p (both_tie _ _ tie).1
 
 -- ---- the dots that removals name
-
-or_assoc : (a b c : Bool) → ((a || b) || c) ≡ (a || (b || c))
-or_assoc true b c = refl
-or_assoc false b c = refl
 
 pub removed_next : (all rest : List Operation) (o : Operation) (r : Removal) (dots more named : List Dot) (d : Dot) (whole : Bool) → all ≡ o ∷ rest → o.body ≡ kind.Removal r → named ≡ r.dots → more ≡ dots ++ named → (list_any (eq_by_cmp dot_cmp d) dots || is_removed all d) ≡ whole → (list_any (eq_by_cmp dot_cmp d) more || is_removed rest d) ≡ whole
 removed_next all rest o r dots more named d whole next is names added before =
@@ -45,10 +43,6 @@ removed_next all rest o r dots more named d whole next is names added before =
     ∙ sym (ap (λ l. list_any (eq_by_cmp dot_cmp d) dots || is_removed l d) next) ∙ before
 
 -- ---- the notes that they leave
-
-same_test : (p q : Operation → Bool) → ((o : Operation) → p o ≡ q o) → (ops : List Operation) → filter p ops ≡ filter q ops
-same_test p q same [] = refl
-same_test p q same (o ∷ ops) = λ i. cond (same o i) (o ∷ same_test p q same ops i) (same_test p q same ops i)
 
 live_left : (ops : List Operation) (dots : List Dot) → AreRemoved ops dots → (o : Operation) → leaves dots o ≡ is_live ops o
 live_left ops dots are o = ap (λ b. is_note o.body && not b) (are o.dot)
@@ -72,20 +66,14 @@ same_dot d e = (d.author == e.author) && (d.number == e.number)
 dot_ties : (d e : Dot) → same_dot d e ≡ eq_by_cmp dot_cmp d e
 dot_ties d e = sym (λ i. unsigned_tied d.author e.author i && unsigned_tied d.number e.number i) ∙ tied_then (nat_cmp d.author e.author) (nat_cmp d.number e.number)
 
--- what is below by its first part is not above by it
-not_above : (a b : Ordering) → is_lt (ordering_then a b) ≡ true → is_gt a ≡ false
-not_above Less b h = refl
-not_above Equal b h = refl
-not_above Greater b h = cc
-
 dots_after : (o : Operation) (ops : List Operation) → list_all (λ p. is_lt (op_cmp o p)) ops ≡ true → AllByRecursion (λ d. is_gt (dot_cmp o.dot d) ≡ false) (map (λ p. p.dot) ops)
 dots_after o [] below = tt
-dots_after o (p ∷ ops) below = (not_above (dot_cmp o.dot p.dot) (body_cmp o.body p.body) (and_first _ _ below), dots_after o ops (and_second _ _ below))
+dots_after o (p ∷ ops) below = (not_above (dot_cmp o.dot p.dot) (body_cmp o.body p.body) (first_so _ _ below), dots_after o ops (second_so _ _ below))
 
 -- the dots of operations that rise do not fall
 dots_level : (ops : List Operation) → rises op_cmp ops ≡ true → NeverFalls dot_cmp (map (λ o. o.dot) ops)
 dots_level [] rising = tt
-dots_level (o ∷ ops) rising = (dots_after o ops (and_first _ _ rising), dots_level ops (and_second _ _ rising))
+dots_level (o ∷ ops) rising = (dots_after o ops (first_so _ _ rising), dots_level ops (second_so _ _ rising))
 
 -- a note of the name that they leave
 abbrev pub shows : List Dot → List ℕ → Operation → Bool
@@ -98,11 +86,7 @@ module _ (removed : List Dot) (name : List ℕ) (all rest : List Operation) (o :
       ∙ sym (ap (λ l. done ++ map (λ p. p.dot) (filter (shows removed name) l)) next) ∙ before
 
   pub other_name : is_named name o ≡ false → done ++ map (λ p. p.dot) (filter (shows removed name) rest) ≡ whole
-  other_name fails = kept (and_false (leaves removed o) _ fails)
-    where
-      and_false : (a b : Bool) → b ≡ false → (a && b) ≡ false
-      and_false true b h = h
-      and_false false b h = refl
+  other_name fails = kept (and_right (leaves removed o) _ fails)
 
   pub not_left : leaves removed o ≡ false → done ++ map (λ p. p.dot) (filter (shows removed name) rest) ≡ whole
   not_left fails = kept (ap (λ b. b && is_named name o) fails)

@@ -4,9 +4,10 @@ use Rattle.std.specs.Prelude.{Contains}
 use Rattle.std.specs.List.{filter, list_any}
 use Rattle.std.specs.declared.cmp.Ordering.{Ordering}
 use Rattle.std.specs.Ordering.{eq_by_cmp}
-use Rattle.std.specs.Cmp.{IsTotalOrder, Equal-is, both_ways, eq_by_cmp_equiv}
+use Rattle.std.specs.Cmp.{IsTotalOrder, Equal-is, both_ways, eq_by_cmp_equiv, first_so, second_so}
 use Rattle.std.specs.FinMap.{IsAntisymmetric}
 use Rattle.std.proofs.lemmas.Map.Views.{list_any-from_Contains, Contains-from_any, any-filter_same}
+use Rattle.std.proofs.lemmas.Bool.{and_from, or_left, or_right}
 use Rattle.oct_ops.specs.Arranged.{arranged}
 use Rattle.oct_ops.specs.Body.{Body, Operation}
 use Rattle.oct_ops.specs.Body as kind
@@ -16,19 +17,11 @@ use Rattle.oct_ops.specs.Operations.{Operations, contains, insert, listed}
 use Rattle.oct_ops.specs.Order.{op_cmp}
 use Rattle.oct_ops.specs.OrderLaws.{op_cmp_total, op_cmp_exact, dot_cmp_total, dot_cmp_exact}
 use Rattle.oct_ops.specs.Sets.{set_of, rises}
-use Rattle.oct_ops.specs.SetLaws.{and_both, and_first, and_second, contains-listed, contains-set_of, contains-insert, listed-arranged, listed-rises}
+use Rattle.oct_ops.specs.SetLaws.{contains-listed, contains-set_of, contains-insert, listed-arranged, listed-rises}
 use Rattle.oct_notes.specs.Laws.{IsUnremoved, Removes, RemovesNothing}
 use Rattle.oct_notes.specs.Notes.{is_note, is_live, is_removed, names_dot, note_order, live_notes}
 use Rattle.oct_notes.proofs.Arranging.{is_arranged}
 use Rattle.oct_notes.proofs.Lives.{note_order_total, note_order_exact}
-
-or_first : (a b : Bool) → a ≡ true → (a || b) ≡ true
-or_first true b h = refl
-or_first false b h = cc
-
-or_second : (a b : Bool) → b ≡ true → (a || b) ≡ true
-or_second true b h = refl
-or_second false b h = h
 
 module _ {K : Type 0} (R : K → K → Ordering) (total : IsTotalOrder R) (exact : IsAntisymmetric R) where
   -- an order's test of membership is membership
@@ -62,15 +55,15 @@ removes-from d (kind.Removal r) h = from_member dot_cmp dot_cmp_total dot_cmp_ex
 removed-by : (ops : List Operation) (d : Dot) (o : Operation) → list_any (eq_by_cmp op_cmp o) ops ≡ true → names_dot d o.body ≡ true → is_removed ops d ≡ true
 removed-by [] d o here names = cc
 removed-by (p ∷ ops) d o here names = elim (eq_by_cmp op_cmp o p) as (λ t. eq_by_cmp op_cmp o p ≡ t → (t || list_any (eq_by_cmp op_cmp o) ops) ≡ true → (names_dot d p.body || is_removed ops d) ≡ true) [
-  | true ↦ λ tied _. or_first _ _ (ap (λ q. names_dot d q.body) (sym (op_cmp_exact o p ((Equal-is (op_cmp o p)).0 tied))) ∙ names)
-  | false ↦ λ _ later. or_second _ _ (removed-by ops d o later names)
+  | true ↦ λ tied _. or_left _ _ (ap (λ q. names_dot d q.body) (sym (op_cmp_exact o p ((Equal-is (op_cmp o p)).0 tied))) ∙ names)
+  | false ↦ λ _ later. or_right _ _ (removed-by ops d o later names)
 ] refl here
 
 not_removed : (ops : List Operation) (d : Dot) → ((o : Operation) → list_any (eq_by_cmp op_cmp o) ops ≡ true → ¬ Removes o.body d) → is_removed ops d ≡ false
 not_removed [] d none = refl
 not_removed (p ∷ ops) d none = elim (names_dot d p.body) as (λ b. names_dot d p.body ≡ b → (b || is_removed ops d) ≡ false) [
-  | true ↦ λ names. absurd (none p (or_first _ _ ((eq_by_cmp_equiv op_cmp_total).refl p)) (removes-from d p.body names))
-  | false ↦ λ _. not_removed ops d (λ o later. none o (or_second _ _ later))
+  | true ↦ λ names. absurd (none p (or_left _ _ ((eq_by_cmp_equiv op_cmp_total).refl p)) (removes-from d p.body names))
+  | false ↦ λ _. not_removed ops d (λ o later. none o (or_right _ _ later))
 ] refl
 
 not_true : (b : Bool) → not b ≡ true → b ≡ true → ⊥
@@ -89,17 +82,17 @@ module _ (ops : Operations) (note : Operation) where
   live_is_unremoved live =
       let among = from_member note_order note_order_total note_order_exact note kept (sym (any-arranged note_order note_order_total note_order_exact note kept) ∙ member note_order note_order_total note_order_exact note (live_notes all) live) in
       let passes = sym (any-filter op_cmp op_cmp_total op_cmp_exact (is_live all) note all) ∙ member op_cmp op_cmp_total op_cmp_exact note kept among in
-      let is = and_first (is_live all note) _ passes in
+      let is = first_so (is_live all note) _ passes in
       record {
-        held = contains-listed ops note ∙ and_second (is_live all note) _ passes;
-        noted = and_first (is_note note.body) _ is;
-        unremoved = λ op here removes. not_true (is_removed all note.dot) (and_second (is_note note.body) _ is) (removed-by all note.dot op (sym (contains-listed ops op) ∙ here) (names-from note.dot op.body removes));
+        held = contains-listed ops note ∙ second_so (is_live all note) _ passes;
+        noted = first_so (is_note note.body) _ is;
+        unremoved = λ op here removes. not_true (is_removed all note.dot) (second_so (is_note note.body) _ is) (removed-by all note.dot op (sym (contains-listed ops op) ∙ here) (names-from note.dot op.body removes));
       }
 
   pub unremoved_is_live : IsUnremoved ops note → Contains (live_notes all) note
   unremoved_is_live is =
-      let live : is_live all note ≡ true = and_both _ _ is.noted (ap not (not_removed all note.dot (λ o here. is.unremoved o (contains-listed ops o ∙ here)))) in
-      let among = from_member op_cmp op_cmp_total op_cmp_exact note kept (any-filter op_cmp op_cmp_total op_cmp_exact (is_live all) note all ∙ and_both _ _ live (sym (contains-listed ops note) ∙ is.held)) in
+      let live : is_live all note ≡ true = and_from _ _ is.noted (ap not (not_removed all note.dot (λ o here. is.unremoved o (contains-listed ops o ∙ here)))) in
+      let among = from_member op_cmp op_cmp_total op_cmp_exact note kept (any-filter op_cmp op_cmp_total op_cmp_exact (is_live all) note all ∙ and_from _ _ live (sym (contains-listed ops note) ∙ is.held)) in
       from_member note_order note_order_total note_order_exact note (live_notes all)
       (any-arranged note_order note_order_total note_order_exact note kept ∙ member note_order note_order_total note_order_exact note kept among)
 
@@ -120,7 +113,7 @@ module _ (ops : Operations) (op : Operation) (removes_nothing : RemovesNothing o
   ] refl (sym (contains-insert op_cmp_total op_cmp_exact ops op o) ∙ here)
 
   held_in_both : (o : Operation) → contains ops o ≡ true → contains (insert ops op) o ≡ true
-  held_in_both o here = contains-insert op_cmp_total op_cmp_exact ops op o ∙ or_second _ _ here
+  held_in_both o here = contains-insert op_cmp_total op_cmp_exact ops op o ∙ or_right _ _ here
 
   still : (note : Operation) → IsUnremoved ops note → IsUnremoved (insert ops op) note
   still note is = record {

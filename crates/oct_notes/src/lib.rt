@@ -18,7 +18,5 @@
 pub mod laws;
 mod notes;
 mod removed;
-#[cfg(test)]
-mod tests;
 
 pub use notes::Notes;

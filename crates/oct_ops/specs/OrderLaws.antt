@@ -54,7 +54,7 @@ parts_cmp = then_cmp (on kind_of nat_cmp) (then_cmp (on block_of (option_cmp blo
 parts_cmp_total : IsTotalOrder parts_cmp
 parts_cmp_total = then_total (on_total kind_of nat_cmp_total) (then_total (on_total block_of (options_total block_cmp_total)) (then_total (on_total period_of (options_total period_cmp_total)) (then_total (on_total note_of (options_total note_cmp_total)) (on_total removal_of (options_total removal_cmp_total)))))
 
-then_equal : (o : Ordering) → ordering_then o Equal ≡ o
+pub then_equal : (o : Ordering) → ordering_then o Equal ≡ o
 then_equal Less = refl
 then_equal Equal = refl
 then_equal Greater = refl

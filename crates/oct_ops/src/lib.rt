@@ -34,6 +34,3 @@ pub use op_list::OpList;
 pub use period::Period;
 pub use removal::Removal;
 pub use rising::rises;
-
-#[cfg(test)]
-mod tests;

@@ -2,6 +2,7 @@
 use Rattle.std.proofs.Common.{◌≡◌, ℕ, ◌+◌, ◌-◌, Bool, true, false, not, ◌&&◌, List, [], ◌∷◌, ◌++◌, map, Option, Some, None, refl, sym, ap, ◌∙◌, subst}
 use Rattle.std.specs.Prelude.{IsTrue, nat_lt}
 use Rattle.std.specs.List.{flat_map, list_all, list_any, cons_option}
+use Rattle.std.specs.Cmp.{first_so, second_so}
 use Rattle.oct_code.specs.Code.{Code}
 use Rattle.oct_mex.specs.NimValues.{nim_values}
 use Rattle.oct_ops.specs.Body.{Operation}
@@ -24,25 +25,17 @@ use Rattle.oct_pages.specs.Parts.{IsGameOf, claims_set, filings_of}
 use Rattle.oct_pages.proofs.Held.{each_held}
 use Rattle.oct_pages.proofs.Members.{any-map, any-listed}
 
-first : (a b : Bool) → (a && b) ≡ true → a ≡ true
-first true b h = refl
-first false b h = cc
-
-second : (a b : Bool) → (a && b) ≡ true → b ≡ true
-second true b h = h
-second false b h = cc
-
 alone : (a : Bool) → a ≡ true → (a && true) ≡ true
 alone true h = refl
 alone false h = cc
 
 pub held_first : {X : Type 0} (p : X → Bool) (m : Option X) (rest : List X) → list_all p (cons_option m rest) ≡ true → list_all p (cons_option m []) ≡ true
 held_first p None rest h = refl
-held_first p (Some x) rest h = alone (p x) (first (p x) (list_all p rest) h)
+held_first p (Some x) rest h = alone (p x) (first_so (p x) (list_all p rest) h)
 
 pub held_rest : {X : Type 0} (p : X → Bool) (m : Option X) (rest : List X) → list_all p (cons_option m rest) ≡ true → list_all p rest ≡ true
 held_rest p None rest h = h
-held_rest p (Some x) rest h = second (p x) (list_all p rest) h
+held_rest p (Some x) rest h = second_so (p x) (list_all p rest) h
 
 -- the status of a claim by the known length alone
 abbrev by_known : ℕ → Period → PeriodStatus

@@ -1,19 +1,16 @@
 -- An addition to a game keeps what its fields keep.
-use Rattle.std.proofs.Common.{◌≡◌, Bool, true, false, ◌||◌, ◌⊎◌, inl, inr, Result, Ok, Err, OnOk, OnErr, get_or, refl, sym, ap, ◌∙◌, subst}
+use Rattle.std.proofs.Common.{◌≡◌, true, inl, inr, Result, Ok, Err, OnOk, OnErr, get_or, sym, ap, ◌∙◌, subst}
 use Rattle.std.specs.Cmp.{Equal-is, tied_itself}
 use Rattle.std.specs.Ordering.{eq_by_cmp, is_eq}
 use Rattle.std.proofs.lemmas.List.Folds.{list_any_at}
+use Rattle.std.proofs.lemmas.Bool.{or_cases}
 use Rattle.oct_code.specs.Code.{Code}
 use Rattle.oct_ops.specs.Sets as sets
 use Rattle.oct_ops.specs.SetLaws.{contains-insert, contains-listed}
-use Rattle.oct_verify.specs.Filing.{Filing, Filings, GameBlocks, filing_cmp}
+use Rattle.oct_verify.specs.Filing.{Filing, GameBlocks, filing_cmp}
 use Rattle.oct_verify.specs.FilingLaws.{filing_cmp_total, filing_cmp_exact}
 use Rattle.oct_period.specs.Claims.{Claim, Claims, AreOfGame, claim_cmp}
 use Rattle.oct_period.specs.ClaimLaws.{claim_cmp_total, claim_cmp_exact}
-
-either : (a b : Bool) → (a || b) ≡ true → (a ≡ true) ⊎ (b ≡ true)
-either true b h = inl refl
-either false b h = inr h
 
 abbrev pub BlocksAreOf : GameBlocks → Type 0
 BlocksAreOf l = (f : Filing) → sets.contains l.blocks f ≡ true → f.1.code ≡ l.code
@@ -22,13 +19,13 @@ abbrev pub ClaimsAreOf : Code → Claims → Type 0
 ClaimsAreOf code claims = (c : Claim) → sets.contains claims c ≡ true → c.1.code ≡ code
 
 block_more : (l : GameBlocks) (f : Filing) → f.1.code ≡ l.code → BlocksAreOf l → BlocksAreOf (record l { blocks = sets.insert l.blocks f })
-block_more l f game each d here = elim (either (eq_by_cmp filing_cmp d f) (sets.contains l.blocks d) (sym (contains-insert filing_cmp_total filing_cmp_exact l.blocks f d) ∙ here)) [
+block_more l f game each d here = elim (or_cases (eq_by_cmp filing_cmp d f) (sets.contains l.blocks d) (sym (contains-insert filing_cmp_total filing_cmp_exact l.blocks f d) ∙ here)) [
   | inl tied ↦ let same : d ≡ f = filing_cmp_exact d f ((Equal-is (filing_cmp d f)).0 tied) in ap (λ (e : Filing). e.1.code) same ∙ game
   | inr there ↦ each d there
 ]
 
 pub claim_more : (code : Code) (claims : Claims) (f : Claim) → f.1.code ≡ code → ClaimsAreOf code claims → ClaimsAreOf code (sets.insert claims f)
-claim_more code claims f game each d here = elim (either (eq_by_cmp claim_cmp d f) (sets.contains claims d) (sym (contains-insert claim_cmp_total claim_cmp_exact claims f d) ∙ here)) [
+claim_more code claims f game each d here = elim (or_cases (eq_by_cmp claim_cmp d f) (sets.contains claims d) (sym (contains-insert claim_cmp_total claim_cmp_exact claims f d) ∙ here)) [
   | inl tied ↦ let same : d ≡ f = claim_cmp_exact d f ((Equal-is (claim_cmp d f)).0 tied) in ap (λ (e : Claim). e.1.code) same ∙ game
   | inr there ↦ each d there
 ]
@@ -43,7 +40,3 @@ pub listed_of : (code : Code) (claims : Claims) → ClaimsAreOf code claims → 
 listed_of code claims each k d lt =
     let x = get_or (sets.listed claims) k d in
     each x (contains-listed claims x ∙ list_any_at (eq_by_cmp claim_cmp x) (sets.listed claims) k d lt (ap is_eq (tied_itself claim_cmp_total x)))
-
--- what was added last is here
-pub block_here : (s : Filings) (f : Filing) → sets.contains (sets.insert s f) f ≡ true
-block_here s f = contains-insert filing_cmp_total filing_cmp_exact s f f ∙ ap (λ b. b || sets.contains s f) (ap is_eq (tied_itself filing_cmp_total f))

@@ -4,6 +4,7 @@ use Rattle.std.proofs.lemmas.Bool.{cases_lt, lt-ltb, le-ltb}
 use Rattle.std.proofs.lemmas.List.Elements.{All-contains, All-head, All-tail}
 use Rattle.std.proofs.lemmas.List.Folds.{list_any_at, Any-from_list_any}
 use Rattle.std.specs.List.{All}
+use Rattle.std.proofs.Math.Bool.{and-false, and-true}
 use Rattle.oct_code.specs.Code.{Code}
 use Rattle.oct_ops.specs.Operation.{Block, Period}
 use Rattle.oct_verify.specs.Known.{known, verdict}
@@ -53,17 +54,9 @@ module _ (blocks : List Block) where
 abbrev status_if : Bool → Block → Status
 status_if waiting b = elim waiting [ true ↦ Pending | false ↦ verdict b ]
 
-and_false : (a : Bool) → (a && false) ≡ false
-and_false true = refl
-and_false false = refl
-
-and_true : (a : Bool) → (a && true) ≡ a
-and_true true = refl
-and_true false = refl
-
 -- a proved claim settles each block
 pub far_settled : (blocks : List Block) (claims : List Period) (b : Block) → has_proved blocks claims ≡ true → block_status blocks claims b ≡ verdict b
-far_settled blocks claims b some = ap (λ t. status_if (nat_lt (known blocks) b.start && not t) b) some ∙ ap (λ t. status_if t b) (and_false (nat_lt (known blocks) b.start))
+far_settled blocks claims b some = ap (λ t. status_if (nat_lt (known blocks) b.start && not t) b) some ∙ ap (λ t. status_if t b) (and-false (nat_lt (known blocks) b.start))
 
 -- without one the blocks past the known length wait
 pub far_waits : (blocks : List Block) (claims : List Period) (b : Block) → known blocks < b.start → has_proved blocks claims ≡ false → block_status blocks claims b ≡ Pending
@@ -73,7 +66,7 @@ pub near_settled : (blocks : List Block) (claims : List Period) (b : Block) → 
 near_settled blocks claims b reached = ap (λ t. status_if (t && not (has_proved blocks claims)) b) (le-ltb (known blocks) b.start reached)
 
 pub status_by_blocks : StatusByBlocks
-status_by_blocks blocks b = ap (λ t. status_if t b) (and_true (nat_lt (known blocks) b.start))
+status_by_blocks blocks b = ap (λ t. status_if t b) (and-true (nat_lt (known blocks) b.start))
 
 pub near_status_by_blocks : NearStatusByBlocks
 near_status_by_blocks blocks claims b reached = near_settled blocks claims b reached ∙ sym (settled (known blocks) b reached)

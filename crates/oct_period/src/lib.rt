@@ -26,8 +26,6 @@ mod far;
 mod game;
 pub mod laws;
 mod status;
-#[cfg(test)]
-mod tests;
 mod unknown;
 mod values;
 mod winner;

@@ -7,6 +7,8 @@ use Rattle.std.specs.Ordering.{is_eq, match_ordering}
 use Rattle.std.specs.Cmp.{IsTotalOrder, tied_itself}
 use Rattle.std.specs.FinSet.{IsAntisymmetric}
 use Rattle.std.specs.BTreeSet.{insert_key}
+use Rattle.std.proofs.Math.Bool.{or_self_left}
+use Rattle.oct_code.specs.Tests.{or_left_comm}
 use Rattle.oct_ops.specs.Sets.{Set, contains, insert, set_of}
 use Rattle.oct_ops.specs.SetLaws.{contains-insert, insert_comm, insert_held}
 
@@ -59,21 +61,12 @@ filter-map p (x ∷ xs) = elim (p x) as (λ b. cond b (x ∷ filter p xs) (filte
   | false ↦ filter-map p xs
 ]
 
-or_again : (a b : Bool) → (a || b) ≡ (a || (a || b))
-or_again true b = refl
-or_again false b = refl
-
-or_turned : (a b c : Bool) → (a || (b || c)) ≡ (b || (a || c))
-or_turned true true c = refl
-or_turned true false c = refl
-or_turned false b c = refl
-
 -- whether some item passes, with one item more
 pub any-insert : {K : Type 0} {R : K → K → Ordering} (exact : IsAntisymmetric R) (q : K → Bool) (xs : List K) (x : K) → list_any q (insert_key R xs x) ≡ (q x || list_any q xs)
 any-insert exact q [] x = refl
 any-insert {R = R} exact q (e ∷ xs) x =
     elim (R x e) as (λ o. R x e ≡ o → list_any q (match_ordering o (x ∷ e ∷ xs) (e ∷ xs) (e ∷ insert_key R xs x)) ≡ (q x || (q e || list_any q xs))) [
       | Less ↦ λ _. refl
-      | Equal ↦ λ tie. or_again (q e) (list_any q xs) ∙ ap (λ y. q y || (q e || list_any q xs)) (sym (exact x e tie))
-      | Greater ↦ λ _. ap (λ b. q e || b) (any-insert exact q xs x) ∙ or_turned (q e) (q x) (list_any q xs)
+      | Equal ↦ λ tie. sym (or_self_left (q e) (list_any q xs)) ∙ ap (λ y. q y || (q e || list_any q xs)) (sym (exact x e tie))
+      | Greater ↦ λ _. ap (λ b. q e || b) (any-insert exact q xs x) ∙ or_left_comm (q e) (q x) (list_any q xs)
     ] refl

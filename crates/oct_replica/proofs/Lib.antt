@@ -14,4 +14,3 @@ mod Settled
 mod StateTexts
 mod Taking
 mod Worlds
-mod Written

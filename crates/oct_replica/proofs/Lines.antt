@@ -3,7 +3,7 @@ use Rattle.std.proofs.Common.{◌≡◌, Bool, true, false, List, [], ◌∷◌,
 use Rattle.std.specs.List.{filter_map, flat_map}
 use Rattle.std.specs.declared.cmp.Ordering.{Ordering}
 use Rattle.std.specs.Ordering.{eq_by_cmp, is_eq}
-use Rattle.std.specs.Cmp.{IsTotalOrder}
+use Rattle.std.specs.Cmp.{IsTotalOrder, Equal-is}
 use Rattle.std.specs.FinMap.{IsAntisymmetric}
 use Rattle.std.proofs.lemmas.Cmp.{tied_itself}
 use Rattle.oct_code.specs.Code.{Code, code_cmp, code_eq}
@@ -24,7 +24,7 @@ use Rattle.oct_period.proofs.FarLaws as far
 use Rattle.oct_period.proofs.Statuses.{settled_claims_stay}
 use Rattle.oct_pages.specs.Catalogue.{Text, game_of, games, if_some, under, block_in, claim_in, blocks_of, claims_of, block_line, period_line, block_text, period_text, values_lines, game_text, heading, ending, game_lines, note_line, fork_line, author_line, lines}
 use Rattle.oct_replica.specs.Settled.{blocks_in, claims_in, BlockLinesStay, ClaimLinesStay}
-use Rattle.oct_replica.proofs.Members.{In, In-among, among-In, In-map, In-listed, Has-listed, any_source, any-In, equal}
+use Rattle.oct_replica.proofs.Members.{In, In-among, among-In, In-map, In-listed, Has-listed, any_source, any-In}
 use Rattle.oct_replica.proofs.Settled.{In-filter_map, In-filter_map_source, blocks_grow, claims_grow, claims_later, start_some}
 
 -- a list in order has what the list has
@@ -32,7 +32,7 @@ pub In-arranged : {K : Type 0} {R : K → K → Ordering} (total : IsTotalOrder 
 In-arranged {K} {R} total exact xs x h =
     let has : sets.contains (sets.set_of {R = R} xs) x ≡ true = laws.contains-set_of total exact xs x ∙ any-In (eq_by_cmp R x) xs x h (ap is_eq (tied_itself total x)) in
     let s = any_source (eq_by_cmp R x) (sets.listed (sets.set_of {R = R} xs)) (sym (laws.contains-listed (sets.set_of {R = R} xs) x) ∙ has) in
-    let same : x ≡ s.0 = exact x s.0 (equal (R x s.0) s.2) in
+    let same : x ≡ s.0 = exact x s.0 ((Equal-is (R x s.0)).0 s.2) in
     subst (In x) (laws.listed-arranged total exact xs) (subst (λ y. In y (sets.listed (sets.set_of {R = R} xs))) (sym same) s.1)
 
 -- ---- the game of a block and of a claim
@@ -42,7 +42,7 @@ taken d true x y h = refl
 taken d false x y h = cc
 
 same_code : (a c : Code) → code_eq a c ≡ true → a ≡ c
-same_code a c e = code_cmp_exact a c (equal (code_cmp a c) e)
+same_code a c e = code_cmp_exact a c ((Equal-is (code_cmp a c)).0 e)
 
 block_game : (c : Code) (d : Dot) (body : Body) (b : Dot × Block) → block_in c (record { dot = d; body = body }) ≡ Some b → game_of (record { dot = d; body = body }) ≡ Some c
 block_game c d (kind.Block x) b h = ap Some (same_code x.code c (taken d (code_eq x.code c) x b h))

@@ -1,11 +1,11 @@
 -- Which operations a set and its lists have.
-use Rattle.std.proofs.Common.{◌≡◌, ℕ, zero, suc, Bool, true, false, List, [], ◌∷◌, take, map, ◌⊎◌, inl, inr, refl, sym, ap, ◌∙◌, subst, arith}
-use Rattle.std.specs.List.{IsAmong, list_any, filter}
+use Rattle.std.proofs.Common.{◌≡◌, ℕ, zero, suc, Bool, true, List, [], ◌∷◌, take, ◌⊎◌, inl, inr, refl, sym, ap, ◌∙◌, subst, arith}
+use Rattle.std.specs.List.{IsAmong, list_any, filter, AllByRecursion}
 use Rattle.std.specs.Ordering.{eq_by_cmp, is_eq}
-use Rattle.std.specs.declared.cmp.Ordering.{Ordering}
-use Rattle.std.specs.declared.cmp.Ordering.TheVariants.{Less, Equal, Greater}
-use Rattle.std.proofs.lemmas.Bool.{cases_Bool, or_cases, or_left, or_right, cond-true, cond-false, false≢true}
+use Rattle.std.proofs.lemmas.Bool.{or_cases, or_left, or_right, false≢true}
 use Rattle.std.proofs.lemmas.Cmp.{tied_itself}
+use Rattle.std.specs.Cmp.{Equal-is, both_ways}
+pub use Rattle.oct_mex.proofs.Members.{In, In-filter, In-filter_source, In-map}
 use Rattle.oct_ops.specs.Operations.{Operations, empty, contains, insert, insert_all, set_of, keep, listed}
 use Rattle.oct_ops.specs.Order.{op_cmp}
 use Rattle.oct_ops.specs.OrderLaws.{op_cmp_total, op_cmp_exact}
@@ -15,11 +15,6 @@ use Rattle.oct_ops.specs.Body.{Operation}
 -- the set has the operation
 abbrev pub Has : Operations → Operation → Type 0
 Has s o = contains s o ≡ true
-
--- the operation stands in the list
-abbrev pub In : {X : Type 0} → X → List X → Type 0
-In x [] = ⊥
-In x (y ∷ ys) = (x ≡ y) ⊎ In x ys
 
 pub In-among : {X : Type 0} (xs : List X) (x : X) → IsAmong xs x → In x xs
 In-among [] x (i, (within, is)) = absurd (omega arith)
@@ -38,26 +33,9 @@ In-take zero xs x h = absurd h
 In-take (suc n) [] x h = absurd h
 In-take (suc n) (y ∷ ys) x h = elim h [ inl e ↦ inl e | inr t ↦ inr (In-take n ys x t) ]
 
-pub In-filter : {X : Type 0} (p : X → Bool) (xs : List X) (x : X) → In x xs → p x ≡ true → In x (filter p xs)
-In-filter p [] x h k = absurd h
-In-filter p (y ∷ xs) x h k =
-    elim (cases_Bool (p y)) [
-      | inl t ↦ rw (cond-true (p y) (y ∷ filter p xs) (filter p xs) t) (elim h [ inl e ↦ inl e | inr r ↦ inr (In-filter p xs x r k) ])
-      | inr f ↦ rw (cond-false (p y) (y ∷ filter p xs) (filter p xs) f)
-          (elim h [ inl e ↦ absurd (false≢true (sym f ∙ ap p (sym e) ∙ k)) | inr r ↦ In-filter p xs x r k ])
-    ]
-
-pub In-filter_source : {X : Type 0} (p : X → Bool) (xs : List X) (x : X) → In x (filter p xs) → In x xs
-In-filter_source p [] x h = absurd h
-In-filter_source p (y ∷ xs) x h =
-    elim (cases_Bool (p y)) [
-      | inl t ↦ elim (rw (cond-true (p y) (y ∷ filter p xs) (filter p xs) t) at h) [ inl e ↦ inl e | inr r ↦ inr (In-filter_source p xs x r) ]
-      | inr f ↦ inr (In-filter_source p xs x (rw (cond-false (p y) (y ∷ filter p xs) (filter p xs) f) at h))
-    ]
-
-pub In-map : {X Y : Type 0} (f : X → Y) (x : X) (xs : List X) → In x xs → In (f x) (map f xs)
-In-map f x [] h = absurd h
-In-map f x (y ∷ xs) h = elim h [ inl e ↦ inl (ap f e) | inr t ↦ inr (In-map f x xs t) ]
+pub all_in : {X : Type 0} (P : X → Type 0) (xs : List X) → ((x : X) → In x xs → P x) → AllByRecursion P xs
+all_in P [] each = tt
+all_in P (x ∷ xs) each = (each x (inl refl), all_in P xs (λ y h. each y (inr h)))
 
 -- an element that passes a test
 pub any_source : {X : Type 0} (p : X → Bool) (xs : List X) → list_any p xs ≡ true → (x : X) × In x xs × (p x ≡ true)
@@ -76,13 +54,8 @@ any-In p (y ∷ xs) x h k = elim h [
 
 -- ---- sets
 
-pub equal : (r : Ordering) → is_eq r ≡ true → r ≡ Equal
-equal Less e = absurd (false≢true e)
-equal Equal e = refl
-equal Greater e = absurd (false≢true e)
-
 tied : (o p : Operation) → eq_by_cmp op_cmp o p ≡ true → o ≡ p
-tied o p e = op_cmp_exact o p (equal (op_cmp o p) e)
+tied o p e = op_cmp_exact o p ((Equal-is (op_cmp o p)).0 e)
 
 itself : (o : Operation) → eq_by_cmp op_cmp o o ≡ true
 itself o = ap is_eq (tied_itself op_cmp_total o)
@@ -126,16 +99,11 @@ set_of-has : (xs : List Operation) (o : Operation) → In o xs → Has (set_of x
 set_of-has xs o h = laws.contains-set_of op_cmp_total op_cmp_exact xs o ∙ any-In (eq_by_cmp op_cmp o) xs o h (itself o)
 
 pub Has-keep : (p : Operation → Bool) (s : Operations) (o : Operation) → Has (keep p s) o → Has s o
-Has-keep p s o h = Has-listed s o (In-filter_source p (listed s) o (Has-set_of (filter p (listed s)) o h))
+Has-keep p s o h = Has-listed s o ((In-filter_source p o (listed s) (Has-set_of (filter p (listed s)) o h)).0)
 
 pub keep-has : (p : Operation → Bool) (s : Operations) (o : Operation) → Has s o → p o ≡ true → Has (keep p s) o
-keep-has p s o h k = set_of-has (filter p (listed s)) o (In-filter p (listed s) o (In-listed s o h) k)
+keep-has p s o h k = set_of-has (filter p (listed s)) o (In-filter p o (listed s) (In-listed s o h) k)
 
 -- sets with the same operations are one
-both_ways : (a b : Bool) → (a ≡ true → b ≡ true) → (b ≡ true → a ≡ true) → a ≡ b
-both_ways true b to from = sym (to refl)
-both_ways false true to from = from refl
-both_ways false false to from = refl
-
 pub same_set : (s t : Operations) → ((o : Operation) → Has s o → Has t o) → ((o : Operation) → Has t o → Has s o) → s ≡ t
 same_set s t to from = laws.same_set op_cmp_total op_cmp_exact s t (λ o. both_ways (contains s o) (contains t o) (to o) (from o))

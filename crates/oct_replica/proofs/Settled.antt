@@ -1,6 +1,6 @@
 -- What is proved or refuted stays so when operations are added.
 use Rattle.std.proofs.Common.{◌≡◌, ℕ, ◌≤◌, Bool, true, false, cond, ◌||◌, ◌==◌, List, [], ◌∷◌, Option, Some, None, inl, inr, refl, sym, ap, ◌∙◌, subst, arith}
-use Rattle.std.specs.List.{All, AllByRecursion, Contains, filter_map, cons_option}
+use Rattle.std.specs.List.{All, Contains, filter_map, cons_option}
 use Rattle.std.proofs.lemmas.List.Elements.{All-from_recursion}
 use Rattle.std.proofs.lemmas.Bool.{cases_eq, eq-eqb, or_left}
 use Rattle.oct_code.specs.Code.{Code, code_eq}
@@ -19,7 +19,7 @@ use Rattle.oct_period.proofs.FarLaws as far
 use Rattle.oct_period.proofs.Statuses as claims
 use Rattle.oct_pages.specs.Catalogue.{block_in, blocks_of, claim_in, claims_of, if_some, under}
 use Rattle.oct_replica.specs.Settled.{AreValid, blocks_in, claims_in, SettledBlocksStay, SettledClaimsStay}
-use Rattle.oct_replica.proofs.Members.{In, In-among, among-In, In-map, Has-listed, In-listed}
+use Rattle.oct_replica.proofs.Members.{In, In-among, among-In, In-map, Has-listed, In-listed, all_in}
 
 -- ---- parts of lists
 
@@ -83,10 +83,6 @@ claim_is_valid c d (kind.Block b) q valid h = cc
 claim_is_valid c d (kind.Period p) q valid h = subst IsPeriod (claim_of_if c d (code_eq p.code c) p q h) valid
 claim_is_valid c d (kind.Note n) q valid h = cc
 claim_is_valid c d (kind.Removal r) q valid h = cc
-
-all_in : {X : Type 0} (P : X → Type 0) (xs : List X) → ((x : X) → In x xs → P x) → AllByRecursion P xs
-all_in P [] each = tt
-all_in P (x ∷ xs) each = (each x (inl refl), all_in P xs (λ y h. each y (inr h)))
 
 pub claims_later : (c : Code) (ops : Operations) → AreValid ops → All IsLater (claims_in c ops)
 claims_later c ops valid = All-from_recursion IsLater (claims_in c ops) (all_in IsLater (claims_in c ops) (λ p h.

@@ -8,10 +8,10 @@ use Rattle.oct_ops.specs.SetLaws.{listed-set_of}
 use Rattle.oct_delta.specs.Text.{Bytes, u32}
 use Rattle.oct_delta.specs.Delta.{IsDeltaText}
 use Rattle.oct_delta.specs.State.{IsState, state_tag}
+use Rattle.oct_delta.proofs.Deltas.{text_rising}
 use Rattle.oct_replica.specs.States.{has_tag, IsHeaded, RefusesState, RefusesList}
 use Rattle.oct_replica.specs.declared.error.LoadError.{LoadError}
 use Rattle.oct_replica.specs.declared.error.LoadError.TheVariants.{Version, Refused, OutOfMemory}
-use Rattle.oct_replica.proofs.Taking.{text_rising}
 
 tag_there : (rest : Bytes) → has_tag (state_tag ++ rest) ≡ true
 tag_there rest = refl

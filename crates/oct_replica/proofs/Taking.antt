@@ -5,7 +5,7 @@ use Rattle.std.specs.List.{list_all, list_any}
 use Rattle.std.specs.declared.cmp.Ordering.{Ordering}
 use Rattle.std.specs.declared.cmp.Ordering.TheVariants.{Less, Equal, Greater}
 use Rattle.std.specs.Ordering.{eq_by_cmp, is_lt}
-use Rattle.std.specs.Cmp.{Equal-is, tied_itself}
+use Rattle.std.specs.Cmp.{Equal-is, tied_itself, first_so, second_so}
 use Rattle.std.proofs.lemmas.Bool.{false≢true}
 use Rattle.std.proofs.lemmas.List.{take_more, length-append}
 use Rattle.std.proofs.lemmas.List.Elements.{filter-append}
@@ -14,12 +14,13 @@ use Rattle.oct_ops.specs.Operations.{contains, insert, listed, set_of, union}
 use Rattle.oct_ops.specs.Order.{op_cmp}
 use Rattle.oct_ops.specs.OrderLaws.{op_cmp_total, op_cmp_exact}
 use Rattle.oct_ops.specs.Sets.{rises}
-use Rattle.oct_ops.specs.SetLaws.{and_first, and_second, contains-set_of, contains-union, insert_comm, listed-set_of, union-insert, union-empty}
+use Rattle.oct_ops.specs.SetLaws.{contains-set_of, contains-union, insert_comm, listed-set_of, union-insert, union-empty}
 use Rattle.oct_replica.specs.Content.{ReplicaContent}
 use Rattle.oct_delta.specs.Text.{Bytes}
 use Rattle.oct_delta.specs.Delta.{IsDeltaText}
 use Rattle.oct_delta.specs.Decoding.{read_delta}
 use Rattle.oct_delta.specs.Taken.{operations_of, set_of_read}
+use Rattle.oct_delta.proofs.Deltas.{text_rising}
 use Rattle.oct_replica.specs.Taking.{with_all, unheld, count_new, IsCut, IsCutBy, LeavesAt}
 use Rattle.oct_replica.specs.declared.error.TakeError.{TakeError}
 use Rattle.oct_replica.specs.declared.error.TakeError.TheVariants.{Version, Refused, OutOfMemory}
@@ -42,15 +43,15 @@ apart x y below = by (eq_by_cmp op_cmp x y) refl
 
 all_at : (y : Operation) (xs : List Operation) (i : ℕ) (x : Operation) → list_all (λ z. is_lt (op_cmp y z)) xs ≡ true → i < length xs → x ≡ get_or xs i x → is_lt (op_cmp y x) ≡ true
 all_at y [] i x h lt is = absurd (omega (arith, lt))
-all_at y (z ∷ xs) zero x h lt is = ap (λ w. is_lt (op_cmp y w)) is ∙ and_first _ _ h
-all_at y (z ∷ xs) (suc i) x h lt is = all_at y xs i x (and_second (is_lt (op_cmp y z)) _ h) (omega (arith, lt)) is
+all_at y (z ∷ xs) zero x h lt is = ap (λ w. is_lt (op_cmp y w)) is ∙ first_so _ _ h
+all_at y (z ∷ xs) (suc i) x h lt is = all_at y xs i x (second_so (is_lt (op_cmp y z)) _ h) (omega (arith, lt)) is
 
 none_before : (xs : List Operation) (i : ℕ) (x : Operation) → rises op_cmp xs ≡ true → i < length xs → x ≡ get_or xs i x → list_any (eq_by_cmp op_cmp x) (take i xs) ≡ false
 none_before [] i x h lt is = absurd (omega (arith, lt))
 none_before (y ∷ xs) zero x h lt is = refl
 none_before (y ∷ xs) (suc i) x h lt is =
-    let here = apart x y (all_at y xs i x (and_first (list_all (λ z. is_lt (op_cmp y z)) xs) (rises op_cmp xs) h) (omega (arith, lt)) is) in
-    let later = none_before xs i x (and_second (list_all (λ z. is_lt (op_cmp y z)) xs) (rises op_cmp xs) h) (omega (arith, lt)) is in
+    let here = apart x y (all_at y xs i x (first_so (list_all (λ z. is_lt (op_cmp y z)) xs) (rises op_cmp xs) h) (omega (arith, lt)) is) in
+    let later = none_before xs i x (second_so (list_all (λ z. is_lt (op_cmp y z)) xs) (rises op_cmp xs) h) (omega (arith, lt)) is in
     λ j. here j || later j
 
 -- ---- the first so many
@@ -162,10 +163,6 @@ none_taken r list = record { within = omega arith; held = ap (λ s. record { aut
 pub text_few : (bytes : Bytes) (ops : List Operation) → IsDeltaText bytes ops → length ops < 2 ^ 32
 text_few bytes ops (inl d) = d.list.few
 text_few bytes ops (inr d) = d.list.few
-
-pub text_rising : (bytes : Bytes) (ops : List Operation) → IsDeltaText bytes ops → rises op_cmp ops ≡ true
-text_rising bytes ops (inl d) = d.list.rising
-text_rising bytes ops (inr d) = d.list.rising
 
 pub read_set : (bytes : Bytes) (ops : List Operation) → read_delta bytes ≡ Some ops → operations_of bytes ≡ set_of ops
 read_set bytes ops read = ap set_of_read read

@@ -16,7 +16,7 @@ use oct_ops::OpList;
 use std::alloc::{AllocError, Allocator};
 
 /// Appends the text of an author and its list. After a refusal what was there before is at the front.
-#[tactic(auto, using(crate::proofs::Written::keeps_then))]
+#[tactic(auto, using(oct_delta::proofs::Written::keeps_then))]
 pub(crate) fn put_state<A: Allocator>(
     out: &mut Vec<u8, A>,
     author: u32,
@@ -41,7 +41,7 @@ fn put_author<A: Allocator>(out: &mut Vec<u8, A>, author: u32) -> Result<(), All
 }
 
 // Appends the bytes.
-#[tactic(auto, using(crate::proofs::Written::keeps_same, crate::proofs::Written::keeps_more))]
+#[tactic(auto, using(oct_delta::proofs::Written::keeps_same, oct_delta::proofs::Written::keeps_more))]
 fn put_bytes<A: Allocator>(out: &mut Vec<u8, A>, bytes: &[u8]) -> Result<(), AllocError>
     ensures ok { OnOk result (out.new.items ≡ out.old.items ++ bytes.now) }
     ensures kept { Keeps out.old.items out.new.items }

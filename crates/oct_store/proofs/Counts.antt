@@ -6,8 +6,9 @@ use Rattle.std.specs.List.{fold, filter, list_all, AllByRecursion}
 use Rattle.std.specs.Ordering.{nat_cmp, eq_by_cmp, is_lt, is_gt, ordering_then}
 use Rattle.std.specs.declared.cmp.Ordering.{Ordering}
 use Rattle.std.specs.declared.cmp.Ordering.TheVariants.{Less, Equal, Greater}
-use Rattle.std.specs.Cmp.{nat_cmp_total, eq_by_cmp_equiv, unsigned_tied, tied_then}
+use Rattle.std.specs.Cmp.{nat_cmp_total, eq_by_cmp_equiv, unsigned_tied, tied_then, first_so, second_so}
 use Rattle.std.specs.FinMap.{nat_cmp-IsAntisymmetric}
+use Rattle.oct_code.specs.Tests.{not_above}
 use Rattle.oct_ops.specs.Arranged.{arranged}
 use Rattle.oct_ops.specs.Body.{Operation}
 use Rattle.oct_ops.specs.DotOrder.{dot_cmp}
@@ -15,7 +16,6 @@ use Rattle.oct_ops.specs.Operation.{Dot}
 use Rattle.oct_ops.specs.Order.{op_cmp}
 use Rattle.oct_ops.specs.OrderLaws.{dot_cmp_total, dot_cmp_exact}
 use Rattle.oct_ops.specs.Sets.{rises}
-use Rattle.oct_ops.specs.SetLaws.{and_first, and_second}
 use Rattle.oct_join.specs.Clock.{Clock, empty, through as known, raised}
 use Rattle.oct_store.specs.Summary.{numbers_of, last, through, positive, dots, contents}
 use Rattle.oct_store.specs.Rows.{author_rows, fork_rows, fork_or_none, unseen, with_number, uncounted, with_content}
@@ -27,11 +27,6 @@ use Rattle.oct_store.proofs.Throughs.{run, step, run_is_clock, known_here, known
 
 -- ---- operations in order are in the order of their dots, and of their authors
 
-not_past : (a b : Ordering) → is_lt (ordering_then a b) ≡ true → is_gt a ≡ false
-not_past Less b h = refl
-not_past Equal b h = refl
-not_past Greater b h = cc
-
 not_past_first : (a b : Ordering) → is_gt (ordering_then a b) ≡ false → is_gt a ≡ false
 not_past_first Less b h = refl
 not_past_first Equal b h = refl
@@ -40,17 +35,17 @@ not_past_first Greater b h = cc
 module _ {K : Type 0} (R : K → K → Ordering) (key : Operation → K) (kept : (o p : Operation) → is_lt (op_cmp o p) ≡ true → is_gt (R (key o) (key p)) ≡ false) where
   least_of : (o : Operation) (ops : List Operation) → list_all (λ p. is_lt (op_cmp o p)) ops ≡ true → AllByRecursion (λ p. is_gt (R (key o) (key p)) ≡ false) ops
   least_of o [] h = tt
-  least_of o (p ∷ ops) h = (kept o p (and_first _ _ h), least_of o ops (and_second (is_lt (op_cmp o p)) _ h))
+  least_of o (p ∷ ops) h = (kept o p (first_so _ _ h), least_of o ops (second_so (is_lt (op_cmp o p)) _ h))
 
   ordered_of : {G : Type 0} (name : G → K) (blank : K → G) (grow : G → Operation → G) (ops : List Operation) → rises op_cmp ops ≡ true → Ordered R key name blank grow ops
   ordered_of name blank grow [] h = tt
-  ordered_of name blank grow (o ∷ ops) h = (least_of o ops (and_first _ _ h), ordered_of name blank grow ops (and_second (list_all (λ p. is_lt (op_cmp o p)) ops) _ h))
+  ordered_of name blank grow (o ∷ ops) h = (least_of o ops (first_so _ _ h), ordered_of name blank grow ops (second_so (list_all (λ p. is_lt (op_cmp o p)) ops) _ h))
 
 by_author : (o p : Operation) → is_lt (op_cmp o p) ≡ true → is_gt (nat_cmp o.dot.author p.dot.author) ≡ false
-by_author o p h = not_past_first (nat_cmp o.dot.author p.dot.author) _ (not_past (dot_cmp o.dot p.dot) _ h)
+by_author o p h = not_past_first (nat_cmp o.dot.author p.dot.author) _ (not_above (dot_cmp o.dot p.dot) _ h)
 
 by_dot : (o p : Operation) → is_lt (op_cmp o p) ≡ true → is_gt (dot_cmp o.dot p.dot) ≡ false
-by_dot o p h = not_past (dot_cmp o.dot p.dot) _ h
+by_dot o p h = not_above (dot_cmp o.dot p.dot) _ h
 
 -- ---- authors
 

@@ -6,7 +6,7 @@ use Rattle.std.specs.Ordering.{nat_cmp, eq_by_cmp}
 use Rattle.std.specs.Cmp.{nat_cmp_total, unsigned_tied, Equal-is}
 use Rattle.std.specs.FinMap as finmap
 use Rattle.std.specs.FinMap.{nat_cmp-IsAntisymmetric}
-use Rattle.std.proofs.lemmas.Bool.{eqb-true}
+use Rattle.std.proofs.lemmas.Bool.{eqb-true, and_from, and_parts, or_left, or_right}
 use Rattle.std.proofs.lemmas.Bool.Decides.{nat_tests}
 use Rattle.oct_ops.specs.Arranged.{arranged}
 use Rattle.oct_ops.specs.Body.{Operation}
@@ -16,7 +16,7 @@ use Rattle.oct_join.specs.Clock.{Clock}
 use Rattle.oct_join.specs.ClockLaws.{find-each, same_clock}
 use Rattle.oct_store.specs.Laws.{IsLast}
 use Rattle.oct_store.specs.Summary.{has_dot, numbers_of, last, through, authors, clock_of, positive, IsClockOf}
-use Rattle.oct_store.proofs.Throughs.{and_pair, and_true, or_first, or_second, at_most_last, is_through}
+use Rattle.oct_store.proofs.Throughs.{at_most_last, is_through}
 
 -- the greatest number of those from a start on is the start or a number of the author
 among : (ops : List Operation) (author start : ℕ) → (fold max start (numbers_of ops author) ≡ start) ⊎ (has_dot ops author (fold max start (numbers_of ops author)) ≡ true)
@@ -26,11 +26,11 @@ among (o ∷ ops) author start =
       | true ↦ λ own. elim (among ops author (max start o.dot.number)) [
         | inl same ↦ elim (nat_le o.dot.number start) as (λ b. nat_le o.dot.number start ≡ b → (fold max (max start o.dot.number) (numbers_of ops author) ≡ start) ⊎ (has_dot (o ∷ ops) author (fold max (max start o.dot.number) (numbers_of ops author)) ≡ true)) [
           | true ↦ λ low. inl (grind (arith, same, low))
-          | false ↦ λ high. let is : o.dot.number ≡ fold max (max start o.dot.number) (numbers_of ops author) = grind (arith, same, high) in inr (or_first _ _ (and_true _ _ own (eq-eqb _ _ is)))
+          | false ↦ λ high. let is : o.dot.number ≡ fold max (max start o.dot.number) (numbers_of ops author) = grind (arith, same, high) in inr (or_left _ _ (and_from _ _ own (eq-eqb _ _ is)))
         ] refl
-        | inr later ↦ inr (or_second _ _ later)
+        | inr later ↦ inr (or_right _ _ later)
       ]
-      | false ↦ λ _. elim (among ops author start) [ inl same ↦ inl same | inr later ↦ inr (or_second _ _ later) ]
+      | false ↦ λ _. elim (among ops author start) [ inl same ↦ inl same | inr later ↦ inr (or_right _ _ later) ]
     ] refl
 
 pub is_last : (ops : List Operation) (author : ℕ) → IsLast ops author (last ops author)
@@ -52,7 +52,7 @@ any-filter p q (k ∷ ks) =
     ] refl
   where
     here : (b : Bool) → eq_by_cmp nat_cmp q k ≡ true → list_any (eq_by_cmp nat_cmp q) (filter p ks) ≡ (b && list_any (eq_by_cmp nat_cmp q) ks) → list_any (eq_by_cmp nat_cmp q) (cond b (k ∷ filter p ks) (filter p ks)) ≡ (b && true)
-    here true tied rest = or_first _ _ tied
+    here true tied rest = or_left _ _ tied
     here false tied rest = rest
 
     there : (b : Bool) → eq_by_cmp nat_cmp q k ≡ false → list_any (eq_by_cmp nat_cmp q) (cond b (k ∷ filter p ks) (filter p ks)) ≡ list_any (eq_by_cmp nat_cmp q) (filter p ks)
@@ -72,7 +72,7 @@ has_author (o ∷ ops) q n h =
       | true ↦ λ _. refl
       | false ↦ λ apart. has_author ops q n (elim ((o.dot.author == q) && (o.dot.number == n)) as (λ b. ((o.dot.author == q) && (o.dot.number == n)) ≡ b → (b || has_dot ops q n) ≡ true → has_dot ops q n ≡ true) [
         | true ↦ λ own _.
-            let same : o.dot.author ≡ q = eqb-true o.dot.author q (and_pair (o.dot.author == q) (o.dot.number == n) own).0 in
+            let same : o.dot.author ≡ q = eqb-true o.dot.author q (and_parts (o.dot.author == q) (o.dot.number == n) own).0 in
             let tied : eq_by_cmp nat_cmp q o.dot.author ≡ true = unsigned_tied q o.dot.author ∙ eq-eqb q o.dot.author (sym same) in
             let clash : true ≡ false = sym tied ∙ apart in cc
         | false ↦ λ _ later. later

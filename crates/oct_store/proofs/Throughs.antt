@@ -1,18 +1,18 @@
 -- A clock that is raised by each operation that is next of its author.
 use Rattle.std.proofs.Common.{arith, ◌≡◌, ℕ, zero, suc, ◌+◌, ◌-◌, ◌<◌, ◌≤◌, ◌==◌, max, Bool, true, false, ◌&&◌, ◌||◌, cond, List, [], ◌∷◌, ◌++◌, Some, None, refl, sym, ap, ◌∙◌, subst, append_assoc, eq-eqb}
 use Rattle.std.specs.Prelude.{unwrap_or}
-use Rattle.std.proofs.lemmas.Bool.{ne_eqb, eqb-true, eqb-false}
+use Rattle.std.proofs.lemmas.Bool.{ne_eqb, eqb-true, eqb-false, and_from, and_parts, or_from, or_left, or_right, false_from_ne_true}
 use Rattle.std.proofs.lemmas.List.{append-nil}
 use Rattle.std.specs.List.{fold, filter, list_all, list_any}
 use Rattle.std.specs.Ordering.{nat_cmp, is_lt, eq_by_cmp, ordering_then}
 use Rattle.std.specs.declared.cmp.Ordering.{Ordering}
-use Rattle.std.specs.Cmp.{unsigned_tied, nat_cmp_is}
+use Rattle.std.specs.Cmp.{unsigned_tied, nat_cmp_is, first_so, second_so}
 use Rattle.std.specs.declared.cmp.Ordering.TheVariants.{Less, Equal, Greater}
 use Rattle.std.specs.FinMap as finmap
+use Rattle.std.proofs.Math.Bool.{or_assoc, or-false}
 use Rattle.oct_ops.specs.Body.{Operation}
 use Rattle.oct_ops.specs.Order.{op_cmp}
 use Rattle.oct_ops.specs.Sets.{rises}
-use Rattle.oct_ops.specs.SetLaws.{and_first, and_second}
 use Rattle.oct_join.specs.Clock.{Clock, empty, through as known, raised}
 use Rattle.oct_join.proofs.Merging.{get-raised}
 use Rattle.oct_store.specs.Laws.{IsThrough}
@@ -57,10 +57,6 @@ grows : (numbers : List ℕ) (start : ℕ) → start ≤ fold max start numbers
 grows [] start = omega arith
 grows (n ∷ numbers) start = omega (arith, grows numbers (max start n))
 
-pub and_pair : (a b : Bool) → (a && b) ≡ true → (a ≡ true) × (b ≡ true)
-and_pair true b h = (refl, h)
-and_pair false b h = cc
-
 or_pair : (a b : Bool) (P : Type 0) → (a ≡ true → P) → (b ≡ true → P) → (a || b) ≡ true → P
 or_pair true b P f g h = f refl
 or_pair false b P f g h = g h
@@ -68,48 +64,20 @@ or_pair false b P f g h = g h
 pub at_most_last : (ops : List Operation) (author n start : ℕ) → has_dot ops author n ≡ true → n ≤ fold max start (numbers_of ops author)
 at_most_last [] author n start h = cc
 at_most_last (o ∷ ops) author n start h = elim (o.dot.author == author) as (λ b. (o.dot.author == author) ≡ b → n ≤ fold max start (Rattle.std.specs.Prelude.map (λ p. p.dot.number) (cond b (o ∷ filter (λ p. p.dot.author == author) ops) (filter (λ p. p.dot.author == author) ops)))) [
-  | true ↦ λ e. or_pair _ _ _ (λ here. omega (arith, eqb-true o.dot.number n (and_pair (o.dot.author == author) (o.dot.number == n) here).1, grows (numbers_of ops author) (max start o.dot.number))) (at_most_last ops author n (max start o.dot.number)) h
-  | false ↦ λ e. or_pair _ _ _ (λ here. absurd (clash (and_pair (o.dot.author == author) (o.dot.number == n) here).0 e)) (at_most_last ops author n start) h
+  | true ↦ λ e. or_pair _ _ _ (λ here. omega (arith, eqb-true o.dot.number n (and_parts (o.dot.author == author) (o.dot.number == n) here).1, grows (numbers_of ops author) (max start o.dot.number))) (at_most_last ops author n (max start o.dot.number)) h
+  | false ↦ λ e. or_pair _ _ _ (λ here. absurd (clash (and_parts (o.dot.author == author) (o.dot.number == n) here).0 e)) (at_most_last ops author n start) h
 ] refl
-
-pub not_true : (b : Bool) → (b ≡ true → ⊥) → b ≡ false
-not_true true h = absurd (h refl)
-not_true false h = refl
 
 pub is_through : (ops : List Operation) (author : ℕ) → IsThrough ops author (through ops author)
 is_through ops author =
     missing ops author (last ops author) 1 (omega arith) (λ i low high. absurd (omega (arith, low, high)))
-    (not_true _ (λ h. let most = at_most_last ops author (1 + last ops author) 0 h in absurd (omega (arith, most))))
+    (false_from_ne_true _ (λ h. let most = at_most_last ops author (1 + last ops author) 0 h in absurd (omega (arith, most))))
 
 -- ---- one more operation
 
-or_false : (a : Bool) → (a || false) ≡ a
-or_false true = refl
-or_false false = refl
-
-or_assoc : (a b c : Bool) → ((a || b) || c) ≡ (a || (b || c))
-or_assoc true b c = refl
-or_assoc false b c = refl
-
 any_push : (p : Operation → Bool) (done : List Operation) (o : Operation) → list_any p (done ++ o ∷ []) ≡ (list_any p done || p o)
-any_push p [] o = or_false (p o)
+any_push p [] o = or-false (p o)
 any_push p (d ∷ done) o = ap (λ b. p d || b) (any_push p done o) ∙ sym (or_assoc (p d) (list_any p done) (p o))
-
-pub or_first : (a b : Bool) → a ≡ true → (a || b) ≡ true
-or_first true b h = refl
-or_first false b h = cc
-
-pub or_second : (a b : Bool) → b ≡ true → (a || b) ≡ true
-or_second true b h = refl
-or_second false b h = h
-
-or_neither : (a b : Bool) → a ≡ false → b ≡ false → (a || b) ≡ false
-or_neither true b h k = cc
-or_neither false b h k = k
-
-pub and_true : (a b : Bool) → a ≡ true → b ≡ true → (a && b) ≡ true
-and_true true b h k = k
-and_true false b h k = cc
 
 module _ (done : List Operation) (o : Operation) where
   abbrev more : List Operation
@@ -119,14 +87,14 @@ module _ (done : List Operation) (o : Operation) where
   pushed a i = any_push (λ p. (p.dot.author == a) && (p.dot.number == i)) done o
 
   kept : (a i : ℕ) → has_dot done a i ≡ true → has_dot more a i ≡ true
-  kept a i h = pushed a i ∙ or_first _ _ h
+  kept a i h = pushed a i ∙ or_left _ _ h
 
   added : (a i : ℕ) → o.dot.author ≡ a → o.dot.number ≡ i → has_dot more a i ≡ true
-  added a i author number = pushed a i ∙ or_second (has_dot done a i) _ (and_true _ _ (eq-eqb o.dot.author a author) (eq-eqb o.dot.number i number))
+  added a i author number = pushed a i ∙ or_right (has_dot done a i) _ (and_from _ _ (eq-eqb o.dot.author a author) (eq-eqb o.dot.number i number))
 
   still_none : (a i : ℕ) → has_dot done a i ≡ false → (o.dot.author ≡ a → o.dot.number ≡ i → ⊥) → has_dot more a i ≡ false
   still_none a i h other =
-      pushed a i ∙ or_neither _ _ h (not_true _ (λ e. let pair = and_pair (o.dot.author == a) (o.dot.number == i) e in other (eqb-true _ _ pair.0) (eqb-true _ _ pair.1)))
+      pushed a i ∙ or_from _ _ h (false_from_ne_true _ (λ e. let pair = and_parts (o.dot.author == a) (o.dot.number == i) e in other (eqb-true _ _ pair.0) (eqb-true _ _ pair.1)))
 
   pub known_here : (t : Clock) (a n : ℕ) → 0 < n → known (raised t a n) a ≡ max n (known t a)
   known_here t a n positive = ap (λ x. unwrap_or x 0) (get-raised t a n positive a ∙ ap (λ b. cond b (Some (max n (known t a))) (finmap.get t a)) (unsigned_tied a a ∙ eq-eqb a a refl))
@@ -144,7 +112,7 @@ module _ (done : List Operation) (o : Operation) where
         | true ↦ λ e. added o.dot.author i refl (omega (arith, eqb-true i n e, same))
         | false ↦ λ e. let other = eqb-false i n e in kept o.dot.author i ((before o.dot.author).all i low (grind (arith, other, high, next)))
       ] refl;
-      gap = still_none o.dot.author (n + 1) (not_true _ (λ h. let most = top (n + 1) h in absurd (omega (arith, most, same)))) (λ author number. absurd (omega (arith, number, same)));
+      gap = still_none o.dot.author (n + 1) (false_from_ne_true _ (λ h. let most = top (n + 1) h in absurd (omega (arith, most, same)))) (λ author number. absurd (omega (arith, number, same)));
     }
 
     stepped : (b : Bool) → (known t o.dot.author + 1 == o.dot.number) ≡ b → (a : ℕ) → IsThrough more a (known (cond b (raised t o.dot.author o.dot.number) t) a)
@@ -164,8 +132,8 @@ module _ (done : List Operation) (o : Operation) where
 -- ---- operations in order
 
 all_at : (p : Operation → Bool) (done : List Operation) (o : Operation) (rest : List Operation) → list_all p (done ++ o ∷ rest) ≡ true → p o ≡ true
-all_at p [] o rest h = and_first _ _ h
-all_at p (d ∷ done) o rest h = all_at p done o rest (and_second (p d) _ h)
+all_at p [] o rest h = first_so _ _ h
+all_at p (d ∷ done) o rest h = all_at p done o rest (second_so (p d) _ h)
 
 not_after : (a b c : Ordering) → is_lt (ordering_then (ordering_then a b) c) ≡ true → a ≡ Equal → b ≡ Greater → ⊥
 not_after Less b c h e g = cc
@@ -183,10 +151,10 @@ earlier_numbers : (done : List Operation) (o : Operation) (rest : List Operation
 earlier_numbers [] o rest n rising h = cc
 earlier_numbers (d ∷ done) o rest n rising h =
     or_pair _ _ _
-    (λ here. let pair = and_pair (d.dot.author == o.dot.author) (d.dot.number == n) here in
-    let most = no_greater d o (all_at (λ p. is_lt (op_cmp d p)) done o rest (and_first _ _ rising)) (eqb-true d.dot.author o.dot.author pair.0) in
+    (λ here. let pair = and_parts (d.dot.author == o.dot.author) (d.dot.number == n) here in
+    let most = no_greater d o (all_at (λ p. is_lt (op_cmp d p)) done o rest (first_so _ _ rising)) (eqb-true d.dot.author o.dot.author pair.0) in
     omega (arith, most, eqb-true d.dot.number n pair.1))
-    (λ later. earlier_numbers done o rest n (and_second (list_all (λ p. is_lt (op_cmp d p)) (done ++ o ∷ rest)) _ rising) later) h
+    (λ later. earlier_numbers done o rest n (second_so (list_all (λ p. is_lt (op_cmp d p)) (done ++ o ∷ rest)) _ rising) later) h
 
 pub run_through : (t : Clock) (done rest : List Operation) → rises op_cmp (done ++ rest) ≡ true → ((a : ℕ) → IsThrough done a (known t a)) → (a : ℕ) → IsThrough (done ++ rest) a (known (run t rest) a)
 run_through t done [] rising before a = subst (λ ops. IsThrough ops a (known t a)) (sym (append-nil done)) (before a)

@@ -18,8 +18,6 @@ mod author;
 mod fork;
 pub mod laws;
 mod store;
-#[cfg(test)]
-mod tests;
 
 pub use author::Author;
 pub use fork::Fork;

@@ -1,10 +1,10 @@
 -- What the two sides of a session come to.
-use Rattle.std.proofs.Common.{◌≡◌, ◌⊎◌, inl, inr, ℕ, zero, suc, ◌+◌, ◌-◌, ◌≤◌, Bool, true, false, ◌||◌, cond, List, [], ◌∷◌, ◌++◌, length, take, drop, Option, Some, None, eqb, refl, sym, ap, ◌∙◌, subst, append_assoc, arith}
+use Rattle.std.proofs.Common.{◌≡◌, ◌⊎◌, inl, inr, ℕ, zero, suc, ◌+◌, ◌-◌, ◌≤◌, Bool, true, false, ◌||◌, List, [], ◌∷◌, ◌++◌, length, take, drop, Option, Some, None, eqb, refl, sym, ap, ◌∙◌, subst, append_assoc, arith}
 use Rattle.std.proofs.lemmas.Bool.{cases_Bool, eqb-true, not_from_false, or_cases}
 use Rattle.std.proofs.lemmas.List.{append-nil, length-drop, take-append-drop}
 use Rattle.std.proofs.lemmas.List.Elements.{All-from_recursion, All-head, All-drop, All-take}
 use Rattle.std.proofs.lemmas.List.Folds.{list_any-append}
-use Rattle.std.specs.List.{All, AllByRecursion, filter, fold}
+use Rattle.std.specs.List.{All, fold}
 use Rattle.std.specs.Ordering.{eq_by_cmp}
 use Rattle.oct_delta.specs.Clocks.{entries_bytes}
 use Rattle.oct_delta.specs.Delta.{encoded}
@@ -19,7 +19,7 @@ use Rattle.oct_ops.specs.Valid.{IsOp}
 use Rattle.oct_store.specs.Summary.{beyond, not_covered}
 use Rattle.oct_replica.specs.Settled.{AreValid}
 use Rattle.oct_replica.proofs.Authors.{clock-has}
-use Rattle.oct_replica.proofs.Members.{Has, Has-keep, Has-listed, In, In-listed, keep-has, same_set}
+use Rattle.oct_replica.proofs.Members.{Has, Has-keep, Has-listed, In, In-listed, keep-has, same_set, In-filter_source, all_in}
 use Rattle.oct_sync.specs.Driven.{after}
 use Rattle.oct_sync.specs.Exchange.{EachHoldsAll, EachIsAnswered, EachTakesMissing, HasNoForks, sent_clock}
 use Rattle.oct_sync.specs.Frames.{Frame, Split, delta_tag, end_frame, frame_bytes, pack_length, split_frames}
@@ -56,15 +56,8 @@ union_parts held xs ys = laws.union_assoc op_cmp_total op_cmp_exact held (set_of
 in_beyond : (s : Operations) (t : Clock) (o : Operation) → Has (beyond s t) o → Has s o
 in_beyond s t o h = Has-keep (not_covered t) s o h
 
-In-passes : (p : Operation → Bool) (xs : List Operation) (o : Operation) → In o (filter p xs) → p o ≡ true
-In-passes p [] o h = absurd h
-In-passes p (x ∷ xs) o h = elim (p x) as (λ b. p x ≡ b → In o (cond b (x ∷ filter p xs) (filter p xs)) → p o ≡ true) [
-  | true ↦ λ pass here. elim here [ inl e ↦ ap p e ∙ pass | inr later ↦ In-passes p xs o later ]
-  | false ↦ λ _ later. In-passes p xs o later
-] refl h
-
 passes : (s : Operations) (t : Clock) (o : Operation) → Has (beyond s t) o → not_covered t o ≡ true
-passes s t o h = In-passes (not_covered t) (listed s) o (subst (In o) (laws.listed-keep op_cmp_total op_cmp_exact (not_covered t) s) (In-listed (beyond s t) o h))
+passes s t o h = (In-filter_source (not_covered t) o (listed s) (subst (In o) (laws.listed-keep op_cmp_total op_cmp_exact (not_covered t) s) (In-listed (beyond s t) o h))).1
 
 beyond_has : (s : Operations) (t : Clock) (o : Operation) → Has s o → not_covered t o ≡ true → Has (beyond s t) o
 beyond_has s t o h k = keep-has (not_covered t) s o h k
@@ -115,10 +108,6 @@ all_held held others valid single = same_set _ _ to from
     ]
 
 -- ---- deltas
-
-all_in : (P : Operation → Type 0) (xs : List Operation) → ((o : Operation) → In o xs → P o) → AllByRecursion P xs
-all_in P [] h = tt
-all_in P (x ∷ xs) h = (h x (inl refl), all_in P xs (λ o is. h o (inr is)))
 
 each_valid : (s : Operations) → AreValid s → All IsOp (listed s)
 each_valid s valid = All-from_recursion IsOp (listed s) (all_in IsOp (listed s) (λ o is. valid o (Has-listed s o is)))

@@ -1,25 +1,25 @@
 -- Operations that are gathered, and sent whenever one more may not follow.
 use Rattle.std.proofs.Common.{◌≡◌, ℕ, zero, suc, ◌+◌, ◌-◌, ◌≤◌, Bool, true, false, ◌&&◌, List, [], ◌∷◌, ◌++◌, length, take, drop, leb, cond, refl, sym, ap, ◌∙◌, subst, append_assoc, arith}
 use Rattle.std.proofs.Math.Seq.{take-append_seam, drop-append_seam}
-use Rattle.std.proofs.lemmas.Bool.{le-leb, leb-true}
+use Rattle.std.proofs.lemmas.Bool.{le-leb, leb-true, and_from}
 use Rattle.std.proofs.lemmas.List.{append-nil, length-append}
 use Rattle.std.proofs.lemmas.List.Concat.{flat_map-append}
 use Rattle.std.proofs.lemmas.List.Folds.{list_all-append}
 use Rattle.std.specs.Ordering.{is_lt}
 use Rattle.std.specs.List.{flat_map, list_all, prefix_len}
+use Rattle.std.specs.Cmp.{first_so, second_so}
 use mathlib.Core.Bool.{beq}
 use Rattle.oct_delta.specs.Delta.{encoded}
 use Rattle.oct_delta.specs.Text.{Bytes, op_bytes}
 use Rattle.oct_delta.specs.Writing.{Keeps}
+use Rattle.oct_delta.proofs.Written.{keeps_same, keeps_more, keeps_then}
 use Rattle.oct_ops.specs.Body.{Operation}
 use Rattle.oct_ops.specs.Limits.{keeps_old_limits}
 use Rattle.oct_ops.specs.Operations.{IsRising}
 use Rattle.oct_ops.specs.Order.{op_cmp}
-use Rattle.oct_ops.specs.SetLaws.{and_both, and_first, and_second}
 use Rattle.oct_ops.specs.Sets.{rises}
 use Rattle.oct_sync.specs.Frames.{fitting, alike, pack_room, pack_length, packs_within, frame_bytes, delta_tag, delta_frames}
 use Rattle.oct_sync.specs.Packs.{pack_frame, may_follow, AreAlike, IsPack}
-use Rattle.oct_sync.proofs.Written.{keeps_same, keeps_more, keeps_then}
 
 abbrev pub size_of : List Operation → ℕ
 size_of ops = length (flat_map op_bytes ops)
@@ -45,8 +45,8 @@ fitting-append room (o ∷ pack) rest h =
 prefix-append : (test : Operation → Bool) (pack rest : List Operation) → list_all test pack ≡ true → prefix_len test (pack ++ rest) ≡ length pack + prefix_len test rest
 prefix-append test [] rest h = omega arith
 prefix-append test (o ∷ pack) rest h =
-    let more = prefix-append test pack rest (and_second (test o) (list_all test pack) h) in
-    let one : test o ≡ true = and_first (test o) (list_all test pack) h in
+    let more = prefix-append test pack rest (second_so (test o) (list_all test pack) h) in
+    let one : test o ≡ true = first_so (test o) (list_all test pack) h in
     let count : 1 + (length pack + prefix_len test rest) ≡ length (o ∷ pack) + prefix_len test rest = omega arith in
     ap (λ b. cond b (1 + prefix_len test (pack ++ rest)) 0) one ∙ ap (λ n. 1 + n) more ∙ count
 
@@ -100,14 +100,14 @@ no_pack (suc fuel) = refl
 pub rises_first : (xs ys : List Operation) → IsRising (xs ++ ys) → IsRising xs
 rises_first [] ys h = refl
 rises_first (x ∷ xs) ys h =
-    let below : list_all (λ y. is_lt (op_cmp x y)) (xs ++ ys) ≡ true = and_first _ (rises op_cmp (xs ++ ys)) h in
-    and_both (list_all (λ y. is_lt (op_cmp x y)) xs) (rises op_cmp xs)
-    (and_first _ (list_all (λ y. is_lt (op_cmp x y)) ys) (sym (list_all-append (λ y. is_lt (op_cmp x y)) xs ys) ∙ below))
-    (rises_first xs ys (and_second (list_all (λ y. is_lt (op_cmp x y)) (xs ++ ys)) (rises op_cmp (xs ++ ys)) h))
+    let below : list_all (λ y. is_lt (op_cmp x y)) (xs ++ ys) ≡ true = first_so _ (rises op_cmp (xs ++ ys)) h in
+    and_from (list_all (λ y. is_lt (op_cmp x y)) xs) (rises op_cmp xs)
+    (first_so _ (list_all (λ y. is_lt (op_cmp x y)) ys) (sym (list_all-append (λ y. is_lt (op_cmp x y)) xs ys) ∙ below))
+    (rises_first xs ys (second_so (list_all (λ y. is_lt (op_cmp x y)) (xs ++ ys)) (rises op_cmp (xs ++ ys)) h))
 
 pub rises_second : (xs ys : List Operation) → IsRising (xs ++ ys) → IsRising ys
 rises_second [] ys h = h
-rises_second (x ∷ xs) ys h = rises_second xs ys (and_second (list_all (λ y. is_lt (op_cmp x y)) (xs ++ ys)) (rises op_cmp (xs ++ ys)) h)
+rises_second (x ∷ xs) ys h = rises_second xs ys (second_so (list_all (λ y. is_lt (op_cmp x y)) (xs ++ ys)) (rises op_cmp (xs ++ ys)) h)
 
 -- ---- the loop
 
@@ -152,12 +152,12 @@ gathered ops pack rest more o old now next may short g =
     grows : (pack : List Operation) (o : Operation) → IsPack pack → may_follow pack o ≡ true → length (op_bytes o) ≤ pack_room → IsPack (pack ++ o ∷ [])
     grows [] o is may short = record { fits = let size = sized [] o in omega (arith, size, short); alike = refl }
     grows (p ∷ pack) o is may short =
-        let room : length (op_bytes o) ≤ pack_room - size_of (p ∷ pack) = leb-true (length (op_bytes o)) (pack_room - size_of (p ∷ pack)) (and_second (as_first p o) _ may) in
+        let room : length (op_bytes o) ≤ pack_room - size_of (p ∷ pack) = leb-true (length (op_bytes o)) (pack_room - size_of (p ∷ pack)) (second_so (as_first p o) _ may) in
         let size = sized (p ∷ pack) o in
         let fits = is.fits in
         record {
           fits = omega (arith, size, room, fits);
-          alike = list_all-append (as_first p) pack (o ∷ []) ∙ and_both (list_all (as_first p) pack) (list_all (as_first p) (o ∷ [])) is.alike (and_both (as_first p o) true (and_first (as_first p o) _ may) refl);
+          alike = list_all-append (as_first p) pack (o ∷ []) ∙ and_from (list_all (as_first p) pack) (list_all (as_first p) (o ∷ [])) is.alike (and_from (as_first p o) true (first_so (as_first p o) _ may) refl);
         }
 
 -- what is gathered is sent, since the next operation may not follow

@@ -1,24 +1,26 @@
 -- The clock frame of valid operations is read as the clock that was sent.
 use Rattle.std.proofs.Common.{◌≡◌, ℕ, zero, suc, ◌+◌, ◌<◌, ◌≤◌, Bool, true, false, cond, List, [], ◌∷◌, length, take, Some, None, refl, sym, ap, ◌∙◌, subst, arith}
-use Rattle.std.specs.Prelude.{T, unwrap_or}
+use Rattle.std.specs.Prelude.{unwrap_or}
 use Rattle.std.specs.FinMap as finmap
 use Rattle.std.specs.FinMap.{find, is_sorted, nat_cmp-IsAntisymmetric}
 use Rattle.std.specs.List.{All, AllByRecursion, list_all}
-use Rattle.std.specs.Cmp.{nat_cmp_total}
+use Rattle.std.specs.Cmp.{nat_cmp_total, Equal-is, first_so, second_so}
 use Rattle.std.specs.Ordering.{nat_cmp, is_eq, is_lt, eq_by_cmp}
 use Rattle.std.specs.declared.cmp.Ordering.{Ordering}
 use Rattle.std.specs.declared.cmp.Ordering.TheVariants.{Less, Equal, Greater}
 use Rattle.std.proofs.lemmas.Cmp.{tied_itself}
-use Rattle.std.proofs.lemmas.Bool.{leb-true, le-leb}
+use Rattle.std.proofs.lemmas.Bool.{leb-true, le-leb, and_from}
 use Rattle.std.proofs.lemmas.List.{length-take}
 use Rattle.std.proofs.lemmas.List.Elements.{All-from_recursion, All-take}
+use Rattle.std.proofs.lemmas.Float.{T_from_true}
+use Rattle.std.proofs.lemmas.Option.{none-some}
+use Rattle.oct_code.specs.Tests.{true_from_T}
 use Rattle.oct_delta.specs.Clocks.{IsClockText, entries_bytes, read_clock}
 use Rattle.oct_delta.proofs.ClockTexts.{clock_is_read, entries_again}
 use Rattle.oct_join.specs.Clock.{Clock, IsClock, IsEntry, covers, entries, through}
 use Rattle.oct_join.specs.Entries.{Entries}
 use Rattle.oct_ops.specs.Operation.{Dot}
 use Rattle.oct_ops.specs.Operations.{Operations, listed}
-use Rattle.oct_ops.specs.SetLaws.{and_both, and_first, and_second}
 use Rattle.oct_store.specs.Summary.{clock_of, positive, through as through_of}
 use Rattle.oct_store.proofs.Greatest.{clock_of-is}
 use Rattle.oct_store.proofs.Throughs.{is_through}
@@ -32,18 +34,10 @@ use Rattle.oct_sync.proofs.Written.{length-entries_bytes}
 
 -- ---- entries in order
 
-from_T : (b : Bool) → T b → b ≡ true
-from_T true h = refl
-from_T false h = absurd h
-
-to_T : (b : Bool) → b ≡ true → T b
-to_T true h = tt
-to_T false h = cc
-
 all-take : {X : Type 0} (p : X → Bool) (n : ℕ) (xs : List X) → list_all p xs ≡ true → list_all p (take n xs) ≡ true
 all-take p zero xs h = refl
 all-take p (suc n) [] h = refl
-all-take p (suc n) (x ∷ xs) h = and_both (p x) (list_all p (take n xs)) (and_first (p x) (list_all p xs) h) (all-take p n xs (and_second (p x) (list_all p xs) h))
+all-take p (suc n) (x ∷ xs) h = and_from (p x) (list_all p (take n xs)) (first_so (p x) (list_all p xs) h) (all-take p n xs (second_so (p x) (list_all p xs) h))
 
 abbrev above : ℕ → ℕ × ℕ → Bool
 above author f = is_lt (nat_cmp author f.0)
@@ -52,16 +46,16 @@ sorted-take : (n : ℕ) (es : Entries) → is_sorted nat_cmp es ≡ true → is_
 sorted-take zero es h = refl
 sorted-take (suc n) [] h = refl
 sorted-take (suc n) (e ∷ es) h =
-    and_both (list_all (above e.0) (take n es)) (is_sorted nat_cmp (take n es))
-    (all-take (above e.0) n es (and_first (list_all (above e.0) es) (is_sorted nat_cmp es) h)) (sorted-take n es (and_second (list_all (above e.0) es) (is_sorted nat_cmp es) h))
+    and_from (list_all (above e.0) (take n es)) (is_sorted nat_cmp (take n es))
+    (all-take (above e.0) n es (first_so (list_all (above e.0) es) (is_sorted nat_cmp es) h)) (sorted-take n es (second_so (list_all (above e.0) es) (is_sorted nat_cmp es) h))
 
 sorted_entries : (t : Clock) → is_sorted nat_cmp (entries t) ≡ true
-sorted_entries t = from_T _ (finmap.entries_sorted t)
+sorted_entries t = true_from_T _ (finmap.entries_sorted t)
 
 -- the clock of entries in order has these entries
 entries_of : (es : Entries) → is_sorted nat_cmp es ≡ true → entries (finmap.from_entries es) ≡ es
 entries_of es sorted =
-    let ordered = to_T _ sorted in
+    let ordered = T_from_true _ sorted in
     let same : finmap.from_entries es ≡ finmap.from_sorted es = finmap.same_map nat_cmp_total nat_cmp-IsAntisymmetric _ _ (λ q. finmap.get-from_entries nat_cmp_total es q ∙ sym (finmap.get-from_sorted nat_cmp es q ordered)) in
     ap entries same ∙ finmap.entries-from_sorted nat_cmp es ordered
 
@@ -72,31 +66,23 @@ apart Less h = refl
 apart Equal h = cc
 apart Greater h = refl
 
-equal : (o : Ordering) → is_eq o ≡ true → o ≡ Equal
-equal Less h = cc
-equal Equal h = refl
-equal Greater h = cc
-
-no_some : {X : Type 0} {x : X} → None ≡ Some x → ⊥
-no_some e = cc
-
 not_there : (author : ℕ) (es : Entries) → list_all (above author) es ≡ true → find nat_cmp author es ≡ None
 not_there author [] h = refl
 not_there author (e ∷ es) h =
-    ap (λ b. cond b (Some e.1) (find nat_cmp author es)) (apart (nat_cmp author e.0) (and_first (above author e) (list_all (above author) es) h))
-    ∙ not_there author es (and_second (above author e) (list_all (above author) es) h)
+    ap (λ b. cond b (Some e.1) (find nat_cmp author es)) (apart (nat_cmp author e.0) (first_so (above author e) (list_all (above author) es) h))
+    ∙ not_there author es (second_so (above author e) (list_all (above author) es) h)
 
 found_later : (author n : ℕ) (e : ℕ × ℕ) (es : Entries) → list_all (above e.0) es ≡ true → find nat_cmp author es ≡ Some n → find nat_cmp author (e ∷ es) ≡ Some n
 found_later author n e es h there = elim (eq_by_cmp nat_cmp author e.0) as (λ b. eq_by_cmp nat_cmp author e.0 ≡ b → cond b (Some e.1) (find nat_cmp author es) ≡ Some n) [
-  | true ↦ λ tied. absurd (no_some (sym (not_there e.0 es h) ∙ ap (λ a. find nat_cmp a es) (sym (nat_cmp-IsAntisymmetric author e.0 (equal (nat_cmp author e.0) tied))) ∙ there))
+  | true ↦ λ tied. absurd (none-some _ (sym (not_there e.0 es h) ∙ ap (λ a. find nat_cmp a es) (sym (nat_cmp-IsAntisymmetric author e.0 ((Equal-is (nat_cmp author e.0)).0 tied))) ∙ there))
   | false ↦ λ _. there
 ] refl
 
 each_entry : (es : Entries) → is_sorted nat_cmp es ≡ true → ((author n : ℕ) → find nat_cmp author es ≡ Some n → IsEntry (author, n)) → AllByRecursion IsEntry es
 each_entry [] sorted is = tt
 each_entry (e ∷ es) sorted is =
-    let below = and_first (list_all (above e.0) es) (is_sorted nat_cmp es) sorted in
-    (is e.0 e.1 (ap (λ b. cond b (Some e.1) (find nat_cmp e.0 es)) (ap is_eq (tied_itself nat_cmp_total e.0))), each_entry es (and_second (list_all (above e.0) es) (is_sorted nat_cmp es) sorted) (λ author n there. is author n (found_later author n e es below there)))
+    let below = first_so (list_all (above e.0) es) (is_sorted nat_cmp es) sorted in
+    (is e.0 e.1 (ap (λ b. cond b (Some e.1) (find nat_cmp e.0 es)) (ap is_eq (tied_itself nat_cmp_total e.0))), each_entry es (second_so (list_all (above e.0) es) (is_sorted nat_cmp es) sorted) (λ author n there. is author n (found_later author n e es below there)))
 
 -- ---- the clock of valid operations
 

@@ -1,6 +1,6 @@
 -- The packs of valid operations are read as they were written.
-use Rattle.std.proofs.Common.{◌≡◌, inl, inr, ℕ, zero, suc, ◌+◌, ◌-◌, ◌≤◌, Bool, true, false, cond, ltb, leb, ◌||◌, not, List, [], ◌∷◌, ◌++◌, length, take, Option, Some, None, refl, arith}
-use Rattle.std.proofs.lemmas.Bool.{leb-true, le-leb, ltb-false, and_parts}
+use Rattle.std.proofs.Common.{◌≡◌, inl, inr, ℕ, zero, suc, ◌+◌, ◌-◌, ◌≤◌, Bool, true, false, cond, ltb, leb, List, [], ◌∷◌, ◌++◌, length, take, Option, Some, None, refl, arith}
+use Rattle.std.proofs.lemmas.Bool.{leb-true, le-leb, ltb-false, and_parts, not-false, or_parts}
 use Rattle.std.proofs.lemmas.List.{length-append}
 use Rattle.std.proofs.lemmas.List.Elements.{All-weaker}
 use Rattle.std.specs.List.{All}
@@ -29,14 +29,6 @@ first_of : {E : Type 0} (a : Bool) (x : E) (r : Option E) → cond a (Some x) r 
 first_of true x r e = absurd cc
 first_of false x r e = (refl, e)
 
-not_false : (b : Bool) → not b ≡ false → b ≡ true
-not_false true e = refl
-not_false false e = cc
-
-or_false : (a b : Bool) → (a || b) ≡ false → (a ≡ false) × (b ≡ false)
-or_false true b e = absurd cc
-or_false false b e = (refl, e)
-
 block_small : (b : Block) → block_fault b ≡ None → (length b.values ≤ 1024) × (b.start + length b.values ≤ LIMIT)
 block_small b e =
     let some = first_of _ _ _ e in
@@ -48,15 +40,15 @@ period_small : (p : Period) → period_fault p ≡ None → (p.start ≤ LIMIT) 
 period_small p e =
     let some = first_of _ _ _ e in
     let low = first_of _ _ _ some.1 in
-    let both = or_false (ltb LIMIT p.start) (ltb LIMIT p.period) low.0 in
+    let both = or_parts (ltb LIMIT p.start) (ltb LIMIT p.period) low.0 in
     (ltb-false _ _ both.0, ltb-false _ _ both.1)
 
 note_small : (n : Note) → note_fault n ≡ None → (length n.name ≤ 32) × (length n.text ≤ 200)
 note_small n e =
     let name = first_of _ _ _ e in
     let text = first_of _ _ _ name.1 in
-    let named = and_parts _ _ (not_false (is_name n.name) name.0) in
-    let told = and_parts _ _ (not_false (is_text n.text) text.0) in
+    let named = and_parts _ _ (not-false (is_name n.name) name.0) in
+    let told = and_parts _ _ (not-false (is_text n.text) text.0) in
     (leb-true _ _ (and_parts _ _ named.0).1, leb-true _ _ told.0)
 
 removal_small : (r : Removal) → removal_fault r ≡ None → length r.dots ≤ 1024

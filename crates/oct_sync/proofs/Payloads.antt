@@ -3,6 +3,7 @@ use Rattle.std.proofs.Common.{◌≡◌, ℕ, zero, suc, leb, ◌+◌, ◌-◌, 
 use Rattle.std.specs.Prelude.{◌↔◌, IfSome, OnOk, OnErr, IsErrOf}
 use Rattle.std.proofs.lemmas.Bool.{leb-true, leb-false}
 use Rattle.std.proofs.lemmas.List.{append-nil, length-append, get_or_append_left}
+use Rattle.std.proofs.lemmas.Option.{none-some}
 use Rattle.oct_delta.specs.Bytes.{IsBytes}
 use Rattle.oct_delta.specs.Decoding.{format_at, read_as, read_delta}
 use Rattle.oct_delta.specs.Delta.{IsDeltaText}
@@ -10,6 +11,7 @@ use Rattle.oct_delta.specs.ReaderState.{HasTag, IsForeign, IsHopeless}
 use Rattle.oct_delta.specs.Text.{Bytes}
 use Rattle.oct_delta.specs.declared.error.DeltaError.{DeltaError}
 use Rattle.oct_delta.specs.declared.error.DeltaError.TheVariants as errors
+use Rattle.oct_delta.proofs.Deltas.{Law, read_none}
 use Rattle.oct_ops.specs.Body.{Operation}
 use Rattle.oct_ops.specs.Operations.{Operations, set_of, union}
 use Rattle.oct_sync.specs.Session.{Phase, Session, Point, fed, on_due, on_delta}
@@ -18,15 +20,6 @@ use Rattle.oct_sync.specs.Standing.{IsLost, IsRest, ended}
 use Rattle.oct_sync.specs.declared.error.SyncError.TheVariants as fault
 use Rattle.oct_sync.specs.declared.role.Role.{Role}
 use Rattle.oct_sync.proofs.Stepping.{HasPayload, has_payload, payload_is, delta_tagged, delta_whole, fed_whole}
-
-abbrev pub Law : Type 0
-Law = (bytes : Bytes) (ops : List Operation) → IsBytes bytes → (read_delta bytes ≡ Some ops) ↔ IsDeltaText bytes ops
-
-read_none : Law → (bytes : Bytes) → IsBytes bytes → ((ops : List Operation) → IsDeltaText bytes ops → ⊥) → read_delta bytes ≡ None
-read_none law bytes are none = elim (read_delta bytes) as (λ o. read_delta bytes ≡ o → o ≡ None) [
-  | None ↦ λ _. refl
-  | Some ops ↦ λ e. absurd (none ops ((law bytes ops are).0 e))
-] refl
 
 -- ---- bytes with more bytes after them
 
@@ -51,10 +44,7 @@ foreign_more (a ∷ b ∷ c ∷ d ∷ bytes) more h = refl
 foreign_hopeless : (bytes : Bytes) → IsForeign bytes → IsHopeless bytes
 foreign_hopeless bytes foreign more ops text =
     let none : format_at (bytes ++ more) ≡ None = foreign_more bytes more foreign.0 ∙ foreign.1 in
-    ⊎_elim (λ d. absurd (some_none (sym none ∙ ap format_at d.spelled))) (λ d. absurd (some_none (sym none ∙ ap format_at d.spelled))) text
-  where
-    some_none : {X : Type 0} {x : X} → None ≡ Some x → ⊥
-    some_none e = cc
+    ⊎_elim (λ d. absurd (none-some _ (sym none ∙ ap format_at d.spelled))) (λ d. absurd (none-some _ (sym none ∙ ap format_at d.spelled))) text
 
 hopeless_more : (bytes more : Bytes) → IsHopeless bytes → IsHopeless (bytes ++ more)
 hopeless_more bytes more h rest ops text = h (more ++ rest) ops (subst (λ z. IsDeltaText z ops) (append_assoc bytes more rest) text)
@@ -91,10 +81,7 @@ module _ (head : Bytes) (missing missing' : ℕ) (piece rest : Bytes) (counts : 
   fed_rest (Err errors.Version) (Some bytes) known' m counted ok version refused gone err is = subst (λ k. IsRest (kept_by head missing' k) (rest ++ piece)) (sym err) (lost bytes counted is (foreign_hopeless (bytes ++ piece) (version refl)))
   fed_rest (Err errors.Refused) (Some bytes) known' m counted ok version refused gone err is = subst (λ k. IsRest (kept_by head missing' k) (rest ++ piece)) (sym err) (lost bytes counted is (refused refl).1)
   fed_rest (Err errors.OutOfMemory) known known' m counted ok version refused gone err is = absurd (m refl)
-  fed_rest (Err errors.Failed) (Some bytes) known' m counted ok version refused gone err is = absurd (not_none (gone.0 refl))
-    where
-      not_none : {X : Type 0} {x : X} → Some x ≡ None → ⊥
-      not_none e = cc
+  fed_rest (Err errors.Failed) (Some bytes) known' m counted ok version refused gone err is = absurd (none-some _ (sym (gone.0 refl)))
   fed_rest (Err errors.Failed) None known' m counted ok version refused gone err is = subst (λ k. IsRest (kept_by head missing' k) (rest ++ piece)) (sym err) (record {
     payload = is.payload ++ piece;
     spelled = grown is.payload is.spelled;
@@ -150,8 +137,5 @@ end_err law role phase held sent r y head missing known e is_open front none res
     unread None front rest e version refused gone memory = read_none law rest.payload rest.bytes (λ ops text. rest.hopeless [] ops (subst (λ z. IsDeltaText z ops) (sym (append-nil rest.payload)) text))
     unread (Some bytes) front rest errors.Version version refused gone memory = ap (λ o. read_as o bytes) (version refl)
     unread (Some bytes) front rest errors.Refused version refused gone memory = read_none law bytes front.counted.1 (refused refl).1
-    unread (Some bytes) front rest errors.Failed version refused gone memory = absurd (not_none (gone refl))
-      where
-        not_none : {X : Type 0} {x : X} → Some x ≡ None → ⊥
-        not_none e = cc
+    unread (Some bytes) front rest errors.Failed version refused gone memory = absurd (none-some _ (sym (gone refl)))
     unread (Some bytes) front rest errors.OutOfMemory version refused gone memory = absurd (memory refl)

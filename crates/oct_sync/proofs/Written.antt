@@ -1,7 +1,7 @@
 -- Bytes at whose end something was added.
-use Rattle.std.proofs.Common.{◌≡◌, min, leb, true, false, ℕ, ◌+◌, ◌*◌, List, [], ◌∷◌, ◌++◌, length, take, drop, refl, sym, ap, ◌∙◌, append_assoc, eqb, arith}
+use Rattle.std.proofs.Common.{◌≡◌, min, leb, true, false, ℕ, ◌+◌, ◌*◌, List, [], ◌∷◌, ◌++◌, length, take, refl, sym, ap, ◌∙◌, append_assoc, eqb, arith}
 use Rattle.std.proofs.lemmas.Bool.{eqb-true, leb-true, leb-false}
-use Rattle.std.proofs.lemmas.List.{append-nil, take_at, take-append-drop, take_all}
+use Rattle.std.proofs.lemmas.List.{take_all}
 use Rattle.std.specs.Prelude.{if◌then◌else◌}
 use Rattle.std.specs.List.{flat_map, list_all}
 use Rattle.oct_delta.specs.Clocks.{entry_bytes, entries_bytes}
@@ -11,23 +11,6 @@ use Rattle.oct_ops.specs.Body.{Operation}
 use Rattle.oct_ops.specs.Limits.{keeps_old_limits}
 use Rattle.oct_sync.specs.Frames.{frame_bytes}
 use Rattle.oct_sync.specs.Packs.{pack_frame}
-use Rattle.oct_delta.specs.Writing.{Keeps}
-
-pub keeps_same : (old new : Bytes) → new ≡ old → Keeps old new
-keeps_same old new e = record { front = rw e (ap (take (length old)) (sym (append-nil old)) ∙ take_at old [] (length old) refl) }
-
-pub keeps_more : (old new more : Bytes) → new ≡ old ++ more → Keeps old new
-keeps_more old new more e = record { front = rw e (take_at old more (length old) refl) }
-
-abbrev rest_of : Bytes → Bytes → Bytes
-rest_of a b = drop (length a) b
-
-split : (a b : Bytes) → Keeps a b → b ≡ a ++ rest_of a b
-split a b k = sym (take-append-drop (length a) b) ∙ ap (λ (z : Bytes). z ++ rest_of a b) k.front
-
-pub keeps_then : (a b c : Bytes) → Keeps a b → Keeps b c → Keeps a c
-keeps_then a b c k l =
-    keeps_more a c (rest_of a b ++ rest_of b c) (split b c l ∙ ap (λ (z : Bytes). z ++ rest_of b c) (split a b k) ∙ append_assoc a (rest_of a b) (rest_of b c))
 
 pub length-entries : (es : List (ℕ × ℕ)) → length (flat_map entry_bytes es) ≡ 8 * length es
 length-entries [] = refl

@@ -46,7 +46,7 @@ fn rising<A: Allocator>(ops: Vec<Op<A>, A>) -> OpList<A>
 }
 
 // Adds a frame of these operations, whose texts have so many bytes, or none where there are none.
-#[tactic(auto, using(crate::proofs::Written::keeps_then))]
+#[tactic(auto, using(oct_delta::proofs::Written::keeps_then))]
 fn put_pack<A: Allocator>(
     out: &mut Vec<u8, A>,
     pack: Vec<Op<A>, A>,

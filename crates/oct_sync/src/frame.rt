@@ -21,7 +21,7 @@ pub(crate) const DELTA: u8 = 2;
 /// The tag of a frame that ends a side's operations.
 pub(crate) const END: u8 = 3;
 
-#[tactic(auto, using(crate::proofs::Written::keeps_same, crate::proofs::Written::keeps_more))]
+#[tactic(auto, using(oct_delta::proofs::Written::keeps_same, oct_delta::proofs::Written::keeps_more))]
 fn put_bytes<A: Allocator>(out: &mut Vec<u8, A>, bytes: &[u8]) -> Result<(), AllocError>
     ensures ok { OnOk result (out.new.items ≡ out.old.items ++ bytes.now) }
     ensures kept { Keeps out.old.items out.new.items }
@@ -37,7 +37,7 @@ fn put_u32<A: Allocator>(out: &mut Vec<u8, A>, number: u32) -> Result<(), AllocE
 }
 
 /// Adds the length and the tag of a frame whose payload has so many bytes.
-#[tactic(auto, using(crate::proofs::Written::keeps_then))]
+#[tactic(auto, using(oct_delta::proofs::Written::keeps_then))]
 pub(crate) fn put_head<A: Allocator>(
     out: &mut Vec<u8, A>,
     tag: u8,
@@ -51,7 +51,7 @@ pub(crate) fn put_head<A: Allocator>(
     put_bytes(out, &[tag])
 }
 
-#[tactic(auto, using(crate::proofs::Written::keeps_then))]
+#[tactic(auto, using(oct_delta::proofs::Written::keeps_then))]
 fn put_entry<A: Allocator>(out: &mut Vec<u8, A>, entry: (u32, u32)) -> Result<(), AllocError>
     ensures ok { OnOk result (out.new.items ≡ out.old.items ++ entry_bytes entry) }
     ensures kept { Keeps out.old.items out.new.items }
@@ -60,7 +60,7 @@ fn put_entry<A: Allocator>(out: &mut Vec<u8, A>, entry: (u32, u32)) -> Result<()
     put_u32(out, entry.1)
 }
 
-#[tactic(auto, using(crate::proofs::Written::keeps_then))]
+#[tactic(auto, using(oct_delta::proofs::Written::keeps_then))]
 fn put_entries<A: Allocator>(out: &mut Vec<u8, A>, entries: &[(u32, u32)]) -> Result<(), AllocError>
     ensures ok { OnOk result (out.new.items ≡ out.old.items ++ flat_map entry_bytes entries.now) }
     ensures kept { Keeps out.old.items out.new.items }
@@ -72,7 +72,7 @@ fn put_entries<A: Allocator>(out: &mut Vec<u8, A>, entries: &[(u32, u32)]) -> Re
 }
 
 /// Adds a clock frame of these authors with their numbers.
-#[tactic(auto, using(crate::proofs::Written::keeps_then))]
+#[tactic(auto, using(oct_delta::proofs::Written::keeps_then))]
 pub(crate) fn put_clock_frame<A: Allocator>(
     out: &mut Vec<u8, A>,
     entries: &[(u32, u32)],

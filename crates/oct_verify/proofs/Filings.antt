@@ -6,7 +6,8 @@ use Rattle.std.specs.Cmp.{Equal-is, tied_itself}
 use Rattle.std.specs.List.{AllPairs, Contains, insert, list_all}
 use Rattle.std.proofs.lemmas.List.Folds.{list_any_at, Any-from_list_any}
 use Rattle.std.proofs.lemmas.List.Sorted.{list_any-IsPermutation, IsPermutation-insert}
-use Rattle.oct_ops.specs.SetLaws.{same_set, contains-set_of, contains-insert, listed-set_of, and_both, insert_held}
+use Rattle.std.proofs.lemmas.Bool.{and_from}
+use Rattle.oct_ops.specs.SetLaws.{same_set, contains-set_of, contains-insert, listed-set_of, insert_held}
 use Rattle.oct_ops.specs.Sets as set
 use Rattle.oct_verify.specs.Filing.{Filing, Filings, filing_cmp}
 use Rattle.oct_verify.specs.FilingLaws.{filing_cmp_total, filing_cmp_exact}
@@ -36,12 +37,12 @@ insert_filed = insert_held filing_cmp_total filing_cmp_exact
 
 all-from : {X : Type 0} (p : X → Bool) (xs : List X) → ((k : ℕ) (d : X) → k < length xs → p (get_or xs k d) ≡ true) → list_all p xs ≡ true
 all-from p [] h = refl
-all-from p (x ∷ xs) h = and_both (p x) (list_all p xs) (h 0 x (omega arith)) (all-from p xs (λ k d lt. h (suc k) d (omega arith)))
+all-from p (x ∷ xs) h = and_from (p x) (list_all p xs) (h 0 x (omega arith)) (all-from p xs (λ k d lt. h (suc k) d (omega arith)))
 
 rises-pairs : (fs : List Filing) → AllPairs (λ f g. filing_cmp f g ≡ Less) fs → set.rises filing_cmp fs ≡ true
 rises-pairs [] h = refl
 rises-pairs (f ∷ fs) h =
-    and_both (list_all (λ g. is_lt (filing_cmp f g)) fs) (set.rises filing_cmp fs)
+    and_from (list_all (λ g. is_lt (filing_cmp f g)) fs) (set.rises filing_cmp fs)
     (all-from (λ g. is_lt (filing_cmp f g)) fs (λ k d lt. ap is_lt (h 0 (suc k) d (omega arith) (omega arith))))
     (rises-pairs fs (λ i j d lt within. h (suc i) (suc j) d (omega arith) (omega arith)))
 

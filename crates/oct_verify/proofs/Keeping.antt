@@ -7,7 +7,7 @@ use Rattle.std.proofs.lemmas.List.Elements.{AllWithin-more_set}
 use Rattle.std.proofs.lemmas.List.Edits.{length-insert}
 use Rattle.std.proofs.lemmas.List.Folds.{list_any_at, Any-from_list_any}
 use Rattle.std.proofs.lemmas.List.Sorted.{list_any-IsPermutation, IsPermutation-insert}
-use Rattle.std.proofs.lemmas.Bool.{cases_lt, or_left, or_right}
+use Rattle.std.proofs.lemmas.Bool.{cases_lt, or_left, or_right, false_from_ne_true}
 use Rattle.std.specs.Ordering.{nat_cmp, ordering_then, then_cmp, on}
 use Rattle.std.proofs.lemmas.Cmp.{ranked}
 use Rattle.oct_code.specs.Code.{Code}
@@ -22,7 +22,7 @@ use Rattle.oct_verify.specs.Known.{end, is_true, shows, is_shown, verdict, IsKno
 use Rattle.oct_verify.specs.declared.status.Status.{Status}
 use Rattle.oct_verify.specs.declared.status.Status.TheVariants.{Proved, Refuted, Pending}
 use Rattle.oct_verify.proofs.Filings.{set_of-insert}
-use Rattle.oct_verify.proofs.KnownLaws.{shows-place, shown-by, unshown}
+use Rattle.oct_verify.proofs.KnownLaws.{shows-place, shown-by}
 use Rattle.oct_verify.proofs.Lists.{AllWithin-insert, AllWithin-insert_before, AllWithin-insert_after, All-insert, AllPairs-insert, map-insert, AllWithin-set_before, map-set_same}
 use Rattle.oct_verify.proofs.Verdicts.{verdict_cases, proved, refuted, proved_from_true}
 
@@ -160,7 +160,7 @@ module _ (code : Code) where
   known_settled es settled known room h parked = record {
     some = h.positive;
     shown = h.covered;
-    greatest = unshown (is_shown (blocks_of es) known) (λ shown.
+    greatest = false_from_ne_true (is_shown (blocks_of es) known) (λ shown.
         let found = Any-from_list_any (shows known) (blocks_of es) shown in
         let b = found.1 in
         let by = shown-by b known found.4 in

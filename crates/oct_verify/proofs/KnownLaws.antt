@@ -1,7 +1,8 @@
 -- The known length is the greatest one, and grows with the blocks.
-use Rattle.std.proofs.Common.{◌≡◌, ℕ, zero, suc, ◌+◌, ◌<◌, ◌≤◌, ◌⊎◌, Bool, true, false, ◌&&◌, ◌||◌, nat_le, nat_lt, List, [], ◌∷◌, arith, subst, refl, sym, ap, ◌∙◌, inl, inr, leb-true, ltb-true}
-use Rattle.std.proofs.lemmas.Bool.{and_from, le-leb, lt-ltb, true≢false, cases_lt, lt-ltb, le-ltb}
+use Rattle.std.proofs.Common.{◌≡◌, ℕ, zero, suc, ◌+◌, ◌<◌, ◌≤◌, ◌⊎◌, Bool, true, false, nat_le, nat_lt, List, [], ◌∷◌, arith, subst, refl, sym, ap, ◌∙◌, inl, inr, leb-true, ltb-true}
+use Rattle.std.proofs.lemmas.Bool.{and_from, le-leb, lt-ltb, true≢false, cases_lt, lt-ltb, le-ltb, or_cases, false_from_ne_true}
 use Rattle.std.proofs.lemmas.List.Folds.{list_any_at, Any-from_list_any}
+use Rattle.std.specs.Cmp.{first_so, second_so}
 use Rattle.oct_ops.specs.Operation.{Block}
 use Rattle.oct_verify.specs.Known.{is_true, end, has_place, shows, is_shown, first_failing, reach, known, IsKnownLength, verdict}
 use Rattle.oct_verify.specs.Laws.{AreAmong, KnownLengthIsGreatest, KnownLengthIsOne, KnownLengthGrows, SettledStays}
@@ -34,36 +35,20 @@ found test (suc tries) n =
 pub shows-place : (b : Block) (n : ℕ) → b.start ≤ n → n < end b → is_true b ≡ true → shows n b ≡ true
 shows-place b n low high right = rw (and_from (nat_le b.start n) (nat_lt n (end b)) (le-leb b.start n low) (lt-ltb n (end b) high), shows) right
 
-second : (a b : Bool) → (a && b) ≡ true → b ≡ true
-second true b h = h
-second false b h = cc
-
-first : (a b : Bool) → (a && b) ≡ true → a ≡ true
-first true b h = refl
-first false b h = cc
-
 -- what shows a place is a true block that has it
 pub shown-by : (b : Block) (n : ℕ) → shows n b ≡ true → (b.start ≤ n) × (n < end b) × (is_true b ≡ true)
 shown-by b n = elim (has_place b n) as (λ c. has_place b n ≡ c → elim c [ true ↦ is_true b | false ↦ false ] ≡ true → (b.start ≤ n) × (n < end b) × (is_true b ≡ true)) [
-  | true ↦ λ has h. (leb-true b.start n (first (nat_le b.start n) (nat_lt n (end b)) has), ltb-true n (end b) (second (nat_le b.start n) (nat_lt n (end b)) has), h)
+  | true ↦ λ has h. (leb-true b.start n (first_so (nat_le b.start n) (nat_lt n (end b)) has), ltb-true n (end b) (second_so (nat_le b.start n) (nat_lt n (end b)) has), h)
   | false ↦ λ has h. absurd (true≢false (sym h))
 ] refl
-
-either : (a b : Bool) → (a || b) ≡ true → (a ≡ true) ⊎ (b ≡ true)
-either true b h = inl refl
-either false b h = inr h
 
 -- a place that is shown is below the reach
 shown_below : (blocks : List Block) (n : ℕ) → is_shown blocks n ≡ true → n < reach blocks
 shown_below [] n h = absurd (true≢false (sym h))
-shown_below (b ∷ blocks) n h = elim (either (shows n b) (is_shown blocks n) h) [
+shown_below (b ∷ blocks) n h = elim (or_cases (shows n b) (is_shown blocks n) h) [
   | inl here ↦ let below : n < end b = (shown-by b n here).1 in omega arith
   | inr later ↦ let below : n < reach blocks = shown_below blocks n later in omega arith
 ]
-
-pub unshown : (b : Bool) → (b ≡ true → ⊥) → b ≡ false
-unshown true f = absurd (f refl)
-unshown false f = refl
 
 pub shown_among : (some all : List Block) (n : ℕ) → AreAmong some all → is_shown some n ≡ true → is_shown all n ≡ true
 shown_among some all n among h =
@@ -82,7 +67,7 @@ known_is blocks =
       greatest = elim search.stop [
         | inl fails ↦ fails
         | inr spent ↦
-            unshown (is_shown blocks (known blocks)) (λ shown. let below : known blocks < reach blocks = shown_below blocks (known blocks) shown in omega (arith, spent))
+            false_from_ne_true (is_shown blocks (known blocks)) (λ shown. let below : known blocks < reach blocks = shown_below blocks (known blocks) shown in omega (arith, spent))
       ];
     }
 

@@ -13,6 +13,7 @@ use Rattle.oct_verify.specs.Filed.{Filed}
 use Rattle.oct_verify.specs.declared.status.Status.TheVariants.{Pending}
 use Rattle.std.specs.Cmp.{tied_itself}
 use Rattle.std.proofs.lemmas.Bool.{cases_lt, true≢false}
+use Rattle.oct_code.specs.Tests.{less_from_lt}
 use Rattle.oct_verify.proofs.Filings.{contains_from_filed, filed_from_contains}
 use Rattle.oct_verify.specs.FilingLaws.{filing_cmp_total, filing_cmp_exact}
 
@@ -25,11 +26,6 @@ AllWithin-listed P es low high le h k d lo hi = subst P (sym (get_or-map filing_
 
 turned : (f g : Filing) (r : Ordering) → filing_cmp g f ≡ r → filing_cmp f g ≡ ordering_reverse r
 turned f g r e = filing_cmp_total.antisymm f g ∙ ap ordering_reverse e
-
-less_from_lt : (r : Ordering) → is_lt r ≡ true → r ≡ Less
-less_from_lt Less e = refl
-less_from_lt Equal e = absurd (true≢false (sym e))
-less_from_lt Greater e = absurd (true≢false (sym e))
 
 greater_from_not : (r : Ordering) → is_lt r ≡ false → r ≢ Equal → r ≡ Greater
 greater_from_not Less e ne = absurd (true≢false e)

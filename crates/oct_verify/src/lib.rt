@@ -24,6 +24,3 @@ mod status;
 
 pub use ledger::Ledger;
 pub use status::Status;
-
-#[cfg(test)]
-mod tests;

@@ -1,7 +1,12 @@
-//! Tests of replicas and of sessions between them: worked cases, devices that fail, and what a call leaves where memory is
-//! refused, request by request. They stand here so that the proof of a library need not be done again for its tests.
+//! Tests of replicas, of sessions between them, and of what the program does with files and lines: worked cases, devices that
+//! fail, and what a call leaves where memory is refused, request by request. They stand here so that the proof of a
+//! library need not be done again for its tests.
 #![tactic(auto)]
 
+#[cfg(test)]
+mod commands;
+#[cfg(test)]
+mod fold;
 #[cfg(test)]
 mod replica;
 #[cfg(test)]

@@ -2,6 +2,7 @@
 
 mod driven;
 
+use crate::replica::shows;
 use metered::Metered;
 use oct_replica::Replica;
 use oct_sync::{MAX_READS, Progress, Role, Session, SyncError, drive};
@@ -115,7 +116,7 @@ fn session_of<A: Allocator + Copy>(
     }
 }
 
-// Feeds the bytes in pieces of so many, and gives the answer to the last.
+// Feeds the bytes in pieces of so many, and gives the answer to the last, or the first fault.
 fn feed_pieces<A: Allocator + Copy>(
     session: &mut Session<A>,
     replica: &mut Replica<A>,
@@ -123,17 +124,13 @@ fn feed_pieces<A: Allocator + Copy>(
     size: usize,
     out: &mut Vec<u8, A>,
 ) -> Result<Progress, SyncError> {
-    let mut progress = Progress::More;
+    let mut answer = Ok(Progress::More);
     for piece in bytes.chunks(size.max(1)) {
-        progress = session.feed(replica, piece, out)?;
+        if answer.is_ok() {
+            answer = session.feed(replica, piece, out);
+        }
     }
-    Ok(progress)
-}
-
-// Whether this is the replica's catalogue.
-fn shows<A: Allocator + Copy>(alloc: A, replica: &Replica<A>, wanted: &str) -> bool {
-    let mut text = Vec::new(alloc);
-    replica.catalogue(&mut text).is_ok() && text.as_slice() == wanted.as_bytes()
+    answer
 }
 
 /// What became of a session: the answer to the last piece and to an empty one after it, how many bytes it sent, whether
@@ -172,33 +169,74 @@ impl Outcome {
     }
 }
 
-// What becomes of a side to which these bytes come in pieces of so many, where so many requests for memory are granted.
-fn outcome_of(
+// What becomes of the replica's session, to which these bytes come in pieces of so many.
+fn outcome_on<A: Allocator + Copy>(
     heap: &Metered<Global>,
+    alloc: A,
+    replica: &mut Replica<A>,
+    side: &Side,
+    bytes: &[u8],
+    size: usize,
+) -> Result<Outcome, SyncError> {
+    let mut out = Vec::new(alloc);
+    match session_of(alloc, side.role, replica, &mut out) {
+        Ok(mut session) => {
+            let answer = feed_pieces(&mut session, replica, bytes, size, &mut out);
+            heap.arm(u64::MAX);
+            Ok(Outcome {
+                answer,
+                after: session.feed(replica, &[], &mut out),
+                sent: out.len(),
+                is_right: side.sends.starts_with(&out),
+                held: replica.len(),
+                shows: shows(alloc, replica, side.shows),
+            })
+        }
+        Err(fault) => Err(fault),
+    }
+}
+
+// What becomes of a side in the same way, where so many requests for memory are granted.
+fn outcome_of<A: Allocator + Copy>(
+    heap: &Metered<Global>,
+    alloc: A,
     grants: u64,
     side: &Side,
     bytes: &[u8],
     size: usize,
 ) -> Result<Outcome, SyncError> {
-    let mut out = Vec::new(heap);
-    let Ok(mut replica) = Replica::new(heap, side.author) else {
-        return Err(SyncError::Failed);
-    };
-    if replica.take(side.holds).is_err() {
-        return Err(SyncError::Failed);
+    match Replica::new(alloc, side.author) {
+        Ok(mut replica) => {
+            if replica.take(side.holds).is_err() {
+                return Err(SyncError::Failed);
+            }
+            heap.arm(grants);
+            outcome_on(heap, alloc, &mut replica, side, bytes, size)
+        }
+        Err(_) => Err(SyncError::Failed),
     }
-    heap.arm(grants);
-    let mut session = session_of(heap, side.role, &replica, &mut out)?;
-    let answer = feed_pieces(&mut session, &mut replica, bytes, size, &mut out);
-    heap.arm(u64::MAX);
-    Ok(Outcome {
-        answer,
-        after: session.feed(&mut replica, &[], &mut out),
-        sent: out.len(),
-        is_right: side.sends.starts_with(&out),
-        held: replica.len(),
-        shows: shows(heap, &replica, side.shows),
-    })
+}
+
+// Whether the side is done where what comes to it comes in pieces of so many.
+fn is_done<A: Allocator + Copy>(
+    heap: &Metered<Global>,
+    alloc: A,
+    side: &Side,
+    size: usize,
+) -> bool {
+    match outcome_of(heap, alloc, u64::MAX, side, side.comes, size) {
+        Ok(outcome) => outcome.is_done(side),
+        Err(_) => false,
+    }
+}
+
+// Whether that is so of pieces of each size.
+fn is_done_in_pieces<A: Allocator + Copy>(heap: &Metered<Global>, alloc: A, side: &Side) -> bool {
+    let mut all = true;
+    for size in 1..80usize {
+        all &= is_done(heap, alloc, side, size);
+    }
+    all
 }
 
 #[test]
@@ -206,66 +244,98 @@ fn sides_exchange_what_they_lack(rt: HostRuntime) {
     let heap = Metered::new(rt.alloc());
     let mut all = true;
     for role in [Role::Client, Role::Server] {
-        for side in [side_of(role), empty_side_of(role)] {
-            for size in 1..80usize {
-                let outcome = outcome_of(&heap, u64::MAX, &side, side.comes, size);
-                all &= outcome.is_ok_and(|outcome| outcome.is_done(&side));
-            }
-        }
+        all &= is_done_in_pieces(&heap, &heap, &side_of(role));
+        all &= is_done_in_pieces(&heap, &heap, &empty_side_of(role));
     }
     for side in further_sides() {
-        let outcome = outcome_of(&heap, u64::MAX, &side, side.comes, usize::MAX);
-        all &= outcome.is_ok_and(|outcome| outcome.is_done(&side));
+        all &= is_done(&heap, &heap, &side, usize::MAX);
     }
     assert!(rt; all);
+}
+
+// Frames that their receiver refuses, and with which fault.
+const FAULTY: &[(Role, &[u8], SyncError)] = &[
+    (Role::Server, b"\x00\x00\x00\x00", SyncError::Frame),
+    (Role::Server, b"\x00\x10\x00\x01\x01", SyncError::Frame),
+    (Role::Server, b"\x00\x00\x00\x02\x04", SyncError::Frame),
+    (Role::Server, b"\x00\x00\x00\x02\x03", SyncError::Frame),
+    (Role::Server, b"\x00\x00\x00\x01\x03", SyncError::Order),
+    // A second clock, and a byte past the end.
+    (
+        Role::Client,
+        b"\x00\x00\x00\x05\x01\x00\x00\x00\x00\x00\x00\x00\x05\x01",
+        SyncError::Order,
+    ),
+    (
+        Role::Client,
+        b"\x00\x00\x00\x05\x01\x00\x00\x00\x00\x00\x00\x00\x01\x03\x00\x00\x00\x01\x03\x00",
+        SyncError::Order,
+    ),
+    // The clock of author 0, and a delta of a third format.
+    (
+        Role::Server,
+        b"\x00\x00\x00\x0d\x01\x00\x00\x00\x01\x00\x00\x00\x00\x00\x00\x00\x01",
+        SyncError::Clock,
+    ),
+    (
+        Role::Client,
+        b"\x00\x00\x00\x05\x01\x00\x00\x00\x00\x00\x00\x00\x09\x02OGD3\x00\x00\x00\x00",
+        SyncError::Delta,
+    ),
+];
+
+// Whether the bytes are refused with this fault.
+fn is_refused<A: Allocator + Copy>(
+    heap: &Metered<Global>,
+    alloc: A,
+    role: Role,
+    bytes: &[u8],
+    fault: SyncError,
+) -> bool {
+    match outcome_of(heap, alloc, u64::MAX, &side_of(role), bytes, usize::MAX) {
+        Ok(outcome) => outcome.is_fault(fault),
+        Err(_) => false,
+    }
 }
 
 #[test]
 fn faulty_frames_are_refused(rt: HostRuntime) {
     let heap = Metered::new(rt.alloc());
     let mut all = true;
-    let clocks: &[u8] = &[0, 0, 0, 5, 1, 0, 0, 0, 0, 0, 0, 0, 5, 1];
-    let past_the_end: &[u8] = &[0, 0, 0, 5, 1, 0, 0, 0, 0, 0, 0, 0, 1, 3, 0, 0, 0, 1, 3, 0];
-    let author_0: &[u8] = &[0, 0, 0, 13, 1, 0, 0, 0, 1, 0, 0, 0, 0, 0, 0, 0, 1];
-    let third_format: &[u8] =
-        b"\x00\x00\x00\x05\x01\x00\x00\x00\x00\x00\x00\x00\x09\x02OGD3\x00\x00\x00\x00";
-    for (role, bytes, fault) in [
-        (Role::Server, &[0, 0, 0, 0][..], SyncError::Frame),
-        (Role::Server, &[0, 0x10, 0, 1, 1], SyncError::Frame),
-        (Role::Server, &[0, 0, 0, 2, 4], SyncError::Frame),
-        (Role::Server, &[0, 0, 0, 2, 3], SyncError::Frame),
-        (Role::Server, &[0, 0, 0, 1, 3], SyncError::Order),
-        (Role::Client, clocks, SyncError::Order),
-        (Role::Client, past_the_end, SyncError::Order),
-        (Role::Server, author_0, SyncError::Clock),
-        (Role::Client, third_format, SyncError::Delta),
-    ] {
-        let outcome = outcome_of(&heap, u64::MAX, &side_of(role), bytes, usize::MAX);
-        all &= outcome.is_ok_and(|outcome| outcome.is_fault(fault));
+    for &(role, bytes, fault) in FAULTY {
+        all &= is_refused(&heap, &heap, role, bytes, fault);
     }
     assert!(rt; all);
+}
+
+// Whether the side leaves what it promises where each request for memory is refused in turn, and is done in the end.
+fn keeps_its_promise<A: Allocator + Copy>(heap: &Metered<Global>, alloc: A, side: &Side) -> bool {
+    for grants in 0..100u64 {
+        heap.arm(u64::MAX);
+        match outcome_of(heap, alloc, grants, side, side.comes, usize::MAX) {
+            Ok(outcome) => {
+                if outcome.is_done(side) {
+                    return true;
+                }
+                if !outcome.is_short_of_memory(side) {
+                    return false;
+                }
+            }
+            Err(fault) => {
+                if fault != SyncError::OutOfMemory {
+                    return false;
+                }
+            }
+        }
+    }
+    false
 }
 
 #[test]
 fn each_request_for_memory_may_be_refused(rt: HostRuntime) {
     let heap = Metered::new(rt.alloc());
-    for role in [Role::Client, Role::Server] {
-        let side = side_of(role);
-        let mut promised = true;
-        let mut done = false;
-        for grants in 0..100u64 {
-            heap.arm(u64::MAX);
-            promised &= match outcome_of(&heap, grants, &side, side.comes, usize::MAX) {
-                Ok(outcome) => {
-                    done = outcome.is_done(&side);
-                    done || outcome.is_short_of_memory(&side)
-                }
-                Err(fault) => fault == SyncError::OutOfMemory,
-            };
-            if done {
-                break;
-            }
-        }
-        assert!(rt; done && promised);
-    }
+    assert!(rt;
+        keeps_its_promise(&heap, &heap, &side_of(Role::Client))
+            && keeps_its_promise(&heap, &heap, &side_of(Role::Server))
+    );
 }

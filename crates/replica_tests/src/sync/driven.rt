@@ -5,20 +5,24 @@ use std::io::{self, ErrorKind, Read, Write};
 use std::net::{Net, TcpListener, TcpStream};
 
 // Whether the side, driven over the reader and the writer, then shows what it should.
-fn is_driven<R: Read, W: Write>(
-    alloc: Global,
+fn is_driven<A: Allocator + Copy, R: Read, W: Write>(
+    alloc: A,
     side: &Side,
     reader: &mut R,
     writer: &mut W,
 ) -> Result<bool, SyncError> {
-    let Ok(mut replica) = Replica::new(alloc, side.author) else {
-        return Err(SyncError::Failed);
-    };
-    if replica.take(side.holds).is_err() {
-        return Err(SyncError::Failed);
+    match Replica::new(alloc, side.author) {
+        Ok(mut replica) => {
+            if replica.take(side.holds).is_err() {
+                return Err(SyncError::Failed);
+            }
+            match drive(alloc, side.role, &mut replica, reader, writer) {
+                Ok(()) => Ok(shows(alloc, &replica, side.shows)),
+                Err(fault) => Err(fault),
+            }
+        }
+        Err(_) => Err(SyncError::Failed),
     }
-    drive(alloc, side.role, &mut replica, reader, writer)?;
-    Ok(shows(alloc, &replica, side.shows))
 }
 
 /// Gives bytes, at most so many a read, and fails at the read after so many others.
@@ -136,31 +140,40 @@ fn case_of(side: &Side, number: u32) -> Case {
     (source, sink, answer)
 }
 
+// Whether the side is answered as it should be over each of the cases, and all is read and written where it is done.
+fn is_answered<A: Allocator + Copy>(alloc: A, side: &Side) -> bool {
+    let mut all = true;
+    for number in 0..92u32 {
+        let (mut source, mut sink, answer) = case_of(side, number);
+        all &= is_driven(alloc, side, &mut source, &mut sink) == answer;
+        all &= answer.is_err() || source.bytes.is_empty() && sink.expected.is_empty();
+    }
+    all
+}
+
 #[test]
 fn devices_may_be_slow_or_end_or_fail(rt: HostRuntime) {
-    let mut all = true;
-    for side in [side_of(Role::Client), side_of(Role::Server)] {
-        for number in 0..92u32 {
-            let (mut source, mut sink, answer) = case_of(&side, number);
-            all &= is_driven(rt.alloc(), &side, &mut source, &mut sink) == answer;
-            all &= answer.is_err() || source.bytes.is_empty() && sink.expected.is_empty();
-        }
-    }
-    assert!(rt; all);
+    let alloc = rt.alloc();
+    assert!(rt;
+        is_answered(alloc, &side_of(Role::Client)) && is_answered(alloc, &side_of(Role::Server))
+    );
 }
 
 // Whether a client whose reader fails after the server's delta has taken it in, and sent its clock alone.
-fn keeps_what_came(alloc: Global, side: &Side) -> bool {
+fn keeps_what_came<A: Allocator + Copy>(alloc: A, side: &Side) -> bool {
     let mut source = source_of(side);
     let mut sink = sink_of(side);
     source.left = 4;
-    let Ok(mut replica) = Replica::new(alloc, side.author) else {
-        return false;
-    };
-    replica.take(side.holds).is_ok()
-        && drive(alloc, side.role, &mut replica, &mut source, &mut sink) == Err(SyncError::Read)
-        && sink.expected.len() == side.sends.len().saturating_sub(side.first)
-        && shows(alloc, &replica, side.shows)
+    match Replica::new(alloc, side.author) {
+        Ok(mut replica) => {
+            replica.take(side.holds).is_ok()
+                && drive(alloc, side.role, &mut replica, &mut source, &mut sink)
+                    == Err(SyncError::Read)
+                && sink.expected.len() == side.sends.len().saturating_sub(side.first)
+                && shows(alloc, &replica, side.shows)
+        }
+        Err(_) => false,
+    }
 }
 
 #[test]
@@ -220,18 +233,31 @@ fn reads_from(mut stream: &TcpStream, side: &Side) -> bool {
     stream.read_exact(came).is_ok() && &*came == side.sends
 }
 
-#[test]
-fn sides_are_driven_over_the_loopback(rt: HostRuntime) -> io::Result<()> {
-    let ends = connect(&rt)?;
-    let mut all = true;
-    for side in [side_of(Role::Client), side_of(Role::Server)] {
-        let mut far = &ends.far;
-        far.write_all(side.comes)?;
-        let mut reader = &ends.near;
-        let mut writer = &ends.near;
-        all &= is_driven(rt.alloc(), &side, &mut reader, &mut writer) == Ok(true);
-        all &= reads_from(far, &side);
+// Whether the side, driven over the near end, answers what comes from the far one.
+fn is_driven_between<A: Allocator + Copy>(alloc: A, ends: &Ends, side: &Side) -> bool {
+    let mut far = &ends.far;
+    let mut reader = &ends.near;
+    let mut writer = &ends.near;
+    far.write_all(side.comes).is_ok()
+        && is_driven(alloc, side, &mut reader, &mut writer) == Ok(true)
+        && reads_from(far, side)
+}
+
+// Whether that is so of both sides over one connection.
+fn are_driven<A: Allocator + Copy, R: Net<Listener = TcpListener, Stream = TcpStream>>(
+    alloc: A,
+    rt: &R,
+) -> bool {
+    match connect(rt) {
+        Ok(ends) => {
+            is_driven_between(alloc, &ends, &side_of(Role::Client))
+                && is_driven_between(alloc, &ends, &side_of(Role::Server))
+        }
+        Err(_) => false,
     }
-    assert!(rt; all);
-    Ok(())
+}
+
+#[test]
+fn sides_are_driven_over_the_loopback(rt: HostRuntime) {
+    assert!(rt; are_driven(rt.alloc(), &rt));
 }

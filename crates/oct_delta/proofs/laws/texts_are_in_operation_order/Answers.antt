@@ -2,8 +2,9 @@ use Rattle.std.proofs.Common.{List, ℕ, [], ◌++◌, sym, ap, ◌∙◌, arith
 use Rattle.std.proofs.lemmas.List.{append-nil}
 use Rattle.oct_code.specs.declared.limits.TheConstants.{LIMIT}
 use Rattle.oct_ops.specs.Order.{op_cmp}
+use Rattle.oct_ops.specs.OrderLaws.{then_equal}
 use Rattle.oct_delta.specs.Text.{op_bytes}
-use Rattle.oct_delta.proofs.Codecs.{bytes_cmp, then_equal}
+use Rattle.oct_delta.proofs.Codecs.{bytes_cmp}
 use Rattle.oct_delta.proofs.Formats.{op_codec}
 use Rattle.oct_delta.proofs.laws.texts_are_in_operation_order.Goals as goal
 

@@ -2,10 +2,10 @@ use Rattle.std.proofs.Common.{◌≡◌, ◌≤◌, suc, length, sym, ap, ◌∙
 use Rattle.std.proofs.lemmas.List.{nil_from_length}
 use Rattle.std.specs.Vec.Iter.{into_iter_items}
 use Rattle.oct_delta.specs.Text.{op_bytes}
+use Rattle.oct_delta.proofs.Written.{keeps_then}
 use Rattle.oct_sync.specs.Frames.{pack_room}
 use Rattle.oct_sync.specs.Packs.{may_follow}
 use Rattle.oct_sync.proofs.Gathering.{Ready, size_of, begin, gathered, all_sent, pack_rises, ready_after, ready_still, size_of-end}
-use Rattle.oct_sync.proofs.Written.{keeps_then}
 use Rattle.oct_sync.proofs.deltas.put_delta_frames.Goals as goal
 use Rattle.oct_sync.proofs.deltas.put_delta_frames.Goals.{then-not-may_follow+in_ok-put_pack, else-not-may_follow}
 

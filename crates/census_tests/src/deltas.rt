@@ -1,0 +1,320 @@
+//! Deltas and clocks as bytes: worked texts, what else is read, and what a call leaves where memory is refused.
+
+use crate::vectors::{A, B, C, D, E, F, G, H, I, LAST, long_block, many_notes};
+use metered::Metered;
+use oct_code::Code;
+use oct_delta::{ClockError, DeltaError, OpList, decode, decode_clock, encode, encode_clock};
+use oct_join::Clock;
+use oct_ops::{Body, Op};
+use std::alloc::{Allocator, Global};
+
+// Whether what the bytes spell is written as the text.
+fn writes(alloc: Global, bytes: &[u8], text: &[u8]) -> bool {
+    match decode(alloc, bytes) {
+        Ok(list) => is_written(alloc, &list, text),
+        Err(_) => false,
+    }
+}
+
+fn is_written(alloc: Global, list: &OpList<Global>, text: &[u8]) -> bool {
+    let mut out = Vec::new(alloc);
+    encode(list, &mut out).is_ok() && out.as_slice() == text
+}
+
+#[test]
+fn worked_texts_are_written_back(rt: HostRuntime) {
+    let mut all = true;
+    for text in &[A, B, C, D, E, F, G, H, I] {
+        all &= writes(rt.alloc(), text, text);
+    }
+    assert!(rt; all);
+}
+
+// Whether the operation is the one of A.
+fn is_of_a(op: &Op<Global>) -> bool {
+    match op.body() {
+        Body::Block(block) => {
+            op.dot().author() == 1
+                && op.dot().number() == 1
+                && Code::parse(b"0.77") == Ok(block.code())
+                && block.start() == 0
+                && block.values() == [0, 1, 2, 3, 1].as_slice()
+        }
+        _ => false,
+    }
+}
+
+fn reads_a(alloc: Global) -> bool {
+    match decode(alloc, A) {
+        Ok(list) => match list.as_slice() {
+            [op] => is_of_a(op),
+            _ => false,
+        },
+        Err(_) => false,
+    }
+}
+
+#[test]
+fn a_worked_text_is_read(rt: HostRuntime) {
+    assert!(rt; reads_a(rt.alloc()));
+}
+
+// The bytes after the tag.
+fn after_tag(bytes: &[u8]) -> &[u8] {
+    match bytes {
+        [_, _, _, _, rest @ ..] => rest,
+        _ => bytes,
+    }
+}
+
+// Whether the bytes are refused, or spell what is written as these bytes with the old tag.
+fn is_refused_or_written(alloc: Global, bytes: &[u8], written: &mut Vec<u8>) -> bool {
+    match decode(alloc, bytes) {
+        Ok(list) => {
+            written.clear();
+            encode(&list, written).is_ok()
+                && written.starts_with(b"OGD1")
+                && after_tag(written) == after_tag(bytes)
+        }
+        Err(refused) => refused == DeltaError::Version || refused == DeltaError::Refused,
+    }
+}
+
+// Whether that holds where one byte of the text is any other.
+fn is_spelled_in_one_way(alloc: Global, text: &[u8]) -> bool {
+    let mut written = Vec::new(alloc);
+    let mut room = [0; 74];
+    let Some(bytes) = room.get_mut(..text.len()) else {
+        return false;
+    };
+    bytes.copy_from_slice(text);
+    let mut all = true;
+    for (place, old) in text.iter().enumerate() {
+        for byte in 0..=u8::MAX {
+            bytes[place] = byte;
+            all &= is_refused_or_written(alloc, bytes, &mut written);
+        }
+        bytes[place] = *old;
+    }
+    all
+}
+
+#[test]
+fn changed_bytes_are_refused_or_written_back(rt: HostRuntime) {
+    let mut all = true;
+    for text in &[A, D, F, H] {
+        all &= is_spelled_in_one_way(rt.alloc(), text);
+    }
+    assert!(rt; all);
+}
+
+// A in the new format.
+const RENAMED: &[u8] = b"OGD2\x00\x00\x00\x01\
+      \x00\x00\x00\x01\x00\x00\x00\x01\x01\x00\x02\x07\x07\x00\x00\x00\x00\x00\x05\
+      \x00\x00\x00\x00\x00\x00\x00\x01\x00\x00\x00\x02\x00\x00\x00\x03\x00\x00\x00\x01";
+
+// Two values from place 4095, as the new format has them and as the old one would.
+const LATER: &[u8] = b"OGD2\x00\x00\x00\x01\
+      \x00\x00\x00\x01\x00\x00\x00\x01\x01\x00\x02\x07\x07\x00\x00\x0f\xff\x00\x02\
+      \x00\x00\x00\x00\x00\x00\x00\x00";
+
+const LATER_IN_OLD: &[u8] = b"OGD1\x00\x00\x00\x01\
+      \x00\x00\x00\x01\x00\x00\x00\x01\x01\x00\x02\x07\x07\x00\x00\x0f\xff\x00\x02\
+      \x00\x00\x00\x00\x00\x00\x00\x00";
+
+// Two values from the last place on.
+const PAST_LAST: &[u8] = b"OGD2\x00\x00\x00\x01\
+      \x00\x00\x00\x01\x00\x00\x00\x01\x01\x00\x02\x07\x07\x00\x00\xff\xff\x00\x02\
+      \x00\x00\x00\x00\x00\x00\x00\x00";
+
+/// Whether the bytes are refused so.
+pub fn is_refused<A: Allocator + Copy>(alloc: A, bytes: &[u8], error: DeltaError) -> bool {
+    match decode(alloc, bytes) {
+        Ok(_) => false,
+        Err(refused) => refused == error,
+    }
+}
+
+#[test]
+fn the_new_format_has_more_places(rt: HostRuntime) {
+    let alloc = rt.alloc();
+    let right = writes(alloc, RENAMED, A)
+        && writes(alloc, LATER, LATER)
+        && writes(alloc, LAST, LAST)
+        && is_refused(alloc, LATER_IN_OLD, DeltaError::Refused)
+        && is_refused(alloc, PAST_LAST, DeltaError::Refused);
+    assert!(rt; right);
+}
+
+// Whether the text of these operations is read after each request for memory was refused in turn. `heap` counts the
+// requests of `alloc`, here and below.
+fn reads_again<A: Allocator + Copy>(
+    heap: &Metered<Global>,
+    alloc: A,
+    text: &[u8],
+    ops: &[Op<A>],
+) -> bool {
+    for grants in 0..100u64 {
+        heap.arm(grants);
+        let read = decode(alloc, text);
+        heap.arm(u64::MAX);
+        match read {
+            Ok(list) => return grants > 0 && list.as_slice() == ops,
+            Err(DeltaError::OutOfMemory) => {}
+            Err(_) => return false,
+        }
+    }
+    false
+}
+
+// Whether the bytes are a seven and the text after it.
+fn is_seven_and(bytes: &[u8], text: &[u8]) -> bool {
+    match bytes {
+        [7, rest @ ..] => rest == text,
+        _ => false,
+    }
+}
+
+// Whether the text is written after a byte that was there, which stays alone where a request for memory is refused.
+fn writes_again<A: Allocator + Copy>(
+    heap: &Metered<Global>,
+    alloc: A,
+    list: &OpList<A>,
+    text: &[u8],
+) -> bool {
+    for grants in 0..100u64 {
+        let mut out = Vec::new(alloc);
+        if out.push(7).is_err() {
+            return false;
+        }
+        heap.arm(grants);
+        let written = encode(list, &mut out);
+        heap.arm(u64::MAX);
+        if written.is_ok() {
+            return grants > 0 && is_seven_and(&out, text);
+        }
+        if !is_seven_and(&out, &[]) {
+            return false;
+        }
+    }
+    false
+}
+
+fn reads_and_writes_again<A: Allocator + Copy>(
+    heap: &Metered<Global>,
+    alloc: A,
+    text: &[u8],
+) -> bool {
+    match decode(alloc, text) {
+        Ok(list) => {
+            reads_again(heap, alloc, text, list.as_slice())
+                && writes_again(heap, alloc, &list, text)
+        }
+        Err(_) => false,
+    }
+}
+
+#[test]
+fn refused_texts_are_read_and_written_again(rt: HostRuntime) {
+    let heap = Metered::new(rt.alloc());
+    let mut all = true;
+    for text in &[A, B, D, F, G, H, I, &long_block(), &many_notes()] {
+        all &= reads_and_writes_again(&heap, &heap, text);
+    }
+    assert!(rt; all);
+}
+
+// The clock {2 at 1}, and one of five authors.
+const CLOCK: [u8; 12] = [0, 0, 0, 1, 0, 0, 0, 2, 0, 0, 0, 1];
+
+const FIVE: &[u8] = b"\x00\x00\x00\x05\
+      \x00\x00\x00\x01\x00\x00\x00\x09\x00\x00\x00\x02\x00\x00\x00\x08\
+      \x00\x00\x00\x03\x00\x00\x00\x07\x00\x00\x00\x04\x00\x00\x00\x06\
+      \x00\x00\x00\x05\x00\x00\x00\x05";
+
+// Whether the text of a clock with these entries is read after each request for memory was refused in turn.
+fn reads_clock_again<A: Allocator + Copy>(
+    heap: &Metered<Global>,
+    alloc: A,
+    text: &[u8],
+    entries: &[(u32, u32)],
+) -> bool {
+    for grants in 0..20u64 {
+        heap.arm(grants);
+        let read = decode_clock(alloc, text);
+        heap.arm(u64::MAX);
+        match read {
+            Ok(clock) => return grants > 0 && clock.entries() == entries,
+            Err(ClockError::OutOfMemory) => {}
+            Err(ClockError::Refused) => return false,
+        }
+    }
+    false
+}
+
+// Whether the clock is written after a byte that was there, which stays alone where a request for memory is refused.
+fn writes_clock_again<A: Allocator + Copy>(
+    heap: &Metered<Global>,
+    alloc: A,
+    clock: &Clock<A>,
+    text: &[u8],
+) -> bool {
+    for grants in 0..20u64 {
+        let mut out = Vec::new(alloc);
+        if out.push(7).is_err() {
+            return false;
+        }
+        heap.arm(grants);
+        let written = encode_clock(clock, &mut out);
+        heap.arm(u64::MAX);
+        if written.is_ok() {
+            return grants > 0 && is_seven_and(&out, text);
+        }
+        if !is_seven_and(&out, &[]) {
+            return false;
+        }
+    }
+    false
+}
+
+fn reads_and_writes_clock_again<A: Allocator + Copy>(
+    heap: &Metered<Global>,
+    alloc: A,
+    text: &[u8],
+    entries: &[(u32, u32)],
+) -> bool {
+    match decode_clock(alloc, text) {
+        Ok(clock) => {
+            reads_clock_again(heap, alloc, text, entries)
+                && writes_clock_again(heap, alloc, &clock, text)
+        }
+        Err(_) => false,
+    }
+}
+
+#[test]
+fn refused_clocks_are_read_and_written_again(rt: HostRuntime) {
+    let heap = Metered::new(rt.alloc());
+    let five = [(1, 9), (2, 8), (3, 7), (4, 6), (5, 5)];
+    let right = reads_and_writes_clock_again(&heap, &heap, &CLOCK, &[(2, 1)])
+        && reads_and_writes_clock_again(&heap, &heap, FIVE, &five);
+    assert!(rt; right);
+}
+
+fn refuses_clock(alloc: Global, text: &[u8]) -> bool {
+    match decode_clock(alloc, text) {
+        Ok(_) => false,
+        Err(refused) => refused == ClockError::Refused,
+    }
+}
+
+#[test]
+fn changed_clocks_are_refused(rt: HostRuntime) {
+    let mut all = true;
+    for (place, byte) in [(3usize, 0), (3, 2), (7, 0), (11, 0)] {
+        let mut text = CLOCK;
+        text[place] = byte;
+        all &= refuses_clock(rt.alloc(), &text);
+    }
+    assert!(rt; all);
+}

@@ -1,0 +1,391 @@
+//! Notes and removals: which notes are live, in whatever order they come, without memory and after each refusal of memory.
+
+use metered::Metered;
+use oct_join::Join;
+use oct_notes::Notes;
+use oct_ops::{Body, Dot, Note, Op, Removal};
+use std::alloc::{Allocator, Global};
+
+/// A note: its author, its number, its name and its text.
+type Row = (u32, u32, &'static [u8], &'static [u8]);
+
+// The note of a letter. A word stands for the operations of its letters, and a capital is the removal of its note's dot.
+fn row(letter: u8) -> Row {
+    match letter {
+        b'a' | b'A' => (1, 1, b"a", b""),
+        b'b' => (1, 1, b"a", b"again"),
+        b'c' => (1, 1, b"b", b""),
+        b'd' => (1, 2, b"a", b"text"),
+        b'e' | b'E' => (1, 1, b"kayles", b"early"),
+        b'l' => (1, 2, b"kayles", b"later"),
+        b'p' | b'P' => (1, 3, b"a", b""),
+        b'q' => (2, 1, b"a", b""),
+        b'r' => (1, 2, b"aa", b""),
+        b's' => (3, 1, b"aa", b"y"),
+        b't' => (3, 1, b"aa", b"xx"),
+        b'u' => (3, 1, b"b", b""),
+        b'v' => (5, 1, b"a", b""),
+        b'w' => (5, 3, b"a", b""),
+        _ => (3, 1, b"a", b""),
+    }
+}
+
+// The note of a letter, where there is memory.
+fn note<A: Allocator + Copy>(alloc: A, letter: u8) -> Option<Op<A>> {
+    let (author, number, name, text) = row(letter);
+    let Ok(dot) = Dot::new(author, number) else {
+        return None;
+    };
+    match Note::new(alloc, name, text) {
+        Ok(note) => Some(Op::new(dot, Body::Note(note))),
+        Err(_) => None,
+    }
+}
+
+// The removal of that note's dot, by author 9.
+fn removal<A: Allocator + Copy>(alloc: A, letter: u8) -> Option<Op<A>> {
+    let (author, number, _, _) = row(letter);
+    let Ok(dot) = Dot::new(9, 1) else {
+        return None;
+    };
+    let Ok(gone) = Dot::new(author, number) else {
+        return None;
+    };
+    let Ok(dots) = Vec::from_slice(alloc, &[gone]) else {
+        return None;
+    };
+    match Removal::new(dots) {
+        Ok(removal) => Some(Op::new(dot, Body::Removal(removal))),
+        Err(_) => None,
+    }
+}
+
+// The operation of a letter, where there is memory.
+fn operation<A: Allocator + Copy>(alloc: A, letter: u8) -> Option<Op<A>> {
+    if letter.is_ascii_uppercase() {
+        removal(alloc, letter)
+    } else {
+        note(alloc, letter)
+    }
+}
+
+// Whether the operation is a note or a removal and could be taken in.
+fn is_added<A: Allocator + Copy>(notes: &mut Notes<A>, op: &Op<A>) -> bool {
+    match op.body() {
+        Body::Note(_) | Body::Removal(_) => notes.add(op).is_ok(),
+        Body::Block(_) | Body::Period(_) => false,
+    }
+}
+
+// Adds an operation, at first with so many requests granted, and says whether these were too few; none where a refusal
+// changes anything, or memory is not enough in the end.
+fn adds<A: Allocator + Copy>(
+    heap: &Metered<Global>,
+    notes: &mut Notes<A>,
+    op: &Op<A>,
+    grants: u64,
+) -> Option<bool> {
+    let before = notes.len();
+    heap.arm(grants);
+    let refused = !is_added(notes, op);
+    if refused && (notes.contains(op) || notes.len() != before) {
+        return None;
+    }
+    heap.arm(u64::MAX);
+    if is_added(notes, op) {
+        Some(refused)
+    } else {
+        None
+    }
+}
+
+// Whether an operation that is there is found and can be taken back, and none of this takes memory.
+fn goes<A: Allocator + Copy>(heap: &Metered<Global>, notes: &mut Notes<A>, op: &Op<A>) -> bool {
+    let before = notes.len();
+    heap.arm(1_000);
+    let was_there = is_added(notes, op) && notes.contains(op) && !notes.is_empty();
+    notes.take_back(op);
+    was_there
+        && !notes.contains(op)
+        && notes.len().saturating_add(1) == before
+        && notes.is_empty() == (before == 1)
+        && heap.left() == 1_000
+}
+
+// Adds an operation, takes it back, and adds it again, with so many requests granted as in `adds`.
+fn comes_back<A: Allocator + Copy>(
+    heap: &Metered<Global>,
+    notes: &mut Notes<A>,
+    op: &Op<A>,
+    grants: u64,
+) -> Option<bool> {
+    match adds(heap, notes, op, grants) {
+        Some(refused) => {
+            if goes(heap, notes, op) && adds(heap, notes, op, grants).is_some() {
+                Some(refused)
+            } else {
+                None
+            }
+        }
+        None => None,
+    }
+}
+
+// Takes the removal A back, for the letter `-`.
+fn takes_back<A: Allocator + Copy>(alloc: A, notes: &mut Notes<A>) -> Option<bool> {
+    match removal(alloc, b'A') {
+        Some(op) => {
+            notes.take_back(&op);
+            Some(false)
+        }
+        None => None,
+    }
+}
+
+// Adds the operation of a letter.
+fn adds_letter<A: Allocator + Copy>(
+    heap: &Metered<Global>,
+    alloc: A,
+    notes: &mut Notes<A>,
+    letter: u8,
+    grants: u64,
+) -> Option<bool> {
+    heap.arm(u64::MAX);
+    if letter == b'-' {
+        return takes_back(alloc, notes);
+    }
+    match operation(alloc, letter) {
+        Some(op) => comes_back(heap, notes, &op, grants),
+        None => None,
+    }
+}
+
+// Adds the operations of a word, one after the other.
+fn adds_word<A: Allocator + Copy>(
+    heap: &Metered<Global>,
+    alloc: A,
+    notes: &mut Notes<A>,
+    word: &[u8],
+    grants: u64,
+) -> Option<bool> {
+    let mut refused = false;
+    for letter in word {
+        refused |= adds_letter(heap, alloc, notes, *letter, grants)?;
+    }
+    Some(refused)
+}
+
+// Whether this is the note of the letter.
+fn is_note<A: Allocator>(op: &Op<A>, letter: u8) -> bool {
+    let (author, number, name, text) = row(letter);
+    match op.body() {
+        Body::Note(note) => {
+            op.dot().author() == author
+                && op.dot().number() == number
+                && note.name() == name
+                && note.text() == text
+        }
+        _ => false,
+    }
+}
+
+// Whether these are the notes of the word, in its order.
+fn are_notes<A: Allocator>(ops: &[Op<A>], word: &[u8]) -> bool {
+    if ops.len() != word.len() {
+        return false;
+    }
+    let mut right = true;
+    for place in 0..word.len() {
+        right &= is_note(&ops[place], word[place]);
+    }
+    right
+}
+
+// Whether this is the dot of the note of the letter.
+fn is_dot(dot: Dot, letter: u8) -> bool {
+    let (author, number, _, _) = row(letter);
+    dot.author() == author && dot.number() == number
+}
+
+// Whether these are the dots of the notes of the word, in its order.
+fn are_dots(dots: &[Dot], word: &[u8]) -> bool {
+    if dots.len() != word.len() {
+        return false;
+    }
+    let mut right = true;
+    for place in 0..word.len() {
+        right &= is_dot(dots[place], word[place]);
+    }
+    right
+}
+
+// Whether the live notes are those of the word, in its order; none where memory is refused.
+fn lives<A: Allocator + Copy>(notes: &Notes<A>, word: &[u8]) -> Option<bool> {
+    match notes.live() {
+        Ok(live) => Some(are_notes(&live, word)),
+        Err(_) => None,
+    }
+}
+
+// Whether the dots of the live notes of the name are those of the word, in its order; none where memory is refused.
+fn finds<A: Allocator + Copy>(notes: &Notes<A>, name: &[u8], word: &[u8]) -> Option<bool> {
+    match notes.live_dots(name) {
+        Ok(dots) => Some(are_dots(&dots, word)),
+        Err(_) => None,
+    }
+}
+
+// Whether these are the live notes, and these the dots of those with the name, where each request for memory is refused in
+// turn. No note has the name dawson.
+fn reads<A: Allocator + Copy>(
+    heap: &Metered<Global>,
+    notes: &Notes<A>,
+    name: &[u8],
+    live: &[u8],
+    dots: &[u8],
+) -> bool {
+    for grants in 0..64u64 {
+        heap.arm(grants);
+        let read = lives(notes, live);
+        heap.arm(grants);
+        match (read, finds(notes, name, dots)) {
+            (Some(true), Some(true)) => {
+                heap.arm(u64::MAX);
+                return finds(notes, b"dawson", b"") == Some(true);
+            }
+            (Some(false), _) | (_, Some(false)) => return false,
+            _ => {}
+        }
+    }
+    false
+}
+
+// Joins two sets that have nothing in common, at first with so many requests granted, and says whether these were too few;
+// none where a refusal does not leave a set between, or the end is no union.
+fn joins<A: Allocator + Copy>(
+    heap: &Metered<Global>,
+    one: &mut Notes<A>,
+    other: &Notes<A>,
+    grants: u64,
+) -> Option<bool> {
+    let held = one.len();
+    let all = held.saturating_add(other.len());
+    heap.arm(grants);
+    let refused = one.join(other).is_err();
+    let between = held <= one.len() && one.len() <= all && refused == (one.len() < all);
+    heap.arm(u64::MAX);
+    if between && one.join(other).is_ok() && one.len() == all {
+        Some(refused)
+    } else {
+        None
+    }
+}
+
+/// The words of a set, of another one that is joined to it, of the notes that are live then, in their order, and of the
+/// dots of those that have the name of the other set's first note.
+type Case = [&'static [u8]; 4];
+
+// The name of a word's first note.
+fn name(word: &[u8]) -> &'static [u8] {
+    match word {
+        [letter, ..] => row(*letter).2,
+        [] => b"dawson",
+    }
+}
+
+// Makes the two sets of a case and joins them, each time with so many requests granted at first. Says whether these were too
+// few; none where anything is wrong.
+fn unites<A: Allocator + Copy>(
+    heap: &Metered<Global>,
+    alloc: A,
+    one: &mut Notes<A>,
+    other: &mut Notes<A>,
+    case: Case,
+    grants: u64,
+) -> Option<bool> {
+    let [held, came, live, dots] = case;
+    let mut refused = adds_word(heap, alloc, one, held, grants)?;
+    refused |= adds_word(heap, alloc, other, came, grants)?;
+    refused |= joins(heap, one, other, grants)?;
+    if reads(heap, one, name(came), live, dots) {
+        Some(refused)
+    } else {
+        None
+    }
+}
+
+// The same of new sets, which take no memory.
+fn comes_out<A: Allocator + Copy>(
+    heap: &Metered<Global>,
+    alloc: A,
+    case: Case,
+    grants: u64,
+) -> Option<bool> {
+    heap.arm(1_000);
+    let mut one = Notes::new(alloc);
+    let mut other = Notes::new(alloc);
+    if heap.left() == 1_000 {
+        unites(heap, alloc, &mut one, &mut other, case, grants)
+    } else {
+        None
+    }
+}
+
+// Whether a case comes out right where each request for memory is refused in turn.
+fn survives(heap: &Metered<Global>, case: Case) -> bool {
+    for grants in 0..64u64 {
+        match comes_out(heap, heap, case, grants) {
+            Some(true) => {}
+            Some(false) => return grants > 0,
+            None => return false,
+        }
+    }
+    false
+}
+
+// Whether the later note alone is live, in whatever order it, the early one and the early one's removal come.
+fn hides_the_early_note(heap: &Metered<Global>) -> bool {
+    survives(heap, [b"e", b"lE", b"l", b"l"])
+        && survives(heap, [b"e", b"El", b"l", b"l"])
+        && survives(heap, [b"l", b"eE", b"l", b"l"])
+        && survives(heap, [b"l", b"Ee", b"l", b"l"])
+        && survives(heap, [b"E", b"el", b"l", b"l"])
+        && survives(heap, [b"E", b"le", b"l", b"l"])
+}
+
+#[test]
+fn removals_hold_in_every_order(rt: HostRuntime) {
+    let heap = Metered::new(rt.alloc());
+    assert!(rt; hides_the_early_note(&heap));
+}
+
+// Whether the live notes are by name, byte by byte, and then as operations: by dot, and a shorter text first.
+fn are_by_name(heap: &Metered<Global>) -> bool {
+    survives(heap, [b"", b"pqrstcu", b"pqrstcu", b"pq"])
+        && survives(heap, [b"uctsr", b"qp", b"pqrstcu", b"pq"])
+        && survives(heap, [b"x", b"cd", b"dxc", b"c"])
+        && survives(heap, [b"", b"vw", b"vw", b"vw"])
+}
+
+#[test]
+fn live_notes_are_in_byte_order_of_their_names(rt: HostRuntime) {
+    let heap = Metered::new(rt.alloc());
+    assert!(rt; are_by_name(&heap));
+}
+
+// Whether the contents of one dot live and go together, a removal hides neither another dot nor what its author has not
+// seen, and a note comes back when its removal is taken back.
+fn hides_its_dots(heap: &Metered<Global>) -> bool {
+    survives(heap, [b"", b"abc", b"abc", b"a"])
+        && survives(heap, [b"", b"abcA", b"", b""])
+        && survives(heap, [b"", b"dcP", b"dc", b"d"])
+        && survives(heap, [b"aA", b"q", b"q", b"q"])
+        && survives(heap, [b"", b"aA", b"", b""])
+        && survives(heap, [b"", b"aA-", b"a", b"a"])
+}
+
+#[test]
+fn removals_hide_their_dots_alone(rt: HostRuntime) {
+    let heap = Metered::new(rt.alloc());
+    assert!(rt; hides_its_dots(&heap));
+}

@@ -1,0 +1,249 @@
+//! Deltas that come in pieces, and bytes that are no delta: they are refused at once and in pieces.
+
+use crate::deltas::is_refused;
+use crate::vectors::{A, B, C, D, E, F, G, H, I, LAST, long_block, many_notes};
+use metered::Metered;
+use oct_delta::{DeltaError, Reader, decode};
+use oct_ops::Op;
+use std::alloc::{Allocator, Global};
+
+// Feeds the bytes in pieces of so many.
+fn feed_pieces<A: Allocator + Copy>(
+    reader: &mut Reader<A>,
+    bytes: &[u8],
+    size: usize,
+) -> Result<(), DeltaError> {
+    for piece in bytes.chunks(size.max(1)) {
+        reader.feed(piece)?;
+    }
+    Ok(())
+}
+
+// Whether these are the operations of what was fed.
+fn ends_as<A: Allocator + Copy>(reader: Reader<A>, ops: &[Op<A>]) -> bool {
+    match reader.finish() {
+        Ok(list) => list.as_slice() == ops,
+        Err(_) => false,
+    }
+}
+
+// Whether these are the operations of the text, fed byte by byte.
+fn reads_bytes(alloc: Global, text: &[u8], ops: &[Op<Global>]) -> bool {
+    let mut reader = Reader::new(alloc);
+    feed_pieces(&mut reader, text, 1).is_ok() && ends_as(reader, ops)
+}
+
+fn reads(alloc: Global, text: &[u8]) -> bool {
+    match decode(alloc, text) {
+        Ok(list) => reads_bytes(alloc, text, list.as_slice()),
+        Err(_) => false,
+    }
+}
+
+#[test]
+fn worked_texts_are_read_byte_by_byte(rt: HostRuntime) {
+    let mut all = true;
+    for text in &[A, B, C, D, E, F, G, H, I, LAST] {
+        all &= reads(rt.alloc(), text);
+    }
+    assert!(rt; all);
+}
+
+// A with one more byte.
+const LONGER: &[u8] = b"OGD1\x00\x00\x00\x01\
+      \x00\x00\x00\x01\x00\x00\x00\x01\x01\x00\x02\x07\x07\x00\x00\x00\x00\x00\x05\
+      \x00\x00\x00\x00\x00\x00\x00\x01\x00\x00\x00\x02\x00\x00\x00\x03\x00\x00\x00\x01\x00";
+
+// D with its operations the other way round.
+const SWAPPED: &[u8] = b"OGD1\x00\x00\x00\x02\
+      \x00\x00\x00\x01\x00\x00\x00\x02\x02\x00\x01\x03\x00\x00\x00\x01\x00\x00\x00\x02\
+      \x00\x00\x00\x01\x00\x00\x00\x01\x01\x00\x01\x03\x00\x00\x00\x00\x00\x07\
+      \x00\x00\x00\x00\x00\x00\x00\x01\x00\x00\x00\x00\x00\x00\x00\x01\
+      \x00\x00\x00\x00\x00\x00\x00\x01\x00\x00\x00\x00";
+
+// A with its operation twice.
+const TWICE: &[u8] = b"OGD1\x00\x00\x00\x02\
+      \x00\x00\x00\x01\x00\x00\x00\x01\x01\x00\x02\x07\x07\x00\x00\x00\x00\x00\x05\
+      \x00\x00\x00\x00\x00\x00\x00\x01\x00\x00\x00\x02\x00\x00\x00\x03\x00\x00\x00\x01\
+      \x00\x00\x00\x01\x00\x00\x00\x01\x01\x00\x02\x07\x07\x00\x00\x00\x00\x00\x05\
+      \x00\x00\x00\x00\x00\x00\x00\x01\x00\x00\x00\x02\x00\x00\x00\x03\x00\x00\x00\x01";
+
+// A with a count of 2^32 - 1.
+const COUNTED: &[u8] = b"OGD1\xff\xff\xff\xff\
+      \x00\x00\x00\x01\x00\x00\x00\x01\x01\x00\x02\x07\x07\x00\x00\x00\x00\x00\x05\
+      \x00\x00\x00\x00\x00\x00\x00\x01\x00\x00\x00\x02\x00\x00\x00\x03\x00\x00\x00\x01";
+
+// A with the tag of no format.
+const UNKNOWN: &[u8] = b"OGD9\x00\x00\x00\x01\
+      \x00\x00\x00\x01\x00\x00\x00\x01\x01\x00\x02\x07\x07\x00\x00\x00\x00\x00\x05\
+      \x00\x00\x00\x00\x00\x00\x00\x01\x00\x00\x00\x02\x00\x00\x00\x03\x00\x00\x00\x01";
+
+// Whether the bytes are refused so, byte by byte.
+fn is_refused_in_pieces(alloc: Global, bytes: &[u8], error: DeltaError) -> bool {
+    let mut reader = Reader::new(alloc);
+    match feed_pieces(&mut reader, bytes, 1) {
+        Ok(()) => match reader.finish() {
+            Ok(_) => false,
+            Err(refused) => refused == error,
+        },
+        Err(refused) => refused == error,
+    }
+}
+
+#[test]
+fn other_bytes_are_refused(rt: HostRuntime) {
+    let mut all = true;
+    for (bytes, error) in [
+        (LONGER, DeltaError::Refused),
+        (SWAPPED, DeltaError::Refused),
+        (TWICE, DeltaError::Refused),
+        (COUNTED, DeltaError::Refused),
+        (UNKNOWN, DeltaError::Version),
+    ] {
+        all &= is_refused(rt.alloc(), bytes, error)
+            && is_refused_in_pieces(rt.alloc(), bytes, error);
+    }
+    assert!(rt; all);
+}
+
+// Whether each proper prefix of the text is refused.
+fn refuses_prefixes(alloc: Global, text: &[u8]) -> bool {
+    let mut all = true;
+    for end in 0..text.len() {
+        let error = if end < 4 {
+            DeltaError::Version
+        } else {
+            DeltaError::Refused
+        };
+        all &= is_refused(alloc, &text[..end], error)
+            && is_refused_in_pieces(alloc, &text[..end], error);
+    }
+    all
+}
+
+#[test]
+fn proper_prefixes_are_refused(rt: HostRuntime) {
+    let mut all = true;
+    for text in &[A, D, F, H] {
+        all &= refuses_prefixes(rt.alloc(), text);
+    }
+    assert!(rt; all);
+}
+
+// How many operations are whole in so many bytes of D.
+fn whole_in_d(length: usize) -> usize {
+    match length {
+        0..=53 => 0,
+        54..=73 => 1,
+        _ => 2,
+    }
+}
+
+// Whether a reader of D, cut at two places, has after each piece the operations that are whole.
+fn reads_cut(alloc: Global, ops: &[Op<Global>], first: usize, second: usize) -> bool {
+    let mut reader = Reader::new(alloc);
+    let mut all = true;
+    let mut start = 0;
+    for end in [first, second, D.len()] {
+        let piece = D.get(start..end).unwrap_or(&[]);
+        all &= reader.feed(piece).is_ok()
+            && reader.items().len() == whole_in_d(end)
+            && ops.starts_with(reader.items());
+        start = end;
+    }
+    all && ends_as(reader, ops)
+}
+
+// Whether that holds at each pair of places.
+fn reads_every_cut(alloc: Global, ops: &[Op<Global>]) -> bool {
+    let mut all = true;
+    for first in 0..=D.len() {
+        for second in first..=D.len() {
+            all &= reads_cut(alloc, ops, first, second);
+        }
+    }
+    all
+}
+
+fn reads_cut_d(alloc: Global) -> bool {
+    match decode(alloc, D) {
+        Ok(list) => list.len() == 2 && reads_every_cut(alloc, list.as_slice()),
+        Err(_) => false,
+    }
+}
+
+#[test]
+fn operations_come_as_they_are_whole(rt: HostRuntime) {
+    assert!(rt; reads_cut_d(rt.alloc()));
+}
+
+// Whether the reader has failed for good.
+fn has_failed<A: Allocator + Copy>(mut reader: Reader<A>) -> bool {
+    if !reader.items().is_empty() || reader.feed(&[]) != Err(DeltaError::Failed) {
+        return false;
+    }
+    match reader.finish() {
+        Ok(_) => false,
+        Err(refused) => refused == DeltaError::Failed,
+    }
+}
+
+// Whether a reader that has an operation refuses what follows, and has failed then.
+fn fails_for_good(alloc: Global) -> bool {
+    let mut reader = Reader::new(alloc);
+    reader.feed(&D[..60]).is_ok()
+        && reader.items().len() == 1
+        && reader.feed(&[9; 20]) == Err(DeltaError::Refused)
+        && has_failed(reader)
+}
+
+#[test]
+fn readers_fail_for_good(rt: HostRuntime) {
+    assert!(rt; fails_for_good(rt.alloc()));
+}
+
+// Whether these are the operations of the text, fed in pieces of 16 bytes, after readers that were refused each request
+// for memory in turn, and failed. `heap` counts the requests of `alloc`.
+fn reads_again<A: Allocator + Copy>(
+    heap: &Metered<Global>,
+    alloc: A,
+    text: &[u8],
+    ops: &[Op<A>],
+) -> bool {
+    for grants in 0..1000u64 {
+        let mut reader = Reader::new(alloc);
+        heap.arm(grants);
+        let fed = feed_pieces(&mut reader, text, 16);
+        heap.arm(u64::MAX);
+        match fed {
+            Ok(()) => return grants > 0 && ends_as(reader, ops),
+            Err(refused) => {
+                if refused != DeltaError::OutOfMemory || !has_failed(reader) {
+                    return false;
+                }
+            }
+        }
+    }
+    false
+}
+
+fn reads_after_refusals<A: Allocator + Copy>(
+    heap: &Metered<Global>,
+    alloc: A,
+    text: &[u8],
+) -> bool {
+    match decode(alloc, text) {
+        Ok(list) => reads_again(heap, alloc, text, list.as_slice()),
+        Err(_) => false,
+    }
+}
+
+#[test]
+fn refused_texts_are_read_again(rt: HostRuntime) {
+    let heap = Metered::new(rt.alloc());
+    let mut all = true;
+    for text in &[A, B, D, F, G, H, I, &long_block(), &many_notes()] {
+        all &= reads_after_refusals(&heap, &heap, text);
+    }
+    assert!(rt; all);
+}

@@ -1,0 +1,181 @@
+//! Nim-values of known games, the room that is made for them, and the first place at which two lists differ.
+
+use metered::Metered;
+use oct_code::{Code, LIMIT};
+use oct_mex::{Values, first_difference};
+use std::alloc::{Allocator, Global};
+
+// The heaps 0 to 83 of Kayles, a line for each twelve.
+const KAYLES: [u32; 84] = [
+    0, 1, 2, 3, 1, 4, 3, 2, 1, 4, 2, 6, //
+    4, 1, 2, 7, 1, 4, 3, 2, 1, 4, 6, 7, //
+    4, 1, 2, 8, 5, 4, 7, 2, 1, 8, 6, 7, //
+    4, 1, 2, 3, 1, 4, 7, 2, 1, 8, 2, 7, //
+    4, 1, 2, 8, 1, 4, 7, 2, 1, 4, 2, 7, //
+    4, 1, 2, 8, 1, 4, 7, 2, 1, 8, 6, 7, //
+    4, 1, 2, 8, 1, 4, 7, 2, 1, 8, 2, 7,
+];
+
+// The first two, and the first eight.
+const TWO: &[u32] = &[0, 1];
+
+const EIGHT: &[u32] = &[0, 1, 2, 3, 1, 4, 3, 2];
+
+// Whether these are the first nim-values of the game, and no more of them are computed.
+fn are_first<A: Allocator + Copy>(alloc: A, text: &[u8], wanted: &[u32]) -> bool {
+    let Ok(code) = Code::parse(text) else {
+        return false;
+    };
+    let count = wanted.len();
+    let mut values = Values::new(alloc, code);
+    count <= LIMIT
+        && values.extend_to(count).is_ok()
+        && values.as_slice() == wanted
+        && values.get(count).is_none()
+}
+
+#[test]
+fn known_games_have_their_values(rt: HostRuntime) {
+    let games: [(&[u8], &[u32]); 5] = [
+        (b"0.77", &KAYLES),
+        (b"0.07", &[0, 0, 1, 1, 2, 0, 3]),
+        (b"0.137", &[0, 1, 1, 2, 0, 3]),
+        (b"0.3", &[0, 1, 0, 1, 0, 1, 0, 1, 0, 1]),
+        (b"4.0", &[0, 0, 1, 0, 1, 0, 1, 0, 1, 0]),
+    ];
+    let mut all = true;
+    for (text, wanted) in games {
+        all &= are_first(rt.alloc(), text, wanted);
+    }
+    assert!(rt; all);
+}
+
+// Whether a copy of the first eight values of Kayles becomes 84.
+fn copy_grows<A: Allocator + Copy>(alloc: A, values: &Values<A>) -> bool {
+    match values.copy(alloc) {
+        Ok(mut copy) => {
+            copy.as_slice() == EIGHT
+                && copy.extend_to(84).is_ok()
+                && copy.as_slice() == KAYLES.as_slice()
+        }
+        Err(_) => false,
+    }
+}
+
+// Whether it does so on its own.
+fn copies_grow<A: Allocator + Copy>(alloc: A, code: Code) -> bool {
+    let mut values = Values::new(alloc, code);
+    values.extend_to(8).is_ok() && copy_grows(alloc, &values) && values.as_slice() == EIGHT
+}
+
+#[test]
+fn copies_grow_on_their_own(rt: HostRuntime) {
+    assert!(rt;
+        match Code::parse(b"0.77") {
+            Ok(code) => copies_grow(rt.alloc(), code),
+            Err(_) => false,
+        }
+    );
+}
+
+// Whether room for eight values is made where each request for memory is refused in turn, and two values stay.
+fn get_room<A: Allocator + Copy>(heap: &Metered<Global>, values: &mut Values<A>) -> bool {
+    for grants in 0..10u64 {
+        heap.arm(grants);
+        if values.room_to(8).is_ok() {
+            return grants > 0 && values.as_slice() == TWO;
+        }
+        if values.as_slice() != TWO || values.room() != 2 {
+            return false;
+        }
+    }
+    false
+}
+
+// Whether two values become 84 in the same way.
+fn grow<A: Allocator + Copy>(heap: &Metered<Global>, values: &mut Values<A>) -> bool {
+    for grants in 0..10u64 {
+        heap.arm(grants);
+        if values.extend_to(84).is_ok() {
+            return grants > 0 && values.as_slice() == KAYLES.as_slice();
+        }
+        if values.as_slice() != TWO {
+            return false;
+        }
+    }
+    false
+}
+
+// Whether the values of a game get room, and then grow.
+fn grow_after_refusals(heap: &Metered<Global>, code: Code) -> bool {
+    let mut values = Values::new(heap, code);
+    values.extend_to(2).is_ok() && get_room(heap, &mut values) && grow(heap, &mut values)
+}
+
+#[test]
+fn refused_values_are_computed_again(rt: HostRuntime) {
+    let heap = Metered::new(rt.alloc());
+    assert!(rt;
+        match Code::parse(b"0.77") {
+            Ok(code) => grow_after_refusals(&heap, code),
+            Err(_) => false,
+        }
+    );
+}
+
+// Whether these are the first eight values of Kayles.
+fn are_eight<A: Allocator + Copy>(values: &Values<A>, code: Code) -> bool {
+    values.as_slice() == EIGHT
+        && values.get(5) == Some(4)
+        && values.get(8).is_none()
+        && values.code() == code
+        && values.room() == 8
+}
+
+// Whether values are made, computed within their room and read without a request for memory.
+fn take_no_memory(heap: &Metered<Global>, code: Code) -> bool {
+    heap.arm(1_000);
+    let mut values = Values::new(heap, code);
+    if heap.left() != 1_000 || values.room_to(8).is_err() {
+        return false;
+    }
+    heap.arm(1_000);
+    values.extend_within(8);
+    are_eight(&values, code) && heap.left() == 1_000
+}
+
+#[test]
+fn answers_take_no_memory(rt: HostRuntime) {
+    let heap = Metered::new(rt.alloc());
+    assert!(rt;
+        match Code::parse(b"0.77") {
+            Ok(code) => take_no_memory(&heap, code),
+            Err(_) => false,
+        }
+    );
+}
+
+// Whether the lists of sevens differ first at the place, once the second one has an eight there, and then more of them.
+fn differ_first_at(sevens: &[u32], other: &mut [u32], at: usize) -> bool {
+    if sevens.len() != other.len() {
+        return false;
+    }
+    let mut all = first_difference(sevens, other).is_none();
+    for later in at..other.len() {
+        other[later] = 8;
+        all &= first_difference(sevens, other) == Some(at);
+    }
+    all
+}
+
+#[test]
+fn lists_differ_at_the_first_place(rt: HostRuntime) {
+    let mut all = first_difference(&[0, 1, 2], &[0, 1, 3]) == Some(2);
+    for len in 0..71 {
+        for at in 0..=len {
+            let mut other = [7u32; 70];
+            all &= differ_first_at(&[7; 70][..len], &mut other[..len], at);
+        }
+    }
+    assert!(rt; all);
+}

@@ -1,4 +1,0 @@
-use Rattle.oct_period.proofs.tests.+next_wins.Given as goal
-
-abbrev pub decreases-next_wins : goal.decreases-next_wins
-decreases-next_wins l = l.moves
