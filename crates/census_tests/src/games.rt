@@ -293,27 +293,45 @@ fn counts<A: Allocator + Copy>(game: &Game<A>) -> (u32, u64, usize) {
     (ledger.known(), ledger.checks(), game.claims().count())
 }
 
+// Whether this is the claim of the item. None is that of a block.
+fn is_claim(claim: &PeriodClaim, item: &Item) -> bool {
+    match item {
+        Item::Claim(number, start, length, _) => {
+            claim.dot.number() == *number
+                && claim.period.start() == *start
+                && claim.period.period() == *length
+        }
+        Item::Block(..) => false,
+    }
+}
+
+// Whether the item is there; a block is where it has a status.
+fn is_there<A: Allocator + Copy>(game: &Game<A>, item: &Item) -> bool {
+    let mut found = matches!(item, Item::Block(..));
+    for claim in game.claims() {
+        found |= is_claim(claim, item);
+    }
+    found
+}
+
 // Adds an item with so many requests granted by the heap, in which `alloc` asks for memory. Says whether these were too few;
-// none where a refusal changes anything.
+// none where it is not there after all, or a refusal changes anything.
 fn adds<A: Allocator + Copy>(
     heap: &Metered<Global>,
     alloc: A,
     game: &mut Game<A>,
-    item: Item,
+    item: &Item,
     grants: u64,
 ) -> Option<bool> {
     let before = counts(game);
     heap.arm(grants);
-    match is_said(alloc, game, item) {
-        Some(_) => Some(false),
-        None => {
-            if counts(game) == before {
-                Some(true)
-            } else {
-                None
-            }
-        }
-    }
+    let refused = is_said(alloc, game, *item).is_none();
+    let right = if refused {
+        counts(game) == before
+    } else {
+        is_there(game, item)
+    };
+    if right { Some(refused) } else { None }
 }
 
 // The same of four of the items, whose places are the digits of a number to the base of 4. One may come twice, or not at all.
@@ -329,23 +347,11 @@ fn fill<A: Allocator + Copy>(
     let mut refused = false;
     for _ in 0..4 {
         if let Some(item) = items.get(rest % 4) {
-            refused |= adds(heap, alloc, game, *item, grants)?;
+            refused |= adds(heap, alloc, game, item, grants)?;
         }
         rest /= 4;
     }
     Some(refused)
-}
-
-// Whether this is the claim of the item. None is that of a block.
-fn is_claim(claim: &PeriodClaim, item: &Item) -> bool {
-    match item {
-        Item::Claim(number, start, length, _) => {
-            claim.dot.number() == *number
-                && claim.period.start() == *start
-                && claim.period.period() == *length
-        }
-        Item::Block(..) => false,
-    }
 }
 
 // Whether the claims of the game are those of the items, in their order.

@@ -77,8 +77,8 @@ fn is_added<A: Allocator + Copy>(notes: &mut Notes<A>, op: &Op<A>) -> bool {
     }
 }
 
-// Adds an operation, at first with so many requests granted, and says whether these were too few; none where a refusal
-// changes anything, or memory is not enough in the end.
+// Adds an operation, at first with so many requests granted, and says whether these were too few; none where it is not there
+// after all, a refusal changes anything, or memory is not enough in the end.
 fn adds<A: Allocator + Copy>(
     heap: &Metered<Global>,
     notes: &mut Notes<A>,
@@ -88,7 +88,7 @@ fn adds<A: Allocator + Copy>(
     let before = notes.len();
     heap.arm(grants);
     let refused = !is_added(notes, op);
-    if refused && (notes.contains(op) || notes.len() != before) {
+    if notes.contains(op) == refused || (refused && notes.len() != before) {
         return None;
     }
     heap.arm(u64::MAX);
