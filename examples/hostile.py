@@ -43,8 +43,8 @@ def census(*words):
 
 def wanted(answer, fault, faults):
     """The status and the line of an answer: those of the fault, where it is one of its causes."""
-    causes = {cause: status for status, all in faults.items() for cause in all}
-    return (causes[answer], f"census: {fault} {answer}".replace("  ", " ")) if answer in causes else (0, answer)
+    statuses = {cause: status for status, causes in faults.items() for cause in causes}
+    return (statuses[answer], f"census: {fault} {answer}") if answer in statuses else (0, answer)
 
 
 def deltas():
