@@ -1,6 +1,7 @@
 //! The files of a command.
 
-use census_core::{Fault, INPUT_LIMIT, read_whole, write_out};
+use census_core::{Fault, INPUT_LIMIT, read_whole};
+use oct_sync::write_out;
 use std::alloc::{AllocError, Global};
 use std::fs;
 use std::io::ErrorKind;

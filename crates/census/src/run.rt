@@ -4,8 +4,9 @@ use crate::command_line::command;
 use crate::files::{exists, read_file, replace_file, write_file};
 use crate::network::exchange;
 use crate::task::{Task, read_task};
-use census_core::{Fault, INPUT_LIMIT, Reply, Request, fold_lines, perform, write_out};
+use census_core::{Fault, Reply, Request, fold_lines, perform};
 use clap::error::ErrorKind;
+use oct_sync::write_out;
 use std::alloc::Global;
 use std::convert::AsStr;
 use std::io::{Read, Write};
@@ -64,7 +65,7 @@ fn show<O: Write, E: Write>(
     }
     match write_out(output, text.as_bytes()) {
         Ok(()) => 0,
-        Err(fault) => refuse(errors, fault),
+        Err(unwritten) => refuse(errors, Fault::from(unwritten)),
     }
 }
 
@@ -100,7 +101,7 @@ where
             address,
         } => {
             exchange(rt, *role, state, address)?;
-            write_out(output, b"done\n")
+            Ok(write_out(output, b"done\n")?)
         }
     }
 }
@@ -160,5 +161,5 @@ fn finish<R: Files + AllocGlobal, O: Write>(
     if let (Some(bytes), Some(path)) = (&reply.file, written) {
         write_file(rt, path, bytes)?;
     }
-    write_out(output, &reply.text)
+    Ok(write_out(output, &reply.text)?)
 }

@@ -4,8 +4,8 @@ use Rattle.std.specs.Result.{result_ok}
 use Rattle.oct_code.specs.Code.{Code}
 use Rattle.oct_ops.specs.Faults.{block_fault}
 use Rattle.oct_ops.specs.Operation.{Block, claimed}
-use Rattle.oct_ops.specs.declared.fault.BlockError.{BlockError}
-use Rattle.oct_ops.specs.declared.fault.BlockError.TheVariants as block
+use Rattle.oct_ops.specs.declared.error.BlockError.{BlockError}
+use Rattle.oct_ops.specs.declared.error.BlockError.TheVariants as block
 use Rattle.serde_json.specs.Data.{Data, null, boolean, number, string, array, object, Items, no_items, item, Members, no_members, member}
 use Rattle.serde_json.specs.Find.{get, as_array, as_number, as_str, as_u64}
 use Rattle.census_core.specs.Codes.{read_code}

@@ -4,7 +4,6 @@ pub mod Folded
 pub mod Imported
 pub mod Issuing
 pub mod Lines
-pub mod Output
 pub mod Performed
 pub mod Refusals
 pub mod Replies

@@ -1,8 +1,8 @@
 -- The fault of each refusal: its cause, or want of memory.
 use Rattle.oct_delta.specs.declared.error.EncodeError.{EncodeError}
 use Rattle.oct_delta.specs.declared.error.EncodeError.TheVariants as encode
-use Rattle.oct_ops.specs.declared.fault.NoteError.{NoteError}
-use Rattle.oct_ops.specs.declared.fault.NoteError.TheVariants as note
+use Rattle.oct_ops.specs.declared.error.NoteError.{NoteError}
+use Rattle.oct_ops.specs.declared.error.NoteError.TheVariants as note
 use Rattle.oct_replica.specs.declared.error.ComputeError.{ComputeError}
 use Rattle.oct_replica.specs.declared.error.ComputeError.TheVariants as compute
 use Rattle.oct_replica.specs.declared.error.IssueError.{IssueError}

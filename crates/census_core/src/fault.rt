@@ -5,7 +5,7 @@ use oct_code::CodeError;
 use oct_delta::EncodeError;
 use oct_ops::{NoteError, PeriodError};
 use oct_replica::{ComputeError, IssueError, LoadError, RemovalError, TakeError};
-use oct_sync::SyncError;
+use oct_sync::{SyncError, Unwritten};
 use std::alloc::AllocError;
 use thiserror::Error;
 
@@ -262,5 +262,16 @@ impl From<AllocError> for Fault {
 
     fn from(_refused: AllocError) -> Fault {
         Fault::OutOfMemory
+    }
+}
+
+impl From<Unwritten> for Fault {
+    ghost use Rattle.std.specs.Prelude.{◌≡◌};
+    ghost use Rattle.census_core.specs.declared.fault.Fault.TheVariants as faults;
+
+    ghost from_gives = { λ _ fault. fault ≡ faults.Write };
+
+    fn from(_failed: Unwritten) -> Fault {
+        Fault::Write
     }
 }

@@ -2,13 +2,13 @@
 
 ghost use Rattle.std.specs.Prelude.{◌≡◌, ◌≢◌, ◌<◌, length, IfOk, OnOk, IfSome, IfErr, IsErrOf};
 ghost use Rattle.std.specs.Io.KnownBytes.{Appends, Keeps};
+ghost use Rattle.oct_sync.specs.Output.{AppendsPrefix};
 ghost use Rattle.census_core.specs.Folded.{folded, refused};
-ghost use Rattle.census_core.specs.Output.{AppendsPrefix};
 
 use crate::fault::Fault;
 use crate::input::{INPUT_LIMIT, read_whole};
-use crate::output::write_out;
 use crate::taken::take_lines;
+use oct_sync::write_out;
 use std::alloc::Allocator;
 use std::io::{Read, Write};
 

@@ -3,7 +3,7 @@
 //! - `fold_lines` reads lines of deltas, and writes the catalogue of what they say.
 //! - `perform` does a `Request`, from the bytes of the state file and of another file to the `Reply` that is to be written.
 //! - `import_block` reads the block of a JSON value, and `number` a word of the command line.
-//! - `read_whole` and `write_out` read and write all of a stream.
+//! - `read_whole` reads all of a stream.
 //! - `Fault` says why a run ended early, and `laws` what holds of every state file.
 #![tactic(auto)]
 
@@ -18,7 +18,6 @@ mod input;
 mod issuing;
 pub mod laws;
 mod lines;
-mod output;
 mod reply;
 mod request;
 mod states;
@@ -32,7 +31,6 @@ pub use fold::fold_lines;
 pub use import::import_block;
 pub use import_error::ImportError;
 pub use input::{INPUT_LIMIT, read_whole};
-pub use output::write_out;
 pub use reply::Reply;
 pub use request::Request;
 pub use words::number;

@@ -6,19 +6,21 @@ ghost use Rattle.oct_code.specs.DigitFaults.{are_octal, ends_in_zero, digits_fau
 use crate::error::DigitsError;
 use crate::limits::MAX_DIGITS;
 
+// Whether each digit is at most 7.
 fn are_octal(digits: &[u8]) -> bool
     ensures { result ≡ are_octal digits.now }
 {
     digits.iter().all(|digit| *digit <= 7)
 }
 
+// Whether the last digit is 0.
 fn ends_in_zero(digits: &[u8]) -> bool
     ensures { result ≡ ends_in_zero digits.now }
 {
     digits.last().copied() == Some(0)
 }
 
-// The first fault of digits that are no code.
+/// The first fault of digits that are no code.
 pub(crate) fn check_digits(head: u8, digits: &[u8]) -> Result<(), DigitsError>
     ensures { result ≡ digits_fault head digits.now }
 {

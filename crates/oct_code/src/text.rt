@@ -8,7 +8,7 @@ ghost use Rattle.oct_code.specs.TextFaults.{around_point, parts_now, are_digit_b
 use crate::error::CodeError;
 use crate::limits::MAX_DIGITS;
 
-// The head's byte, which is that of 0 where there is none, and the bytes after the point.
+/// The head's byte, which is that of 0 where there is none, and the bytes after the point.
 pub(crate) fn around_point(text: &[u8]) -> Option<(u8, &[u8])>
     ensures { parts_now result ≡ around_point text.now }
 {
@@ -19,13 +19,14 @@ pub(crate) fn around_point(text: &[u8]) -> Option<(u8, &[u8])>
     }
 }
 
+// Whether each byte is one of `0` to `7`.
 fn are_digit_bytes(bytes: &[u8]) -> bool
     ensures { result ≡ are_digit_bytes bytes.now }
 {
     bytes.iter().all(|byte| matches!(*byte, b'0'..=b'7'))
 }
 
-// The bytes without the zeros at the end.
+/// The bytes without the zeros at the end.
 pub(crate) fn trimmed(bytes: &[u8]) -> &[u8]
     ensures { result.now ≡ trimmed bytes.now }
 {
@@ -39,7 +40,7 @@ pub(crate) fn trimmed(bytes: &[u8]) -> &[u8]
     digits
 }
 
-// The digits that the bytes spell, and then zeros.
+/// The digits that the bytes spell, and then zeros.
 pub(crate) fn digits_of(bytes: &[u8]) -> [u8; MAX_DIGITS]
     requires short { length bytes.now ≤ MAX_DIGITS }
     requires octal { IsTrue (are_digit_bytes bytes.now) }
@@ -55,7 +56,7 @@ pub(crate) fn digits_of(bytes: &[u8]) -> [u8; MAX_DIGITS]
 // The most bytes of a code's text.
 const MAX_TEXT: usize = 18;
 
-// The head and the digits as text, and then zeros.
+/// The head and the digits as text, and then zeros.
 pub(crate) fn spell(head: u8, digits: &[u8]) -> [u8; MAX_TEXT]
     requires head { head ≤ 4 }
     requires short { length digits.now ≤ MAX_DIGITS }
@@ -71,7 +72,7 @@ pub(crate) fn spell(head: u8, digits: &[u8]) -> [u8; MAX_TEXT]
     text
 }
 
-// The first fault of a text's parts.
+/// The first fault of a text's parts.
 pub(crate) fn check_parts(head: u8, bytes: &[u8]) -> Result<(), CodeError>
     ensures { result_err result ≡ parts_fault head bytes.now }
 {

@@ -11,6 +11,7 @@ use oct_ops::{Block, Body, Dot, Note, NoteError, Op, Removal};
 use std::alloc::Allocator;
 
 impl Input<'_> {
+    // So many numbers of 32 bits.
     fn numbers<A: Allocator>(&mut self, alloc: A, count: u16) -> Result<Vec<u32, A>, ReadError>
         ensures value { GivesIfRoom (λ x. (x.items, self.new)) result (numbers_at count self.old) }
         ensures len { IfOk result (λ x. length x.items ≡ count) }
@@ -23,6 +24,7 @@ impl Input<'_> {
         Ok(numbers)
     }
 
+    // A block within the limit.
     #[tactic(auto, unfolding(crate::specs::Reading::block_at))]
     fn block<A: Allocator>(&mut self, alloc: A, limit: usize) -> Result<Block<A>, ReadError>
         requires { limit ≤ LIMIT }
@@ -36,6 +38,7 @@ impl Input<'_> {
         }
     }
 
+    // A note.
     #[tactic(auto, unfolding(crate::specs::Reading::note_at))]
     fn note<A: Allocator + Copy>(&mut self, alloc: A) -> Result<Note<A>, ReadError>
         ensures { GivesIfRoom (λ x. (x, self.new)) result (note_at self.old) }
@@ -48,6 +51,7 @@ impl Input<'_> {
         }
     }
 
+    // So many dots, each above the one before.
     fn dots<A: Allocator>(&mut self, alloc: A, count: u16) -> Result<Vec<Dot, A>, ReadError>
         ensures { GivesIfRoom (λ x. (x.items, self.new)) result (dots_at count self.old) }
     {
@@ -61,6 +65,7 @@ impl Input<'_> {
         Ok(dots)
     }
 
+    // A removal.
     #[tactic(auto, unfolding(crate::specs::Reading::removal_at))]
     fn removal<A: Allocator>(&mut self, alloc: A) -> Result<Removal<A>, ReadError>
         ensures { GivesIfRoom (λ x. (x, self.new)) result (removal_at self.old) }
@@ -73,6 +78,7 @@ impl Input<'_> {
         }
     }
 
+    // A body of the kind.
     #[tactic(auto, unfolding(crate::specs::Reading::body_at))]
     fn body<A: Allocator + Copy>(
         &mut self,
@@ -92,8 +98,13 @@ impl Input<'_> {
         }
     }
 
+    /// An operation.
     #[tactic(auto, unfolding(crate::specs::Reading::op_at))]
-    pub fn op<A: Allocator + Copy>(&mut self, alloc: A, limit: usize) -> Result<Op<A>, ReadError>
+    pub(crate) fn op<A: Allocator + Copy>(
+        &mut self,
+        alloc: A,
+        limit: usize,
+    ) -> Result<Op<A>, ReadError>
         requires { limit ≤ LIMIT }
         ensures { GivesIfRoom (λ x. (x, self.new)) result (op_at limit self.old) }
     {
@@ -104,7 +115,7 @@ impl Input<'_> {
     }
 
     /// So many operations, in whatever order.
-    pub fn ops<A: Allocator + Copy>(
+    pub(crate) fn ops<A: Allocator + Copy>(
         &mut self,
         alloc: A,
         limit: usize,

@@ -12,6 +12,7 @@ use crate::fault::Fault;
 use crate::input::Input;
 use oct_code::LIMIT;
 
+// Whether a text comes after the one before, byte by byte.
 fn is_greater(text: &[u8], previous: &[u8]) -> bool
     ensures { result ≡ is_lt (slice_cmp nat_cmp previous.now text.now) }
 {
@@ -19,6 +20,7 @@ fn is_greater(text: &[u8], previous: &[u8]) -> bool
 }
 
 impl<'a> Input<'a> {
+    // Passes over so many numbers of 32 bits.
     fn skip_numbers(&mut self, count: u16) -> Result<(), Fault>
         ensures { Gives (λ _. self.new) result (skipped (numbers_at count self.old)) }
     {
@@ -26,6 +28,7 @@ impl<'a> Input<'a> {
         Ok(())
     }
 
+    // Passes over a block within the limit.
     #[tactic(auto, unfolding(crate::specs::Reading::block_at))]
     fn skip_block(&mut self, limit: usize) -> Result<(), Fault>
         requires { limit ≤ LIMIT }
@@ -35,6 +38,7 @@ impl<'a> Input<'a> {
         self.skip_numbers(front.count)
     }
 
+    // Passes over so many dots, each above the one before.
     fn skip_dots(&mut self, count: u16) -> Result<(), Fault>
         ensures { Gives (λ _. self.new) result (skipped (dots_at count self.old)) }
     {
@@ -45,6 +49,7 @@ impl<'a> Input<'a> {
         Ok(())
     }
 
+    // Passes over a removal.
     #[tactic(auto, unfolding(crate::specs::Reading::removal_at))]
     fn skip_removal(&mut self) -> Result<(), Fault>
         ensures { Gives (λ _. self.new) result (skipped (removal_at self.old)) }
@@ -53,6 +58,7 @@ impl<'a> Input<'a> {
         self.skip_dots(count)
     }
 
+    // Passes over a body of the kind.
     #[tactic(auto, unfolding(crate::specs::Reading::body_at))]
     fn skip_body(&mut self, limit: usize, kind: u8) -> Result<(), Fault>
         requires { limit ≤ LIMIT }
@@ -73,8 +79,9 @@ impl<'a> Input<'a> {
         }
     }
 
+    /// Passes over an operation.
     #[tactic(auto, unfolding(crate::specs::Reading::op_at))]
-    pub fn skip_op(&mut self, limit: usize) -> Result<(), Fault>
+    pub(crate) fn skip_op(&mut self, limit: usize) -> Result<(), Fault>
         requires { limit ≤ LIMIT }
         ensures { Gives (λ _. self.new) result (skipped (op_at limit self.old)) }
     {
@@ -84,7 +91,7 @@ impl<'a> Input<'a> {
     }
 
     /// Passes over an operation, and gives its text.
-    pub fn op_text(&mut self, limit: usize) -> Result<&'a [u8], Fault>
+    pub(crate) fn op_text(&mut self, limit: usize) -> Result<&'a [u8], Fault>
         requires { limit ≤ LIMIT }
         ensures value { Gives (λ _. self.new) result (skipped (op_at limit self.old)) }
         ensures text { IfOk result (λ text. (o : Operation) × Passed limit self.old self.new o × (text.now ≡ op_bytes o)) }
@@ -95,7 +102,7 @@ impl<'a> Input<'a> {
     }
 
     /// Passes over so many operations, each of them above the one before.
-    pub fn skip_ops(&mut self, limit: usize, count: u32) -> Result<(), Fault>
+    pub(crate) fn skip_ops(&mut self, limit: usize, count: u32) -> Result<(), Fault>
         requires { limit ≤ LIMIT }
         ensures { Gives (λ _. self.new) result (skipped (ops_at limit count self.old)) }
     {

@@ -1,12 +1,12 @@
 //! Clocks as bytes.
 
-ghost use Rattle.std.specs.Prelude.{◌≡◌, ◌↔◌, ◌++◌, true, None, Some, Ok, [], IfOk, IfErr, OnOk, OnErr, IsErrOf};
+ghost use Rattle.std.specs.Prelude.{◌≡◌, ◌↔◌, ◌<◌, ◌^◌, ◌++◌, true, None, Some, Ok, [], length, IfOk, IfErr, OnOk, OnErr, IsErrOf};
 ghost use Rattle.std.specs.List.{flat_map};
 ghost use Rattle.oct_join.specs.Clock as clock;
 ghost use Rattle.oct_join.specs.Entries.{Entries};
 ghost use Rattle.oct_delta.specs.Decoding.{all_of};
 ghost use Rattle.oct_delta.specs.Reading.{Gives, GivesIfRoom, skipped, chain_at, follows, next_at};
-ghost use Rattle.oct_delta.specs.Clocks.{IsClockText, author_cmp, entry_at, entries_at, entry_bytes, clock_bytes, read_clock};
+ghost use Rattle.oct_delta.specs.Clocks.{IsClockText, author_cmp, entry_at, entries_at, entry_bytes, entries_bytes, clock_bytes, read_clock};
 ghost use Rattle.oct_delta.specs.Writing.{Keeps};
 
 use crate::error::ClockError;
@@ -16,6 +16,7 @@ use crate::output::put_u32;
 use oct_join::Clock;
 use std::alloc::{AllocError, Allocator};
 
+// Whether the author is above the one before.
 fn author_follows(before: Option<(u32, u32)>, entry: (u32, u32)) -> bool
     ensures { result ≡ follows author_cmp before entry }
 {
@@ -26,6 +27,7 @@ fn author_follows(before: Option<(u32, u32)>, entry: (u32, u32)) -> bool
 }
 
 impl Input<'_> {
+    // An author and its number.
     #[tactic(auto, unfolding(crate::specs::Clocks::entry_at))]
     fn entry(&mut self) -> Result<(u32, u32), Fault>
         ensures value { Gives (λ x. (x, self.new)) result (entry_at self.old) }
@@ -39,6 +41,7 @@ impl Input<'_> {
         Ok((author, through))
     }
 
+    // An author above the one before, and its number.
     #[tactic(auto, unfolding(crate::specs::Reading::next_at))]
     fn next_entry(&mut self, before: Option<(u32, u32)>) -> Result<(u32, u32), Fault>
         ensures value { Gives (λ x. (x, self.new)) result (next_at author_cmp entry_at before self.old) }
@@ -52,6 +55,7 @@ impl Input<'_> {
         Ok(entry)
     }
 
+    // Passes over so many authors with their numbers.
     fn skip_entries(&mut self, count: u32) -> Result<(), Fault>
         ensures { Gives (λ _. self.new) result (skipped (chain_at (next_at author_cmp entry_at) None count self.old)) }
     {
@@ -62,6 +66,7 @@ impl Input<'_> {
         Ok(())
     }
 
+    // The clock of so many authors with their numbers.
     fn clock<A: Allocator>(&mut self, alloc: A, count: u32) -> Result<Clock<A>, ReadError>
         ensures { GivesIfRoom (λ t. (clock.entries t, self.new)) result (chain_at (next_at author_cmp entry_at) None count self.old) }
     {
@@ -120,6 +125,7 @@ pub fn decode_clock<A: Allocator>(alloc: A, bytes: &[u8]) -> Result<Clock<A>, Cl
     }
 }
 
+// Appends an author and its number.
 #[tactic(auto, using(crate::proofs::Written::keeps_then))]
 fn put_entry<A: Allocator>(out: &mut Vec<u8, A>, entry: (u32, u32)) -> Result<(), AllocError>
     ensures ok { OnOk result (out.new.items ≡ out.old.items ++ entry_bytes entry) }
@@ -129,8 +135,9 @@ fn put_entry<A: Allocator>(out: &mut Vec<u8, A>, entry: (u32, u32)) -> Result<()
     put_u32(out, entry.1)
 }
 
+// Appends each author and its number.
 #[tactic(auto, using(crate::proofs::Written::keeps_then))]
-fn put_entries<A: Allocator>(out: &mut Vec<u8, A>, entries: &[(u32, u32)]) -> Result<(), AllocError>
+fn put_each<A: Allocator>(out: &mut Vec<u8, A>, entries: &[(u32, u32)]) -> Result<(), AllocError>
     ensures ok { OnOk result (out.new.items ≡ out.old.items ++ flat_map entry_bytes entries.now) }
     ensures kept { Keeps out.old.items out.new.items }
 {
@@ -140,24 +147,29 @@ fn put_entries<A: Allocator>(out: &mut Vec<u8, A>, entries: &[(u32, u32)]) -> Re
     Ok(())
 }
 
+/// Appends how many authors there are, and then each with its number. After a refusal what was there before is at the
+/// front.
 #[tactic(auto, using(crate::proofs::Written::keeps_then))]
-fn put_clock<A: Allocator>(out: &mut Vec<u8, A>, clock: &Clock<A>) -> Result<(), AllocError>
-    ensures ok { OnOk result (out.new.items ≡ out.old.items ++ clock_bytes clock.now) }
+pub fn put_entries<A: Allocator>(
+    out: &mut Vec<u8, A>,
+    entries: &[(u32, u32)],
+) -> Result<(), AllocError>
+    requires { length entries.now < 2 ^ 32 }
+    ensures ok { OnOk result (out.new.items ≡ out.old.items ++ entries_bytes entries.now) }
     ensures kept { Keeps out.old.items out.new.items }
 {
-    let entries = clock.entries();
     put_u32(out, entries.len() as u32)?;
-    put_entries(out, entries)
+    put_each(out, entries)
 }
 
-/// Adds the one text of a clock to the end of `out`. After a refusal `out` is as it was. A clock always has a text,
+/// Appends the one text of a clock to `out`. After a refusal `out` is as it was. A clock always has a text,
 /// since its authors are distinct `u32`s.
 pub fn encode_clock<A: Allocator>(clock: &Clock<A>, out: &mut Vec<u8, A>) -> Result<(), AllocError>
     ensures ok { OnOk result (out.new.items ≡ out.old.items ++ clock_bytes clock.now) }
     ensures err { OnErr result (out.new.items ≡ out.old.items) }
 {
     let length = out.len();
-    if put_clock(out, clock).is_err() {
+    if put_entries(out, clock.entries()).is_err() {
         out.truncate(length);
         return Err(AllocError);
     }

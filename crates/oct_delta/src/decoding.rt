@@ -35,8 +35,5 @@ pub fn decode<A: Allocator + Copy>(alloc: A, bytes: &[u8]) -> Result<OpList<A>, 
     let Ok(ops) = build_list(alloc, limit, list) else {
         return Err(DeltaError::OutOfMemory);
     };
-    match OpList::from_rising(ops) {
-        Ok(list) => Ok(list),
-        Err(_) => Err(DeltaError::Refused),
-    }
+    Ok(OpList::of_rising(ops))
 }

@@ -16,6 +16,7 @@ use oct_code::Code;
 use oct_ops::{Block, Body, Dot, Note, Op, OpList, Period, Removal};
 use std::alloc::{AllocError, Allocator};
 
+// Appends a dot.
 #[tactic(auto, using(crate::proofs::Written::keeps_then))]
 fn put_dot<A: Allocator>(out: &mut Vec<u8, A>, dot: Dot) -> Result<(), AllocError>
     ensures ok { OnOk result (out.new.items ≡ out.old.items ++ dot_bytes dot) }
@@ -25,6 +26,7 @@ fn put_dot<A: Allocator>(out: &mut Vec<u8, A>, dot: Dot) -> Result<(), AllocErro
     put_u32(out, dot.number())
 }
 
+// Appends a code: head, number of digits, digits.
 #[tactic(auto, using(crate::proofs::Written::keeps_then))]
 fn put_code<A: Allocator>(out: &mut Vec<u8, A>, code: Code) -> Result<(), AllocError>
     ensures ok { OnOk result (out.new.items ≡ out.old.items ++ code_bytes code) }
@@ -35,6 +37,7 @@ fn put_code<A: Allocator>(out: &mut Vec<u8, A>, code: Code) -> Result<(), AllocE
     put_bytes(out, code.digits())
 }
 
+// Appends numbers of 32 bits.
 #[tactic(auto, using(crate::proofs::Written::keeps_then))]
 fn put_numbers<A: Allocator>(out: &mut Vec<u8, A>, numbers: &[u32]) -> Result<(), AllocError>
     ensures ok { OnOk result (out.new.items ≡ out.old.items ++ flat_map u32 numbers.now) }
@@ -46,6 +49,7 @@ fn put_numbers<A: Allocator>(out: &mut Vec<u8, A>, numbers: &[u32]) -> Result<()
     Ok(())
 }
 
+// Appends a block.
 #[tactic(auto, using(crate::proofs::Written::keeps_then))]
 fn put_block<A: Allocator>(out: &mut Vec<u8, A>, block: &Block<A>) -> Result<(), AllocError>
     ensures ok { OnOk result (out.new.items ≡ out.old.items ++ block_bytes block.now) }
@@ -58,6 +62,7 @@ fn put_block<A: Allocator>(out: &mut Vec<u8, A>, block: &Block<A>) -> Result<(),
     put_numbers(out, values)
 }
 
+// Appends a period claim.
 #[tactic(auto, using(crate::proofs::Written::keeps_then))]
 fn put_period<A: Allocator>(out: &mut Vec<u8, A>, period: &Period) -> Result<(), AllocError>
     ensures ok { OnOk result (out.new.items ≡ out.old.items ++ period_bytes period.now) }
@@ -68,6 +73,7 @@ fn put_period<A: Allocator>(out: &mut Vec<u8, A>, period: &Period) -> Result<(),
     put_u32(out, period.period())
 }
 
+// Appends a note.
 #[tactic(auto, using(crate::proofs::Written::keeps_then))]
 fn put_note<A: Allocator>(out: &mut Vec<u8, A>, note: &Note<A>) -> Result<(), AllocError>
     ensures ok { OnOk result (out.new.items ≡ out.old.items ++ note_bytes note.now) }
@@ -81,6 +87,7 @@ fn put_note<A: Allocator>(out: &mut Vec<u8, A>, note: &Note<A>) -> Result<(), Al
     put_bytes(out, text)
 }
 
+// Appends dots.
 #[tactic(auto, using(crate::proofs::Written::keeps_then))]
 fn put_dots<A: Allocator>(out: &mut Vec<u8, A>, dots: &[Dot]) -> Result<(), AllocError>
     ensures ok { OnOk result (out.new.items ≡ out.old.items ++ flat_map dot_bytes dots.now) }
@@ -92,6 +99,7 @@ fn put_dots<A: Allocator>(out: &mut Vec<u8, A>, dots: &[Dot]) -> Result<(), Allo
     Ok(())
 }
 
+// Appends a removal.
 #[tactic(auto, using(crate::proofs::Written::keeps_then))]
 fn put_removal<A: Allocator>(out: &mut Vec<u8, A>, removal: &Removal<A>) -> Result<(), AllocError>
     ensures ok { OnOk result (out.new.items ≡ out.old.items ++ removal_bytes removal.now) }
@@ -102,6 +110,7 @@ fn put_removal<A: Allocator>(out: &mut Vec<u8, A>, removal: &Removal<A>) -> Resu
     put_dots(out, dots)
 }
 
+// Appends a body, without its kind.
 fn put_body<A: Allocator>(out: &mut Vec<u8, A>, body: &Body<A>) -> Result<(), AllocError>
     ensures ok { OnOk result (out.new.items ≡ out.old.items ++ body_bytes (content body.now)) }
     ensures kept { Keeps out.old.items out.new.items }
@@ -114,6 +123,7 @@ fn put_body<A: Allocator>(out: &mut Vec<u8, A>, body: &Body<A>) -> Result<(), Al
     }
 }
 
+// Appends an operation.
 #[tactic(auto, using(crate::proofs::Written::keeps_then))]
 fn put_op<A: Allocator>(out: &mut Vec<u8, A>, op: &Op<A>) -> Result<(), AllocError>
     ensures ok { OnOk result (out.new.items ≡ out.old.items ++ op_bytes op.now) }
@@ -124,6 +134,7 @@ fn put_op<A: Allocator>(out: &mut Vec<u8, A>, op: &Op<A>) -> Result<(), AllocErr
     put_body(out, op.body())
 }
 
+// Appends operations.
 #[tactic(auto, using(crate::proofs::Written::keeps_then))]
 fn put_ops<A: Allocator>(out: &mut Vec<u8, A>, ops: &[Op<A>]) -> Result<(), AllocError>
     ensures ok { OnOk result (out.new.items ≡ out.old.items ++ flat_map op_bytes ops.now) }
@@ -135,6 +146,7 @@ fn put_ops<A: Allocator>(out: &mut Vec<u8, A>, ops: &[Op<A>]) -> Result<(), Allo
     Ok(())
 }
 
+// Whether each operation keeps the limits of the first edition.
 fn keep_old_limits<A: Allocator>(ops: &[Op<A>]) -> bool
     ensures { result ≡ list_all keeps_old_limits ops.now }
 {
@@ -152,6 +164,7 @@ fn edition_of<A: Allocator>(ops: &[Op<A>]) -> Edition
     }
 }
 
+// Appends a tag, a count and the operations.
 #[tactic(auto, using(crate::proofs::Written::keeps_then))]
 fn put_delta<A: Allocator>(out: &mut Vec<u8, A>, ops: &[Op<A>]) -> Result<(), AllocError>
     requires { length ops.now < 2 ^ 32 }
@@ -163,7 +176,7 @@ fn put_delta<A: Allocator>(out: &mut Vec<u8, A>, ops: &[Op<A>]) -> Result<(), Al
     put_ops(out, ops)
 }
 
-/// Adds the one text of a list that is written to the end of `out`: in the old format where all operations keep its
+/// Appends the one text of a list that is written to `out`: in the old format where all operations keep its
 /// limits, else in the new one. After a refusal `out` is as it was. The answer is `TooMany` exactly where the length
 /// of the list is no `u32`.
 pub fn encode<A: Allocator>(list: &OpList<A>, out: &mut Vec<u8, A>) -> Result<(), EncodeError>
@@ -182,6 +195,7 @@ pub fn encode<A: Allocator>(list: &OpList<A>, out: &mut Vec<u8, A>) -> Result<()
     Ok(())
 }
 
+// How many bytes the text of a block has.
 fn block_size<A: Allocator>(block: &Block<A>) -> usize
     ensures size { result ≡ length (block_bytes block.now) }
     ensures small { result ≤ 4120 }
@@ -189,6 +203,7 @@ fn block_size<A: Allocator>(block: &Block<A>) -> usize
     8 + block.code().len() + 4 * block.values().len()
 }
 
+// How many bytes the text of a period claim has.
 fn period_size(period: &Period) -> usize
     ensures size { result ≡ length (period_bytes period.now) }
     ensures small { result ≤ 26 }
@@ -196,6 +211,7 @@ fn period_size(period: &Period) -> usize
     10 + period.code().len()
 }
 
+// How many bytes the text of a note has.
 fn note_size<A: Allocator>(note: &Note<A>) -> usize
     ensures size { result ≡ length (note_bytes note.now) }
     ensures small { result ≤ 234 }
@@ -203,6 +219,7 @@ fn note_size<A: Allocator>(note: &Note<A>) -> usize
     2 + note.name().len() + note.text().len()
 }
 
+// How many bytes the text of a removal has.
 fn removal_size<A: Allocator>(removal: &Removal<A>) -> usize
     ensures size { result ≡ length (removal_bytes removal.now) }
     ensures small { result ≤ 8194 }

@@ -8,14 +8,14 @@ use oct_code::{LIMIT, OLD_LIMIT};
 
 /// Which tag a text begins with, and so which limit its operations keep.
 #[derive(Clone, Copy, Debug, PartialEq, Eq)]
-pub enum Edition {
+pub(crate) enum Edition {
     First,
     Second,
 }
 
 impl Edition {
     /// How many places a game has.
-    pub fn limit(self) -> usize
+    pub(crate) fn limit(self) -> usize
         ensures value { result ≡ (format self).limit }
         ensures low { result ≤ LIMIT }
     {
@@ -26,7 +26,7 @@ impl Edition {
     }
 
     /// The first four bytes.
-    pub fn tag(self) -> [u8; 4]
+    pub(crate) fn tag(self) -> [u8; 4]
         ensures { result ≡ (format self).tag }
     {
         match self {
@@ -37,7 +37,7 @@ impl Edition {
 }
 
 /// The edition that the first four bytes name, and what follows them.
-pub fn split_tag(bytes: &[u8]) -> Option<(Edition, &[u8])>
+pub(crate) fn split_tag(bytes: &[u8]) -> Option<(Edition, &[u8])>
     ensures some { IfSome result (λ x. bytes.now ≡ (format x.0).tag ++ x.1.now) }
     ensures none { IsNone result ↔ (format_at bytes.now ≡ None) }
 {

@@ -3,19 +3,18 @@
 ghost use Rattle.std.specs.Prelude.{◌≡◌, ◌==◌, ◌≤◌, length, IfOk, IsTrue};
 ghost use Rattle.std.specs.Int.{w16, w32};
 ghost use Rattle.oct_ops.specs.DotOrder.{dot_cmp};
-ghost use Rattle.oct_ops.specs.Faults.{are_name_bytes, are_text_bytes, is_name, is_text};
 ghost use Rattle.oct_delta.specs.Bytes.{IsBytes};
 ghost use Rattle.oct_delta.specs.Reading.{Gives, byte_at, number_at, bytes_at, code_at, dot_at, front_at, is_span, note_at, period_at, follows, next_at, dot_count_at};
 
 use crate::fault::Fault;
 use byteorder::{BigEndian, ByteOrder};
 use oct_code::{Code, LIMIT};
-use oct_ops::{Dot, MAX_ITEMS, MAX_NAME, MAX_TEXT, Period};
+use oct_ops::{Dot, MAX_ITEMS, Period, is_name, is_text};
 use std::marker::Model;
 
 /// The bytes that are still to be read.
 #[derive(Drop)]
-pub struct Input<'a> {
+pub(crate) struct Input<'a> {
     bytes: &'a [u8],
 }
 
@@ -32,41 +31,45 @@ impl<'a> Model for Input<'a> {
 
 /// The name and the text of a note.
 #[derive(Clone, Copy)]
-pub struct Words<'a> {
-    pub name: &'a [u8],
-    pub text: &'a [u8],
+pub(crate) struct Words<'a> {
+    pub(crate) name: &'a [u8],
+    pub(crate) text: &'a [u8],
 }
 
 /// What stands before the values of a block.
 #[derive(Drop)]
-pub struct Front {
-    pub code: Code,
-    pub start: u32,
-    pub count: u16,
+pub(crate) struct Front {
+    pub(crate) code: Code,
+    pub(crate) start: u32,
+    pub(crate) count: u16,
 }
 
 impl<'a> Input<'a> {
-    pub fn new(bytes: &'a [u8]) -> Input<'a>
+    /// All the bytes.
+    pub(crate) fn new(bytes: &'a [u8]) -> Input<'a>
         ensures value { result ≡ bytes.now }
         ensures bytes { IsBytes result }
     {
         Input { bytes }
     }
 
-    pub fn rest(&self) -> &'a [u8]
+    /// The bytes that are still to be read.
+    pub(crate) fn rest(&self) -> &'a [u8]
         ensures rest { result.now ≡ self.now }
         ensures bytes { IsBytes result.now }
     {
         self.bytes
     }
 
-    pub fn is_empty(&self) -> bool
+    /// Whether none is left.
+    pub(crate) fn is_empty(&self) -> bool
         ensures { result ≡ (length self.now == 0) }
     {
         self.bytes.is_empty()
     }
 
-    pub fn byte(&mut self) -> Result<u8, Fault>
+    /// A byte.
+    pub(crate) fn byte(&mut self) -> Result<u8, Fault>
         ensures { Gives (λ x. (x, self.new)) result (byte_at self.old) }
     {
         match self.bytes {
@@ -78,7 +81,8 @@ impl<'a> Input<'a> {
         }
     }
 
-    pub fn bytes(&mut self, count: usize) -> Result<&'a [u8], Fault>
+    /// So many bytes.
+    pub(crate) fn bytes(&mut self, count: usize) -> Result<&'a [u8], Fault>
         ensures { Gives (λ x. (x.now, self.new)) result (bytes_at count self.old) }
     {
         if self.bytes.len() < count {
@@ -89,24 +93,27 @@ impl<'a> Input<'a> {
         Ok(front)
     }
 
+    /// A number of 16 bits, big-endian.
     #[tactic(auto, using(crate::proofs::Numbers::big_u16))]
-    pub fn u16(&mut self) -> Result<u16, Fault>
+    pub(crate) fn u16(&mut self) -> Result<u16, Fault>
         ensures { Gives (λ x. (x, self.new)) result (number_at w16 self.old) }
     {
         let front = self.bytes(2)?;
         Ok(BigEndian::read_u16(front))
     }
 
+    /// A number of 32 bits, big-endian.
     #[tactic(auto, using(crate::proofs::Numbers::big_u32))]
-    pub fn u32(&mut self) -> Result<u32, Fault>
+    pub(crate) fn u32(&mut self) -> Result<u32, Fault>
         ensures { Gives (λ x. (x, self.new)) result (number_at w32 self.old) }
     {
         let front = self.bytes(4)?;
         Ok(BigEndian::read_u32(front))
     }
 
+    /// A code: head, number of digits, digits.
     #[tactic(auto, unfolding(crate::specs::Reading::code_at))]
-    pub fn code(&mut self) -> Result<Code, Fault>
+    pub(crate) fn code(&mut self) -> Result<Code, Fault>
         ensures { Gives (λ x. (x, self.new)) result (code_at self.old) }
     {
         let head = self.byte()?;
@@ -118,8 +125,9 @@ impl<'a> Input<'a> {
         }
     }
 
+    /// A dot.
     #[tactic(auto, unfolding(crate::specs::Reading::dot_at))]
-    pub fn dot(&mut self) -> Result<Dot, Fault>
+    pub(crate) fn dot(&mut self) -> Result<Dot, Fault>
         ensures { Gives (λ x. (x, self.new)) result (dot_at self.old) }
     {
         let author = self.u32()?;
@@ -130,8 +138,9 @@ impl<'a> Input<'a> {
         }
     }
 
+    /// What stands before the values of a block, whose places are below the limit.
     #[tactic(auto, unfolding(crate::specs::Reading::front_at))]
-    pub fn front(&mut self, limit: usize) -> Result<Front, Fault>
+    pub(crate) fn front(&mut self, limit: usize) -> Result<Front, Fault>
         requires { limit ≤ LIMIT }
         ensures value { Gives (λ x. (x, self.new)) result (front_at limit self.old) }
         ensures range { IfOk result (λ x. IsTrue (is_span limit x.start x.count)) }
@@ -145,8 +154,9 @@ impl<'a> Input<'a> {
         Ok(Front { code, start, count })
     }
 
+    /// A period claim, whose start and period are at most the limit.
     #[tactic(auto, unfolding(crate::specs::Reading::period_at))]
-    pub fn period(&mut self, limit: usize) -> Result<Period, Fault>
+    pub(crate) fn period(&mut self, limit: usize) -> Result<Period, Fault>
         ensures { Gives (λ x. (x, self.new)) result (period_at limit self.old) }
     {
         let code = self.code()?;
@@ -158,8 +168,9 @@ impl<'a> Input<'a> {
         }
     }
 
+    /// The name and the text of a note.
     #[tactic(auto, unfolding(crate::specs::Reading::note_at))]
-    pub fn words(&mut self) -> Result<Words<'a>, Fault>
+    pub(crate) fn words(&mut self) -> Result<Words<'a>, Fault>
         ensures { Gives (λ x. (record { name = x.name.now; text = x.text.now }, self.new)) result (note_at self.old) }
     {
         let name_length = self.byte()?;
@@ -172,8 +183,9 @@ impl<'a> Input<'a> {
         Ok(Words { name, text })
     }
 
+    /// A dot above the one before.
     #[tactic(auto, unfolding(crate::specs::Reading::next_at))]
-    pub fn next_dot(&mut self, before: Option<Dot>) -> Result<Dot, Fault>
+    pub(crate) fn next_dot(&mut self, before: Option<Dot>) -> Result<Dot, Fault>
         ensures { Gives (λ x. (x, self.new)) result (next_at dot_cmp dot_at before self.old) }
     {
         let dot = self.dot()?;
@@ -183,8 +195,9 @@ impl<'a> Input<'a> {
         Ok(dot)
     }
 
+    /// How many dots a removal has: 1 to `MAX_ITEMS`.
     #[tactic(auto, unfolding(crate::specs::Reading::dot_count_at))]
-    pub fn dot_count(&mut self) -> Result<u16, Fault>
+    pub(crate) fn dot_count(&mut self) -> Result<u16, Fault>
         ensures { Gives (λ x. (x, self.new)) result (dot_count_at self.old) }
     {
         let count = self.u16()?;
@@ -195,38 +208,14 @@ impl<'a> Input<'a> {
     }
 }
 
+// Whether a block may have so many values from the start on.
 fn is_span(limit: usize, start: u32, count: u16) -> bool
     ensures { result ≡ is_span limit start count }
 {
     count >= 1 && count as usize <= MAX_ITEMS && start as usize + count as usize <= limit
 }
 
-fn are_name_bytes(bytes: &[u8]) -> bool
-    ensures { result ≡ are_name_bytes bytes.now }
-{
-    bytes
-        .iter()
-        .all(|byte| matches!(*byte, b'a'..=b'z' | b'0'..=b'9' | b'-'))
-}
-
-fn are_text_bytes(bytes: &[u8]) -> bool
-    ensures { result ≡ are_text_bytes bytes.now }
-{
-    bytes.iter().all(|byte| matches!(*byte, b' '..=b'~'))
-}
-
-fn is_name(name: &[u8]) -> bool
-    ensures { result ≡ is_name name.now }
-{
-    !name.is_empty() && name.len() <= MAX_NAME && are_name_bytes(name)
-}
-
-fn is_text(text: &[u8]) -> bool
-    ensures { result ≡ is_text text.now }
-{
-    text.len() <= MAX_TEXT && are_text_bytes(text)
-}
-
+// Whether the dot is above the one before.
 fn dot_follows(before: Option<Dot>, dot: Dot) -> bool
     ensures { result ≡ follows dot_cmp before dot }
 {

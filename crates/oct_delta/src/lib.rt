@@ -15,6 +15,7 @@
 //! - `decode` reads a delta, `encode` writes one, and `op_size` says how long an operation's text is.
 //! - `Reader` reads a delta that comes in pieces, and gives the operations as they come whole.
 //! - `decode_clock` and `encode_clock` do the same for clocks: a count, and then so many authors with their numbers.
+//! - `put_bytes`, `put_u32` and `put_entries` write what other texts are made of beside deltas.
 //! - `laws` says what holds of all texts.
 #![tactic(auto)]
 
@@ -34,9 +35,10 @@ mod reader;
 mod state;
 mod streaming;
 
-pub use clock::{decode_clock, encode_clock};
+pub use clock::{decode_clock, encode_clock, put_entries};
 pub use decoding::decode;
 pub use encoding::{MAX_OP_SIZE, encode, op_size};
 pub use error::{ClockError, DeltaError, EncodeError};
 pub use oct_ops::OpList;
+pub use output::{put_bytes, put_u32};
 pub use reader::Reader;

@@ -11,7 +11,7 @@ use oct_ops::Op;
 use std::alloc::Allocator;
 
 /// Whether the bytes are the text of a rising list of operations, without memory.
-pub fn check_list(limit: usize, bytes: &[u8]) -> Result<(), Fault>
+pub(crate) fn check_list(limit: usize, bytes: &[u8]) -> Result<(), Fault>
     requires { limit ≤ LIMIT }
     ensures ok { OnOk result ((ops : List Operation) × IsList limit bytes.now ops) }
     ensures err { OnErr result ((ops : List Operation) → IsList limit bytes.now ops → ⊥) }
@@ -26,7 +26,7 @@ pub fn check_list(limit: usize, bytes: &[u8]) -> Result<(), Fault>
 }
 
 /// The operations that the bytes are the text of. Only memory can be missing.
-pub fn build_list<A: Allocator + Copy>(
+pub(crate) fn build_list<A: Allocator + Copy>(
     alloc: A,
     limit: usize,
     bytes: &[u8],

@@ -7,6 +7,7 @@ ghost use Rattle.oct_delta.specs.Writing.{Keeps};
 use byteorder::{BigEndian, ByteOrder};
 use std::alloc::{AllocError, Allocator};
 
+/// Appends the bytes. After a refusal what was there before is at the front.
 #[tactic(auto, using(crate::proofs::Written::keeps_same, crate::proofs::Written::keeps_more))]
 pub fn put_bytes<A: Allocator>(out: &mut Vec<u8, A>, bytes: &[u8]) -> Result<(), AllocError>
     ensures ok { OnOk result (out.new.items ≡ out.old.items ++ bytes.now) }
@@ -15,14 +16,16 @@ pub fn put_bytes<A: Allocator>(out: &mut Vec<u8, A>, bytes: &[u8]) -> Result<(),
     out.extend_from_slice(bytes)
 }
 
-pub fn put_byte<A: Allocator>(out: &mut Vec<u8, A>, byte: u8) -> Result<(), AllocError>
+/// Appends a byte.
+pub(crate) fn put_byte<A: Allocator>(out: &mut Vec<u8, A>, byte: u8) -> Result<(), AllocError>
     ensures ok { OnOk result (out.new.items ≡ out.old.items ++ byte ∷ []) }
     ensures kept { Keeps out.old.items out.new.items }
 {
     put_bytes(out, &[byte])
 }
 
-pub fn put_u16<A: Allocator>(out: &mut Vec<u8, A>, number: u16) -> Result<(), AllocError>
+/// Appends a number of 16 bits, big-endian.
+pub(crate) fn put_u16<A: Allocator>(out: &mut Vec<u8, A>, number: u16) -> Result<(), AllocError>
     ensures ok { OnOk result (out.new.items ≡ out.old.items ++ u16 number) }
     ensures kept { Keeps out.old.items out.new.items }
 {
@@ -31,6 +34,7 @@ pub fn put_u16<A: Allocator>(out: &mut Vec<u8, A>, number: u16) -> Result<(), Al
     put_bytes(out, &bytes)
 }
 
+/// Appends a number of 32 bits, big-endian. After a refusal what was there before is at the front.
 pub fn put_u32<A: Allocator>(out: &mut Vec<u8, A>, number: u32) -> Result<(), AllocError>
     ensures ok { OnOk result (out.new.items ≡ out.old.items ++ u32 number) }
     ensures kept { Keeps out.old.items out.new.items }

@@ -134,10 +134,7 @@ fn end<A: Allocator + Copy>(state: State<A>) -> Result<OpList<A>, DeltaError>
             if ops.len() < count as usize {
                 return Err(DeltaError::Refused);
             }
-            match OpList::from_rising(ops) {
-                Ok(list) => Ok(list),
-                Err(_) => Err(DeltaError::Refused),
-            }
+            Ok(OpList::of_rising(ops))
         }
         State::Failed => Err(DeltaError::Failed),
     }

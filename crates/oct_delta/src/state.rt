@@ -6,15 +6,16 @@ use std::alloc::Allocator;
 
 /// The operations that came whole, so many as are to come, and the bytes after them.
 #[derive(Drop)]
-pub struct Progress<A: Allocator> {
-    pub edition: Edition,
-    pub count: u32,
-    pub ops: Vec<Op<A>, A>,
-    pub rest: Vec<u8, A>,
+pub(crate) struct Progress<A: Allocator> {
+    pub(crate) edition: Edition,
+    pub(crate) count: u32,
+    pub(crate) ops: Vec<Op<A>, A>,
+    pub(crate) rest: Vec<u8, A>,
 }
 
+/// How far a reader is.
 #[derive(Drop)]
-pub enum State<A: Allocator> {
+pub(crate) enum State<A: Allocator> {
     /// Fewer than eight bytes have come.
     Begun(Vec<u8, A>),
     /// The tag and the count have come.

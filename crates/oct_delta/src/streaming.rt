@@ -11,6 +11,7 @@ use oct_code::LIMIT;
 use oct_ops::Op;
 use std::alloc::Allocator;
 
+// Whether the operation is above the last of these.
 fn follows<A: Allocator>(ops: &[Op<A>], op: &Op<A>) -> bool
     ensures { result ≡ follows op_cmp (last_of ops.now) op.now }
 {
@@ -50,8 +51,8 @@ impl<'a> Input<'a> {
         }
     }
 
-    /// Adds the operations that are whole, until there are so many.
-    pub fn whole_ops<A: Allocator + Copy>(
+    /// Appends the operations that are whole, until there are so many.
+    pub(crate) fn whole_ops<A: Allocator + Copy>(
         &mut self,
         alloc: A,
         limit: usize,

@@ -1,4 +1,5 @@
 //! Clocks: for each author a number, as a replicated value.
+
 ghost use lib.Dec.{T};
 ghost use Rattle.std.specs.Prelude.{◌≡◌, ◌≤◌, OnOk, OnErr, IfOk, IfErr};
 ghost use Rattle.std.specs.Ordering.{nat_cmp};

@@ -1,4 +1,5 @@
 //! Contents that grow by taking in one another, and the least upper bound of many.
+
 ghost use Rattle.std.specs.Prelude.{◌≡◌, OnOk, OnErr};
 ghost use Rattle.oct_join.specs.Order.{IsPartialOrder, IsLeastUpperBound, IsLeastUpperBoundOfAll, IsBetween, bound_of_all};
 

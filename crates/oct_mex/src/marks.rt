@@ -8,7 +8,7 @@ ghost use Rattle.oct_mex.specs.NimValues.{IsOptionValue};
 
 use oct_code::{Code, LIMIT};
 
-// How long a table can get whose length is a power of two above the nim-values of the heaps up to a size.
+/// How long a table can get whose length is a power of two above the nim-values of the heaps up to a size.
 pub(crate) fn table_len(code: &Code, heap: usize) -> usize
     requires { heap ≤ LIMIT }
     ensures value { result ≡ 2 * ((octal.len code.now + 1) * (heap / 2 + 1)) }
@@ -17,7 +17,7 @@ pub(crate) fn table_len(code: &Code, heap: usize) -> usize
     2 * ((code.len() + 1) * (heap / 2 + 1))
 }
 
-// The nim-value of the first heap that is not in the list, found in the first `used` places of a table.
+/// The nim-value of the first heap that is not in the list, found in the first `used` places of a table.
 pub(crate) fn next_value(code: &Code, values: &[u32], table: &mut [bool], used: usize) -> u32
     requires heap { length values.now < LIMIT }
     requires used { used ≤ length table.old }

@@ -11,7 +11,7 @@ use oct_ops::{Body, Dot, Op};
 use std::alloc::Allocator;
 use std::marker::Model;
 
-// Dots in their order, of which one may be there more than once.
+/// Dots in their order, of which one may be there more than once.
 #[derive(Drop)]
 pub(crate) struct Removed<A: Allocator> {
     dots: Vec<Dot, A>,
@@ -31,7 +31,7 @@ impl<A: Allocator> Model for Removed<A> {
 }
 
 impl<A: Allocator> Removed<A> {
-    // These dots, in whatever order they come.
+    /// These dots, in whatever order they come.
     pub(crate) fn new(mut dots: Vec<Dot, A>) -> Removed<A>
         ensures { (d : DotValue) → list_any (eq_by_cmp dot_cmp d) result ≡ list_any (eq_by_cmp dot_cmp d) dots.items }
     {
@@ -46,7 +46,7 @@ impl<A: Allocator> Removed<A> {
         self.dots.binary_search(dot).is_ok()
     }
 
-    // Whether the operation is a note, and its dot is none of these.
+    /// Whether the operation is a note, and its dot is none of these.
     pub(crate) fn leaves(&self, op: &Op<A>) -> bool
         ensures { result ≡ leaves self.now op.now }
     {

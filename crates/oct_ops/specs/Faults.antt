@@ -6,14 +6,14 @@ use Rattle.oct_ops.specs.Operation.{Dot, Block, Period, Note, Removal}
 use Rattle.oct_ops.specs.Sets.{rises}
 use Rattle.oct_code.specs.declared.limits.TheConstants.{LIMIT}
 use Rattle.oct_ops.specs.declared.limits.TheConstants.{MAX_ITEMS, MAX_NAME, MAX_TEXT}
-use Rattle.oct_ops.specs.declared.fault.BlockError.{BlockError}
-use Rattle.oct_ops.specs.declared.fault.BlockError.TheVariants as block
-use Rattle.oct_ops.specs.declared.fault.PeriodError.{PeriodError}
-use Rattle.oct_ops.specs.declared.fault.PeriodError.TheVariants as period
-use Rattle.oct_ops.specs.declared.fault.NoteError.{NoteError}
-use Rattle.oct_ops.specs.declared.fault.NoteError.TheVariants as note
-use Rattle.oct_ops.specs.declared.fault.RemovalError.{RemovalError}
-use Rattle.oct_ops.specs.declared.fault.RemovalError.TheVariants as removal
+use Rattle.oct_ops.specs.declared.error.BlockError.{BlockError}
+use Rattle.oct_ops.specs.declared.error.BlockError.TheVariants as block
+use Rattle.oct_ops.specs.declared.error.PeriodError.{PeriodError}
+use Rattle.oct_ops.specs.declared.error.PeriodError.TheVariants as period
+use Rattle.oct_ops.specs.declared.error.NoteError.{NoteError}
+use Rattle.oct_ops.specs.declared.error.NoteError.TheVariants as note
+use Rattle.oct_ops.specs.declared.error.RemovalError.{RemovalError}
+use Rattle.oct_ops.specs.declared.error.RemovalError.TheVariants as removal
 
 abbrev pub is_dot : Dot → Bool
 is_dot d = nat_le 1 d.author && nat_le 1 d.number

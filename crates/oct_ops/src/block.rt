@@ -5,7 +5,7 @@ ghost use Rattle.oct_ops.specs.Faults.{block_fault};
 ghost use Rattle.oct_ops.specs.Operation.{claimed};
 ghost use Rattle.oct_ops.specs.Valid.{IsBlock};
 
-use crate::fault::BlockError;
+use crate::error::BlockError;
 use crate::items::Items;
 use crate::limits::MAX_ITEMS;
 use oct_code::{Code, LIMIT};

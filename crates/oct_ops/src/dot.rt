@@ -5,7 +5,7 @@ ghost use Rattle.oct_ops.specs.Faults.{is_dot};
 ghost use Rattle.oct_ops.specs.Operation.{dot_of};
 ghost use Rattle.oct_ops.specs.Valid.{IsDot};
 
-use crate::fault::DotError;
+use crate::error::DotError;
 use std::marker::Model;
 
 /// The author of an operation, and its number among the author's (Shapiro et al. 2011). Dots are ordered by author, then

@@ -21,18 +21,21 @@ impl<T, A: Allocator> Model for Items<T, A> {
 }
 
 impl<T, A: Allocator> Items<T, A> {
+    /// The list of a vector.
     pub(crate) fn new(items: Vec<T, A>) -> Self
         ensures { result ≡ items.items }
     {
         Items { items }
     }
 
+    /// The items in their order.
     pub(crate) fn as_slice(&self) -> &[T]
         ensures { result.now ≡ self.now }
     {
         self.items.as_slice()
     }
 
+    /// The items, given up by the list.
     pub(crate) fn into_vec(self) -> Vec<T, A>
         ensures { result.items ≡ self }
     {

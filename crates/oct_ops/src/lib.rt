@@ -13,7 +13,7 @@
 
 mod block;
 mod dot;
-mod fault;
+mod error;
 mod items;
 pub mod laws;
 mod limits;
@@ -26,9 +26,9 @@ mod rising;
 
 pub use block::Block;
 pub use dot::Dot;
-pub use fault::{BlockError, DotError, ListError, NoteError, PeriodError, RemovalError};
+pub use error::{BlockError, DotError, ListError, NoteError, PeriodError, RemovalError};
 pub use limits::{MAX_ITEMS, MAX_NAME, MAX_TEXT};
-pub use note::Note;
+pub use note::{Note, is_name, is_text};
 pub use op::{Body, Op};
 pub use op_list::OpList;
 pub use period::Period;

@@ -5,7 +5,7 @@ ghost use Rattle.oct_ops.specs.Faults.{are_name_bytes, are_text_bytes, is_name, 
 ghost use Rattle.oct_ops.specs.Operation.{noted};
 ghost use Rattle.oct_ops.specs.Valid.{IsNote};
 
-use crate::fault::NoteError;
+use crate::error::NoteError;
 use crate::items::Items;
 use crate::limits::{MAX_NAME, MAX_TEXT};
 use std::alloc::{AllocError, Allocator};
@@ -32,6 +32,7 @@ impl<A: Allocator> Model for Note<A> {
     ghost inverse = { λ n. record { name = n.name; text = n.text } };
 }
 
+// Whether each byte may stand in a name.
 fn are_name_bytes(bytes: &[u8]) -> bool
     ensures { result ≡ are_name_bytes bytes.now }
 {
@@ -40,19 +41,22 @@ fn are_name_bytes(bytes: &[u8]) -> bool
         .all(|byte| matches!(*byte, b'a'..=b'z' | b'0'..=b'9' | b'-'))
 }
 
+// Whether each byte may stand in a text.
 fn are_text_bytes(bytes: &[u8]) -> bool
     ensures { result ≡ are_text_bytes bytes.now }
 {
     bytes.iter().all(|byte| matches!(*byte, b' '..=b'~'))
 }
 
-fn is_name(name: &[u8]) -> bool
+/// Whether the bytes are the name of a note: 1 to `MAX_NAME` of `a-z`, `0-9` and `-`.
+pub fn is_name(name: &[u8]) -> bool
     ensures { result ≡ is_name name.now }
 {
     !name.is_empty() && name.len() <= MAX_NAME && are_name_bytes(name)
 }
 
-fn is_text(text: &[u8]) -> bool
+/// Whether the bytes are the text of a note: at most `MAX_TEXT`, from the space to the tilde.
+pub fn is_text(text: &[u8]) -> bool
     ensures { result ≡ is_text text.now }
 {
     text.len() <= MAX_TEXT && are_text_bytes(text)

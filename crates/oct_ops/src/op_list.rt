@@ -5,7 +5,7 @@ ghost use Rattle.oct_ops.specs.Operations.{IsRising};
 ghost use Rattle.oct_ops.specs.Order.{op_cmp};
 ghost use Rattle.oct_ops.specs.Sets.{rises};
 
-use crate::fault::ListError;
+use crate::error::ListError;
 use crate::op::Op;
 use crate::rising::rises;
 use std::alloc::Allocator;
@@ -42,6 +42,14 @@ impl<A: Allocator> OpList<A> {
             return Err((ListError::NotRising, ops));
         }
         Ok(OpList { ops })
+    }
+
+    /// The list of operations of which each is below the next. Nothing is compared.
+    pub fn of_rising(ops: Vec<Op<A>, A>) -> OpList<A>
+        requires { IsRising ops.items }
+        ensures { result ≡ ops.items }
+    {
+        OpList { ops }
     }
 
     /// The operations in their order.

@@ -5,7 +5,7 @@ ghost use Rattle.oct_ops.specs.Faults.{period_fault};
 ghost use Rattle.oct_ops.specs.Operation.{repeating};
 ghost use Rattle.oct_ops.specs.Valid.{IsPeriod};
 
-use crate::fault::PeriodError;
+use crate::error::PeriodError;
 use oct_code::{Code, LIMIT};
 use std::marker::Model;
 

@@ -7,7 +7,7 @@ ghost use Rattle.oct_ops.specs.Operation.{removing};
 ghost use Rattle.oct_ops.specs.Valid.{IsDot, IsRemoval};
 
 use crate::dot::Dot;
-use crate::fault::RemovalError;
+use crate::error::RemovalError;
 use crate::items::Items;
 use crate::limits::MAX_ITEMS;
 use crate::rising::rises;

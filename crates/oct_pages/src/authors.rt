@@ -12,7 +12,7 @@ use crate::words::{append_dot, append_labelled};
 use oct_store::{Author, Fork, Store};
 use std::alloc::{AllocError, Allocator};
 
-// Appends what is shown of the lines of all authors.
+/// Appends what is shown of the lines of all authors.
 pub(crate) fn append_authors<A: Allocator + Copy>(
     out: &mut Vec<u8, A>,
     window: &mut Window,
@@ -28,7 +28,7 @@ pub(crate) fn append_authors<A: Allocator + Copy>(
     Ok(())
 }
 
-// Appends what is shown of the lines of all forks.
+/// Appends what is shown of the lines of all forks.
 pub(crate) fn append_forks<A: Allocator + Copy>(
     out: &mut Vec<u8, A>,
     window: &mut Window,

@@ -12,7 +12,7 @@ use oct_ops::{Block, Dot};
 use oct_verify::Status;
 use std::alloc::{AllocError, Allocator};
 
-// Appends the first line of a game, where it is shown.
+/// Appends the first line of a game, where it is shown.
 pub(crate) fn show_game<A: Allocator>(
     out: &mut Vec<u8, A>,
     window: &mut Window,
@@ -70,7 +70,7 @@ fn append_refutation<A: Allocator>(
     append_labelled(out, b" true ", truth)
 }
 
-// Appends the line of a block, where it is shown.
+/// Appends the line of a block, where it is shown.
 pub(crate) fn show_block<A: Allocator>(
     out: &mut Vec<u8, A>,
     window: &mut Window,

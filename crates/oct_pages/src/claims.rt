@@ -11,7 +11,7 @@ use oct_ops::{Dot, Period};
 use oct_period::PeriodStatus;
 use std::alloc::{AllocError, Allocator};
 
-// Appends the line of a claim, where it is shown.
+/// Appends the line of a claim, where it is shown.
 pub(crate) fn show_claim<A: Allocator>(
     out: &mut Vec<u8, A>,
     window: &mut Window,

@@ -29,7 +29,7 @@ use oct_store::Store;
 use std::alloc::{AllocError, Allocator};
 use std::collections::BTreeMap;
 
-// Appends what is shown of the lines of all games.
+/// Appends what is shown of the lines of all games.
 pub(crate) fn append_games<A: Allocator + Copy>(
     alloc: A,
     out: &mut Vec<u8, A>,

@@ -14,10 +14,10 @@ use oct_store::Store;
 use std::alloc::{AllocError, Allocator};
 use std::collections::BTreeMap;
 
-// Operations by their games.
+/// Operations by their games.
 pub(crate) type Groups<'a, A> = BTreeMap<Code, Vec<&'a Op<A>, A>, A>;
 
-// The blocks and claims of the store by their games, in the order of the operations.
+/// The blocks and claims of the store by their games, in the order of the operations.
 pub(crate) fn groups_of<'a, A: Allocator + Copy>(
     alloc: A,
     store: &'a Store<A>,

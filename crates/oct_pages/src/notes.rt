@@ -13,7 +13,7 @@ use oct_notes::Notes;
 use oct_ops::{Body, Dot, Note, Op};
 use std::alloc::{AllocError, Allocator};
 
-// Appends what is shown of the lines of the live notes.
+/// Appends what is shown of the lines of the live notes.
 pub(crate) fn append_notes<A: Allocator + Copy>(
     out: &mut Vec<u8, A>,
     window: &mut Window,

@@ -13,7 +13,7 @@ use std::alloc::{AllocError, Allocator};
 // How many values stand in a line.
 const VALUES_PER_LINE: usize = 16;
 
-// Appends what is shown of the lines of all values, which are those of the heaps from 0 on.
+/// Appends what is shown of the lines of all values, which are those of the heaps from 0 on.
 pub(crate) fn append_values<A: Allocator>(
     out: &mut Vec<u8, A>,
     window: &mut Window,

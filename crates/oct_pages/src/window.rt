@@ -7,7 +7,7 @@ ghost use Rattle.oct_pages.specs.Window.{is_reached, shows, passed};
 // How many lines a page has.
 const PAGE_LENGTH: u32 = 64;
 
-// The lines that are shown of those to come.
+/// The lines that are shown of those to come.
 #[derive(Clone, Copy, Debug, PartialEq, Eq)]
 pub(crate) enum Window {
     // Each line.
@@ -17,7 +17,7 @@ pub(crate) enum Window {
 }
 
 impl Window {
-    // The lines of a page, counted from 0.
+    /// The lines of a page, counted from 0.
     pub(crate) fn page(number: u32) -> Window
         ensures { result ≡ Window.Page (page_length * number) page_length }
     {
@@ -27,7 +27,7 @@ impl Window {
         }
     }
 
-    // Whether the page begins at a line that was passed.
+    /// Whether the page begins at a line that was passed.
     pub(crate) fn is_reached(self) -> bool
         ensures { result ≡ is_reached self }
     {
@@ -64,7 +64,7 @@ impl Window {
         }
     }
 
-    // Passes the next line, and says whether it is shown.
+    /// Passes the next line, and says whether it is shown.
     pub(crate) fn pass(&mut self) -> bool
         ensures shows { result ≡ shows self.old }
         ensures passed { self.new ≡ passed self.old }

@@ -8,7 +8,7 @@ ghost use Rattle.oct_pages.specs.Growth.{Extends};
 use oct_ops::Dot;
 use std::alloc::{AllocError, Allocator};
 
-// Appends a number in decimal digits.
+/// Appends a number in decimal digits.
 pub(crate) fn append_number<A: Allocator>(
     out: &mut Vec<u8, A>,
     number: u32,
@@ -19,7 +19,7 @@ pub(crate) fn append_number<A: Allocator>(
     out.extend_from_slice(itoa::Buffer::new().format(number).as_bytes())
 }
 
-// Appends a text, and after it a number.
+/// Appends a text, and after it a number.
 pub(crate) fn append_labelled<A: Allocator>(
     out: &mut Vec<u8, A>,
     label: &[u8],
@@ -32,7 +32,7 @@ pub(crate) fn append_labelled<A: Allocator>(
     append_number(out, number)
 }
 
-// Appends a dot as author, point, number.
+/// Appends a dot as author, point, number.
 pub(crate) fn append_dot<A: Allocator>(out: &mut Vec<u8, A>, dot: Dot) -> Result<(), AllocError>
     ensures ok { OnOk result (out.new.items ≡ out.old.items ++ dot_text dot) }
     ensures grown { Extends out.old.items out.new.items }

@@ -10,7 +10,7 @@ use oct_ops::{Block, Period};
 use oct_verify::{Ledger, Status};
 use std::alloc::Allocator;
 
-// The verdict on a block that starts at or past the known length, by a proved claim of its game.
+/// The verdict on a block that starts at or past the known length, by a proved claim of its game.
 pub(crate) fn verdict_by<A: Allocator + Copy>(
     ledger: &Ledger<A>,
     period: &Period,

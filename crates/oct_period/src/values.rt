@@ -46,7 +46,7 @@ pub fn position_value<A: Allocator + Copy>(
     position_value_by(ledger, &first_proved(ledger, claims), heaps)
 }
 
-// Whether the claim, which is of the ledger's game, is proved.
+/// Whether the claim, which is of the ledger's game, is proved.
 pub(crate) fn is_proved<A: Allocator + Copy>(ledger: &Ledger<A>, claim: &PeriodClaim) -> bool
     requires { claim.now.1.code ≡ ledger.now.code }
     ensures value { result ≡ is_proved (period_status (blocks_in ledger.now.blocks) claim.now.1) }
@@ -72,7 +72,7 @@ fn first_proved<A: Allocator + Copy>(
     None
 }
 
-// The nim-value of a heap past the known length by a proved claim: that of the heap in the first period.
+/// The nim-value of a heap past the known length by a proved claim: that of the heap in the first period.
 pub(crate) fn value_by<A: Allocator + Copy>(ledger: &Ledger<A>, period: &Period, heap: u64) -> u32
     requires proved { IsProvedOf ledger.now.code (blocks_in ledger.now.blocks) period.now }
     requires past { known (blocks_in ledger.now.blocks) ≤ heap }
@@ -84,7 +84,7 @@ pub(crate) fn value_by<A: Allocator + Copy>(ledger: &Ledger<A>, period: &Period,
     ledger.known_values()[place as usize]
 }
 
-// The nim-value of a heap, where the blocks or the proved claim give it.
+/// The nim-value of a heap, where the blocks or the proved claim give it.
 pub(crate) fn heap_value_by<A: Allocator + Copy>(
     ledger: &Ledger<A>,
     claim: Option<PeriodClaim>,
@@ -101,7 +101,7 @@ pub(crate) fn heap_value_by<A: Allocator + Copy>(
     Some(value_by(ledger, &claim.period, heap))
 }
 
-// The nim-value of a position, where the blocks or the proved claim give those of its heaps.
+/// The nim-value of a position, where the blocks or the proved claim give those of its heaps.
 pub(crate) fn position_value_by<A: Allocator + Copy>(
     ledger: &Ledger<A>,
     claim: &Option<PeriodClaim>,

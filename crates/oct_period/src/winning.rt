@@ -28,7 +28,7 @@ pub fn outcome<A: Allocator + Copy>(
     outcome_of(position_value(ledger, claims, heaps))
 }
 
-// Who wins a position of this nim-value.
+/// Who wins a position of this nim-value.
 pub(crate) fn outcome_of(value: Result<u32, Unknown>) -> Outcome
     ensures { result ≡ outcome_by_value value }
 {

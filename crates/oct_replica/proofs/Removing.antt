@@ -10,8 +10,8 @@ use Rattle.oct_ops.specs.OrderLaws.{dot_cmp_total, dot_cmp_exact}
 use Rattle.oct_ops.specs.SetLaws.{listed-arranged, listed-rises}
 use Rattle.oct_ops.specs.Sets.{rises, set_of}
 use Rattle.oct_ops.specs.declared.limits.TheConstants.{MAX_ITEMS}
-use Rattle.oct_ops.specs.declared.fault.RemovalError as list
-use Rattle.oct_ops.specs.declared.fault.RemovalError.TheVariants as fault
+use Rattle.oct_ops.specs.declared.error.RemovalError as list
+use Rattle.oct_ops.specs.declared.error.RemovalError.TheVariants as fault
 use Rattle.oct_notes.specs.Notes.{is_live, is_named, live_dots, notes_of}
 use Rattle.oct_notes.proofs.Kept.{live_dots-of}
 use Rattle.oct_replica.specs.Computing.{removal_fault}

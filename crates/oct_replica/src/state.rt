@@ -4,16 +4,16 @@ ghost use Rattle.std.specs.Prelude.{◌≡◌, ◌↔◌, ◌≤◌, ◌<◌, �
 ghost use Rattle.oct_ops.specs.Operations.{set_of};
 ghost use Rattle.oct_delta.specs.Delta.{IsDeltaText};
 ghost use Rattle.oct_delta.specs.State.{state_tag};
-ghost use Rattle.oct_delta.specs.Text.{Bytes, u32 as number};
+ghost use Rattle.oct_delta.specs.Text.{Bytes};
 ghost use Rattle.oct_delta.specs.Writing.{Keeps};
 ghost use Rattle.oct_replica.specs.States.{has_tag, state_text, IsAuthored, IsHeaded, RefusesList, RefusesState};
 
 use crate::error::LoadError;
 use crate::replica::Replica;
 use byteorder::{BigEndian, ByteOrder};
-use oct_delta::{DeltaError, EncodeError, decode, encode};
+use oct_delta::{DeltaError, EncodeError, decode, encode, put_bytes, put_u32};
 use oct_ops::OpList;
-use std::alloc::{AllocError, Allocator};
+use std::alloc::Allocator;
 
 /// Appends the text of an author and its list. After a refusal what was there before is at the front.
 #[tactic(auto, using(oct_delta::proofs::Written::keeps_then))]
@@ -26,27 +26,8 @@ pub(crate) fn put_state<A: Allocator>(
     ensures kept { Keeps out.old.items out.new.items }
 {
     put_bytes(out, b"OGS1")?;
-    put_author(out, author)?;
+    put_u32(out, author)?;
     encode(list, out)
-}
-
-// Appends the author.
-fn put_author<A: Allocator>(out: &mut Vec<u8, A>, author: u32) -> Result<(), AllocError>
-    ensures ok { OnOk result (out.new.items ≡ out.old.items ++ number author) }
-    ensures kept { Keeps out.old.items out.new.items }
-{
-    let mut bytes = [0; 4];
-    BigEndian::write_u32(&mut bytes, author);
-    put_bytes(out, &bytes)
-}
-
-// Appends the bytes.
-#[tactic(auto, using(oct_delta::proofs::Written::keeps_same, oct_delta::proofs::Written::keeps_more))]
-fn put_bytes<A: Allocator>(out: &mut Vec<u8, A>, bytes: &[u8]) -> Result<(), AllocError>
-    ensures ok { OnOk result (out.new.items ≡ out.old.items ++ bytes.now) }
-    ensures kept { Keeps out.old.items out.new.items }
-{
-    out.extend_from_slice(bytes)
 }
 
 /// The author of a state's text, and what follows it.

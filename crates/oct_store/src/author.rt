@@ -15,7 +15,7 @@ pub struct Author {
 }
 
 impl Author {
-    // The author before any of its operations was seen.
+    /// The author before any of its operations was seen.
     pub(crate) fn unseen(author: u32) -> Author
         ensures { result ≡ unseen author }
     {
@@ -26,7 +26,7 @@ impl Author {
         }
     }
 
-    // The author with one more of its operations, where they are seen in order.
+    /// The author with one more of its operations, where they are seen in order.
     pub(crate) fn with(self, number: u32) -> Author
         ensures { result ≡ with_number self number }
     {

@@ -15,14 +15,14 @@ pub struct Fork {
 }
 
 impl Fork {
-    // The dot before any of its contents was counted.
+    /// The dot before any of its contents was counted.
     pub(crate) fn uncounted(dot: Dot) -> Fork
         ensures { result ≡ uncounted dot }
     {
         Fork { dot, contents: 0 }
     }
 
-    // The dot with one more content.
+    /// The dot with one more content.
     pub(crate) fn with_content(self) -> Fork
         requires { self.contents + 1 < 2 ^ 64 }
         ensures { result ≡ with_content self }

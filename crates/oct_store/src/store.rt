@@ -1,7 +1,7 @@
 //! A finite set of operations.
 
 ghost use Rattle.std.specs.Prelude.{◌≡◌, ◌↔◌, ◌++◌, not, length, IsTrue, IfOk, IfErr, OnOk, OnErr};
-ghost use Rattle.oct_ops.specs.Operations.{empty, insert, remove, contains, listed, union, IsRising, IsSubset};
+ghost use Rattle.oct_ops.specs.Operations.{empty, insert, remove, contains, listed, union, IsSubset};
 ghost use Rattle.oct_ops.specs.OrderLaws.{op_cmp_total, op_cmp_exact};
 ghost use Rattle.oct_ops.specs.Views.{content};
 ghost use Rattle.oct_join.specs.SetBounds.{subset_order, union_bound};
@@ -116,7 +116,7 @@ impl<A: Allocator + Copy> Store<A> {
         for op in self.iter() {
             list.push(op.copy(self.alloc)?)?;
         }
-        Ok(rising(list))
+        Ok(OpList::of_rising(list))
     }
 
     /// The author's greatest number, or 0 where it has no operation here. This is one pass over the set.
@@ -204,7 +204,7 @@ impl<A: Allocator + Copy> Store<A> {
                 list.push(op.copy(self.alloc)?)?;
             }
         }
-        Ok(rising(list))
+        Ok(OpList::of_rising(list))
     }
 
     /// Copies of the blocks and claims of the game, in order.
@@ -217,7 +217,7 @@ impl<A: Allocator + Copy> Store<A> {
                 list.push(op.copy(self.alloc)?)?;
             }
         }
-        Ok(rising(list))
+        Ok(OpList::of_rising(list))
     }
 
     // Takes in an operation of another store.
@@ -233,17 +233,6 @@ impl<A: Allocator + Copy> Store<A> {
             Ok(_) => Ok(()),
             Err((refused, _)) => Err(refused),
         }
-    }
-}
-
-// A list that rises is never refused.
-fn rising<A: Allocator>(ops: Vec<Op<A>, A>) -> OpList<A>
-    requires { IsRising ops.items }
-    ensures { result ≡ ops.items }
-{
-    match OpList::from_rising(ops) {
-        Ok(list) => list,
-        Err(_) => unreachable!(),
     }
 }
 

@@ -6,7 +6,8 @@ use Rattle.std.proofs.lemmas.List.{append-nil, take_at, drop_at}
 use Rattle.std.proofs.Math.Seq.{take-add}
 use Rattle.oct_delta.specs.Text.{Bytes}
 use Rattle.oct_ops.specs.Operations.{Operations}
-use Rattle.oct_sync.specs.Driven.{AppendsPrefix, Breaks, Completes, begun}
+use Rattle.oct_sync.specs.Driven.{Breaks, Completes, begun}
+use Rattle.oct_sync.specs.Output.{AppendsPrefix}
 use Rattle.oct_sync.specs.Session.{Phase, AwaitsClock, AwaitsDeltas, AwaitsEnd, IsDone, HasFailed, Session, Point, fed}
 use Rattle.oct_sync.specs.Standing.{Ends, IsAt, Standing, StandsAt, at_start, ended, progress_in, progress_of}
 use Rattle.oct_sync.specs.declared.error.SyncError.{SyncError}

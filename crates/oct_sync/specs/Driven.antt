@@ -1,8 +1,9 @@
 -- What a driver of a session read and wrote.
-use Rattle.std.specs.Prelude.{◌≡◌, ℕ, [], take, Option}
+use Rattle.std.specs.Prelude.{◌≡◌, [], Option}
 use Rattle.std.specs.Io.KnownBytes.{Appends, Consumes}
 use Rattle.oct_delta.specs.Text.{Bytes}
 use Rattle.oct_ops.specs.Operations.{Operations}
+use Rattle.oct_sync.specs.Output.{AppendsPrefix}
 use Rattle.oct_sync.specs.Session.{Session, IsDone, fed, new_client, new_server}
 use Rattle.oct_sync.specs.declared.role.Role.{Role}
 use Rattle.oct_sync.specs.declared.role.Role.TheVariants.{Client, Server}
@@ -15,10 +16,6 @@ begun Server held = new_server held
 -- what it is once these bytes came
 abbrev pub after : Role → Operations → Bytes → Session
 after role held bytes = (fed role (record { session = begun role held; rest = [] }) bytes).session
-
--- known bytes grow by the first so many of some bytes
-abbrev pub AppendsPrefix : Option Bytes → Option Bytes → Bytes → Type 0
-AppendsPrefix old new bytes = (n : ℕ) × Appends old new (take n bytes)
 
 -- These bytes were read, and with them the session is done. What is held, and what was written, is what it makes of them.
 pub record Completes (role : Role) (reader reader' writer writer' : Option Bytes) (held held' : Operations) : Type 0 where

@@ -34,18 +34,7 @@ fn may_follow<A: Allocator>(pack: &[Op<A>], size: usize, op: &Op<A>) -> bool
     }
 }
 
-// A list that rises is never refused.
-fn rising<A: Allocator>(ops: Vec<Op<A>, A>) -> OpList<A>
-    requires { IsRising ops.items }
-    ensures { result ≡ ops.items }
-{
-    match OpList::from_rising(ops) {
-        Ok(list) => list,
-        Err(_) => unreachable!(),
-    }
-}
-
-// Adds a frame of these operations, whose texts have so many bytes, or none where there are none.
+// Appends a frame of these operations, whose texts have so many bytes, or none where there are none.
 #[tactic(auto, using(oct_delta::proofs::Written::keeps_then))]
 fn put_pack<A: Allocator>(
     out: &mut Vec<u8, A>,
@@ -62,14 +51,14 @@ fn put_pack<A: Allocator>(
         return Ok(());
     }
     put_head(out, DELTA, DELTA_HEAD + size)?;
-    match encode(&rising(pack), out) {
+    match encode(&OpList::of_rising(pack), out) {
         Ok(()) => Ok(()),
         Err(EncodeError::OutOfMemory) => Err(AllocError),
         Err(EncodeError::TooMany) => unreachable!(),
     }
 }
 
-/// Adds the operations of the list in delta frames.
+/// Appends the operations of the list in delta frames.
 pub(crate) fn put_delta_frames<A: Allocator + Copy>(
     alloc: A,
     list: OpList<A>,

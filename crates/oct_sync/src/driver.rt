@@ -2,10 +2,12 @@
 
 ghost use Rattle.std.specs.Prelude.{◌≡◌, ◌≢◌, ◌++◌, ◌≤◌, [], Some, length, vec_len, IfOk, IfErr, OnOk, OnErr};
 ghost use Rattle.std.specs.Io.KnownBytes.{Appends, Consumes, Keeps};
-ghost use Rattle.oct_sync.specs.Driven.{AppendsPrefix, Breaks, Completes, begun};
+ghost use Rattle.oct_sync.specs.Driven.{Breaks, Completes, begun};
+ghost use Rattle.oct_sync.specs.Output.{AppendsPrefix};
 ghost use Rattle.oct_sync.specs.Standing.{at_start};
 
 use crate::error::SyncError;
+use crate::output::{Unwritten, write_out};
 use crate::peer::Peer;
 use crate::progress::Progress;
 use crate::role::Role;
@@ -42,38 +44,18 @@ pub fn drive<A: Allocator + Copy, P: Peer<A>, R: Read, W: Write>(
     ensures author { P.author peer.new ≡ P.author peer.old }
 {
     let mut owed = Vec::new(alloc);
-    let mut session = match begin(alloc, role, peer, &mut owed) {
-        Ok(session) => session,
-        Err(_) => return Err(SyncError::OutOfMemory),
-    };
-    let mut buffer = match zeros(alloc, MAX_READ) {
-        Ok(buffer) => buffer,
-        Err(_) => return Err(SyncError::OutOfMemory),
-    };
+    let mut session = begin(alloc, role, peer, &mut owed)?;
+    let mut buffer = zeros(alloc, MAX_READ)?;
     let mut progress = Progress::More;
     for _ in 0..MAX_READS {
-        match send(writer, &mut owed) {
-            Ok(()) => {}
-            Err(_) => return Err(SyncError::Write),
+        send(writer, &mut owed)?;
+        if let Progress::Done = progress {
+            return Ok(());
         }
-        match progress {
-            Progress::Done => return Ok(()),
-            Progress::More => {}
-        }
-        let piece = match receive(reader, buffer.as_mut_slice(), session.wanted()) {
-            Ok(piece) => piece,
-            Err(Missing::Cut) => return Err(SyncError::Cut),
-            Err(Missing::Read) => return Err(SyncError::Read),
-        };
-        match session.feed(peer, piece, &mut owed) {
-            Ok(next) => progress = next,
-            Err(fault) => return Err(fault),
-        }
+        let piece = receive(reader, &mut buffer, session.wanted())?;
+        progress = session.feed(peer, piece, &mut owed)?;
     }
-    match send(writer, &mut owed) {
-        Ok(()) => {}
-        Err(_) => return Err(SyncError::Write),
-    }
+    send(writer, &mut owed)?;
     match progress {
         Progress::Done => Ok(()),
         Progress::More => Err(SyncError::Turns),
@@ -96,48 +78,15 @@ fn begin<A: Allocator + Copy, P: Peer<A>>(
     }
 }
 
-// A write failed.
-#[derive(Clone, Copy)]
-struct Unwritten;
-
-// Why no bytes were read.
-#[derive(Clone, Copy)]
-enum Missing {
-    Cut,
-    Read,
-}
-
-// Writes all the bytes, and flushes. A write that takes no byte fails.
-fn write_out<W: Write>(writer: &mut W, bytes: &[u8]) -> Result<(), Unwritten>
-    ensures ok { OnOk result (Appends (W.contents writer.old) (W.contents writer.new) bytes.now) }
-    ensures err { OnErr result (AppendsPrefix (W.contents writer.old) (W.contents writer.new) bytes.now) }
-{
-    let mut written = 0;
-    while written < bytes.len() {
-        match writer.write(&bytes[written..]) {
-            Ok(0) | Err(_) => return Err(Unwritten),
-            Ok(n) => written += n,
-        }
-    }
-    match writer.flush() {
-        Ok(()) => Ok(()),
-        Err(_) => Err(Unwritten),
-    }
-}
-
 // Writes all that is owed, and flushes.
 fn send<A: Allocator, W: Write>(writer: &mut W, owed: &mut Vec<u8, A>) -> Result<(), Unwritten>
     ensures ok { OnOk result (Appends (W.contents writer.old) (W.contents writer.new) owed.old.items) }
     ensures empty { OnOk result (owed.new.items ≡ []) }
     ensures err { OnErr result (AppendsPrefix (W.contents writer.old) (W.contents writer.new) owed.old.items) }
 {
-    match write_out(writer, owed) {
-        Ok(()) => {
-            owed.clear();
-            Ok(())
-        }
-        Err(unwritten) => Err(unwritten),
-    }
+    write_out(writer, owed)?;
+    owed.clear();
+    Ok(())
 }
 
 // Reads some bytes into the front of the buffer, at most so many, and lends them.
@@ -145,16 +94,16 @@ fn receive<'b, R: Read>(
     reader: &mut R,
     buffer: &'b mut [u8],
     most: usize,
-) -> Result<&'b [u8], Missing>
+) -> Result<&'b [u8], SyncError>
     ensures ok { IfOk result (λ piece. Consumes (R.remaining reader.old) (R.remaining reader.new) piece.now) }
     ensures few { IfOk result (λ piece. length piece.now ≤ most) }
     ensures err { OnErr result (Keeps (R.remaining reader.old) (R.remaining reader.new)) }
 {
     let most = most.min(buffer.len());
     match reader.read(&mut buffer[..most]) {
-        Ok(0) => Err(Missing::Cut),
+        Ok(0) => Err(SyncError::Cut),
         Ok(n) => Ok(&buffer[..n]),
-        Err(_) => Err(Missing::Read),
+        Err(_) => Err(SyncError::Read),
     }
 }
 

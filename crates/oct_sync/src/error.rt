@@ -2,6 +2,7 @@
 
 ghost use Rattle.std.specs.Prelude.{◌≡◌};
 
+use crate::output::Unwritten;
 use std::alloc::AllocError;
 
 /// Why a session ended early. Of the faults that one frame shows, the first of `Frame`, `Order`, `Clock` and `Delta` is
@@ -37,5 +38,15 @@ impl From<AllocError> for SyncError {
 
     fn from(_e: AllocError) -> SyncError {
         SyncError::OutOfMemory
+    }
+}
+
+impl From<Unwritten> for SyncError {
+    ghost use Rattle.oct_sync.specs.declared.error.SyncError.TheVariants as errors;
+
+    ghost from_gives = { λ _ e. e ≡ errors.Write };
+
+    fn from(_e: Unwritten) -> SyncError {
+        SyncError::Write
     }
 }

@@ -1,12 +1,12 @@
 //! Frames, as they are sent.
 
 ghost use Rattle.std.specs.Prelude.{◌≡◌, ◌+◌, ◌<◌, ◌≤◌, ◌∷◌, ◌++◌, [], length, OnOk};
-ghost use Rattle.std.specs.List.{flat_map};
-ghost use Rattle.oct_delta.specs.Clocks.{entry_bytes, entries_bytes};
+ghost use Rattle.oct_delta.specs.Clocks.{entries_bytes};
 ghost use Rattle.oct_delta.specs.Text.{u32};
 ghost use Rattle.oct_delta.specs.Writing.{Keeps};
 ghost use Rattle.oct_sync.specs.Frames.{frame_bytes, end_frame};
 
+use oct_delta::{put_bytes, put_entries, put_u32};
 use std::alloc::{AllocError, Allocator};
 
 /// The greatest length of a frame, which counts its tag and its payload.
@@ -21,22 +21,7 @@ pub(crate) const DELTA: u8 = 2;
 /// The tag of a frame that ends a side's operations.
 pub(crate) const END: u8 = 3;
 
-#[tactic(auto, using(oct_delta::proofs::Written::keeps_same, oct_delta::proofs::Written::keeps_more))]
-fn put_bytes<A: Allocator>(out: &mut Vec<u8, A>, bytes: &[u8]) -> Result<(), AllocError>
-    ensures ok { OnOk result (out.new.items ≡ out.old.items ++ bytes.now) }
-    ensures kept { Keeps out.old.items out.new.items }
-{
-    out.extend_from_slice(bytes)
-}
-
-fn put_u32<A: Allocator>(out: &mut Vec<u8, A>, number: u32) -> Result<(), AllocError>
-    ensures ok { OnOk result (out.new.items ≡ out.old.items ++ u32 number) }
-    ensures kept { Keeps out.old.items out.new.items }
-{
-    put_bytes(out, &number.to_be_bytes())
-}
-
-/// Adds the length and the tag of a frame whose payload has so many bytes.
+/// Appends the length and the tag of a frame whose payload has so many bytes.
 #[tactic(auto, using(oct_delta::proofs::Written::keeps_then))]
 pub(crate) fn put_head<A: Allocator>(
     out: &mut Vec<u8, A>,
@@ -51,27 +36,7 @@ pub(crate) fn put_head<A: Allocator>(
     put_bytes(out, &[tag])
 }
 
-#[tactic(auto, using(oct_delta::proofs::Written::keeps_then))]
-fn put_entry<A: Allocator>(out: &mut Vec<u8, A>, entry: (u32, u32)) -> Result<(), AllocError>
-    ensures ok { OnOk result (out.new.items ≡ out.old.items ++ entry_bytes entry) }
-    ensures kept { Keeps out.old.items out.new.items }
-{
-    put_u32(out, entry.0)?;
-    put_u32(out, entry.1)
-}
-
-#[tactic(auto, using(oct_delta::proofs::Written::keeps_then))]
-fn put_entries<A: Allocator>(out: &mut Vec<u8, A>, entries: &[(u32, u32)]) -> Result<(), AllocError>
-    ensures ok { OnOk result (out.new.items ≡ out.old.items ++ flat_map entry_bytes entries.now) }
-    ensures kept { Keeps out.old.items out.new.items }
-{
-    for entry in entries {
-        put_entry(out, *entry)?;
-    }
-    Ok(())
-}
-
-/// Adds a clock frame of these authors with their numbers.
+/// Appends a clock frame of these authors with their numbers.
 #[tactic(auto, using(oct_delta::proofs::Written::keeps_then))]
 pub(crate) fn put_clock_frame<A: Allocator>(
     out: &mut Vec<u8, A>,
@@ -82,12 +47,11 @@ pub(crate) fn put_clock_frame<A: Allocator>(
     ensures kept { Keeps out.old.items out.new.items }
 {
     put_head(out, CLOCK, 4 + 8 * entries.len())?;
-    put_u32(out, entries.len() as u32)?;
     put_entries(out, entries)?;
     Ok(())
 }
 
-/// Adds an end frame.
+/// Appends an end frame.
 pub(crate) fn put_end_frame<A: Allocator>(out: &mut Vec<u8, A>) -> Result<(), AllocError>
     ensures ok { OnOk result (out.new.items ≡ out.old.items ++ end_frame) }
     ensures kept { Keeps out.old.items out.new.items }

@@ -12,9 +12,9 @@
 //! Each frame is a length of four bytes, which counts what follows it, a tag of one byte and a payload. Bytes may come
 //! in pieces of any size: what a side holds and sends follows from the bytes alone, and not from how they were cut.
 //!
-//! - `Session` is one side, which is fed the other side's bytes and adds what it sends to a vector.
+//! - `Session` is one side, which is fed the other side's bytes and appends what it sends to a vector.
 //! - `Peer` is whoever a side speaks for: it keeps a set of operations, as a `Replica` does.
-//! - `drive` runs a session to its end over a reader and a writer.
+//! - `drive` runs a session to its end over a reader and a writer, and `write_out` writes all bytes to a writer.
 //! - `SyncError` says why a session ended early, and `laws` what holds of all sessions: bytes may be cut anywhere, and two
 //!   sides that answer each other both end with all that either held.
 //!
@@ -28,6 +28,7 @@ mod error;
 mod frame;
 mod heads;
 pub mod laws;
+mod output;
 mod peer;
 mod progress;
 mod receiving;
@@ -38,6 +39,7 @@ mod state;
 
 pub use driver::{MAX_READS, drive};
 pub use error::SyncError;
+pub use output::{Unwritten, write_out};
 pub use peer::Peer;
 pub use progress::Progress;
 pub use role::Role;

@@ -51,9 +51,7 @@ impl<A: Allocator + Copy> Peer<A> for Replica<A> {
 
     fn append(&mut self, ops: &mut Vec<Op<A>, A>) -> Result<(), AllocError> {
         let empty = Vec::new(*ops.allocator());
-        let Ok(list) = OpList::from_rising(mem::replace(ops, empty)) else {
-            unreachable!();
-        };
+        let list = OpList::of_rising(mem::replace(ops, empty));
         match self.take_list(list) {
             Ok(_) => Ok(()),
             Err(_) => Err(AllocError),

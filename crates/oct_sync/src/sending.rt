@@ -14,7 +14,7 @@ use std::alloc::{AllocError, Allocator};
 /// The most authors of a clock that is sent.
 const MAX_AUTHORS: usize = 65_536;
 
-// Takes back what was added to the first bytes, where the adding was refused.
+// Takes back what was appended to the first bytes, where the appending was refused.
 fn keep_or_cut<A: Allocator>(
     out: &mut Vec<u8, A>,
     length: usize,
@@ -30,7 +30,7 @@ fn keep_or_cut<A: Allocator>(
     added
 }
 
-// Adds the clock frame of the peer.
+// Appends the clock frame of the peer.
 fn put_clock<A: Allocator + Copy, P: Peer<A>>(
     peer: &P,
     out: &mut Vec<u8, A>,
@@ -44,7 +44,7 @@ fn put_clock<A: Allocator + Copy, P: Peer<A>>(
     Ok(())
 }
 
-// Adds what the clock does not cover, and an end frame.
+// Appends what the clock does not cover, and an end frame.
 fn put_missing<A: Allocator + Copy, P: Peer<A>>(
     alloc: A,
     peer: &P,
@@ -59,7 +59,7 @@ fn put_missing<A: Allocator + Copy, P: Peer<A>>(
     Ok(())
 }
 
-// Adds the clock frame, what the clock of the other side does not cover, and an end frame.
+// Appends the clock frame, what the clock of the other side does not cover, and an end frame.
 fn put_answer<A: Allocator + Copy, P: Peer<A>>(
     alloc: A,
     peer: &P,

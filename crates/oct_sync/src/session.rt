@@ -19,7 +19,7 @@ use crate::state::{Due, State};
 use std::alloc::{AllocError, Allocator};
 use std::marker::Model;
 
-/// One side of a session. It takes the other side's bytes, in pieces of any size, and adds what it sends to a vector. It
+/// One side of a session. It takes the other side's bytes, in pieces of any size, and appends what it sends to a vector. It
 /// keeps no operations but those of the delta frame that comes; a caller hands it one `Peer` at every call, which nothing
 /// else changes meanwhile. After a refusal it answers `Failed`.
 ///
@@ -47,7 +47,7 @@ impl<A: Allocator + Copy> Model for Session<A> {
 }
 
 impl<A: Allocator + Copy> Session<A> {
-    /// The side that speaks first, for the peer. Its clock frame is added to `out`, which a refusal leaves as it was.
+    /// The side that speaks first, for the peer. Its clock frame is appended to `out`, which a refusal leaves as it was.
     pub fn client<P: Peer<A>>(
         alloc: A,
         peer: &P,
@@ -79,9 +79,9 @@ impl<A: Allocator + Copy> Session<A> {
         }
     }
 
-    /// Takes the next bytes: takes the operations of whole delta frames into the peer, and adds what is to be sent to
+    /// Takes the next bytes: takes the operations of whole delta frames into the peer, and appends what is to be sent to
     /// `out`. The answer is the fault of the first frame that shows one, or of the first byte after the end. The frames
-    /// before it have done what they do; it adds nothing to `out`, and where its delta ran out of memory the first so many
+    /// before it have done what they do; it appends nothing to `out`, and where its delta ran out of memory the first so many
     /// of its operations are in the peer. From then on every call answers `Failed`.
     pub fn feed<P: Peer<A>>(
         &mut self,

@@ -4,7 +4,7 @@ use Rattle.std.proofs.lemmas.Bool.{cases_lt, lt-ltb}
 use Rattle.oct_ops.specs.Faults.{block_fault}
 use Rattle.oct_ops.specs.Operation.{Block}
 use Rattle.oct_ops.specs.Valid.{IsBlock}
-use Rattle.oct_ops.specs.declared.fault.BlockError.TheVariants.{Empty, TooMany, PastLimit}
+use Rattle.oct_ops.specs.declared.error.BlockError.TheVariants.{Empty, TooMany, PastLimit}
 use Rattle.oct_verify.specs.Known.{end}
 
 faultless : (b : Block) → block_fault b ≡ None → nat_lt 65536 (b.start + length b.values) ≡ false

@@ -9,6 +9,7 @@ use oct_mex::{Values, first_difference};
 use oct_ops::Block;
 use std::alloc::Allocator;
 
+/// The nim-values of a game, and how many blocks were compared with them.
 #[derive(Drop)]
 pub(crate) struct Comparer<A: Allocator + Copy> {
     pub(crate) values: Values<A>,
@@ -16,6 +17,7 @@ pub(crate) struct Comparer<A: Allocator + Copy> {
 }
 
 impl<A: Allocator + Copy> Comparer<A> {
+    /// No value, and nothing compared. Takes no memory.
     pub(crate) fn new(alloc: A, code: Code) -> Comparer<A>
         ensures values { result.values ≡ record { code = code; len = 0; room = 0 } }
         ensures checks { result.checks ≡ 0 }
@@ -26,7 +28,7 @@ impl<A: Allocator + Copy> Comparer<A> {
         }
     }
 
-    // Compares a block of the game with the nim-values, for which there is room.
+    /// Compares a block of the game with the nim-values, for which there is room.
     pub(crate) fn compare(&mut self, block: &Block<A>) -> Status
         requires game { block.now.code ≡ self.old.values.code }
         requires room { end block.now ≤ self.old.values.room }

@@ -14,6 +14,7 @@ use std::alloc::Allocator;
 use std::cmp::Ordering;
 use std::marker::Model;
 
+/// A block under its dot, with its status.
 #[derive(Drop)]
 pub(crate) struct Entry<A: Allocator> {
     dot: Dot,
@@ -30,31 +31,35 @@ impl<A: Allocator> Model for Entry<A> {
 }
 
 impl<A: Allocator> Entry<A> {
+    /// The entry of a block with this status.
     pub(crate) fn new(dot: Dot, block: Block<A>, status: Status) -> Entry<A>
         ensures { result ≡ record { dot = dot; block = block; status = status } }
     {
         Entry { dot, block, status }
     }
 
+    /// The block.
     pub(crate) fn block(&self) -> &Block<A>
         ensures { result.now ≡ self.now.block }
     {
         &self.block
     }
 
+    /// Its status.
     pub(crate) fn status(&self) -> Status
         ensures { result ≡ self.now.status }
     {
         self.status
     }
 
+    /// Writes its status.
     pub(crate) fn set_status(&mut self, status: Status)
         ensures { self.new ≡ record self.old { status = status } }
     {
         self.status = status;
     }
 
-    // By the first place, then by the dot, then by the block.
+    /// By the first place, then by the dot, then by the block.
     pub(crate) fn compare(&self, dot: &Dot, block: &Block<A>) -> Ordering
         ensures { result ≡ filing_cmp (filing_of self.now) (dot.now, block.now) }
     {
@@ -64,7 +69,7 @@ impl<A: Allocator> Entry<A> {
 }
 
 impl<A: Allocator + Copy> Pages<Entry<A>, A> {
-    // Writes the status of the entry at a place.
+    /// Writes the status of the entry at a place.
     pub(crate) fn set_status(&mut self, place: Place, status: Status)
         requires paged { IsPaged self.old }
         requires inside { IsInside self.old place }
@@ -76,7 +81,7 @@ impl<A: Allocator + Copy> Pages<Entry<A>, A> {
     }
 }
 
-// That an entry comes before a block.
+/// That an entry comes before a block.
 #[derive(Clone, Copy)]
 pub(crate) struct IsBefore<'a, A: Allocator> {
     pub(crate) dot: &'a Dot,
@@ -91,7 +96,7 @@ impl<A: Allocator> Test<Entry<A>> for IsBefore<'_, A> {
     }
 }
 
-// That an entry is settled.
+/// That an entry is settled.
 #[derive(Clone, Copy)]
 pub(crate) struct IsSettled;
 

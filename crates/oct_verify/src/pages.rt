@@ -11,22 +11,23 @@ use std::alloc::{AllocError, Allocator};
 // From this length on a page is split before it grows.
 const LONGEST: usize = 128;
 
-// A page, and a place in it.
+/// A page, and a place in it.
 #[derive(Clone, Copy)]
 pub(crate) struct Place {
     pub(crate) page: usize,
     pub(crate) at: usize,
 }
 
-// A test of items.
+/// A test of items.
 pub(crate) trait Test<T> {
     ghost passes: { Self → T → Bool };
 
+    /// Whether the item passes.
     fn passes(&self, item: &T) -> bool
         ensures { result ≡ passes self.now item.now };
 }
 
-// The pages make up the list. None of them is empty, the first one aside.
+/// The pages make up the list. None of them is empty, the first one aside.
 #[derive(Drop)]
 pub(crate) struct Pages<T, A: Allocator + Copy> {
     pub(crate) pages: Vec<Vec<T, A>, A>,
@@ -35,6 +36,7 @@ pub(crate) struct Pages<T, A: Allocator + Copy> {
 }
 
 impl<T: Drop, A: Allocator + Copy> Pages<T, A> {
+    /// No item. Takes no memory.
     pub(crate) fn new(alloc: A) -> Pages<T, A>
         ensures paged { IsPaged result }
         ensures empty { paged result ≡ [] }
@@ -46,7 +48,7 @@ impl<T: Drop, A: Allocator + Copy> Pages<T, A> {
         }
     }
 
-    // The place between the items that pass the test and the others.
+    /// The place between the items that pass the test and the others.
     pub(crate) fn partition_point<P: Test<T>>(&self, test: &P) -> Place
         requires paged { IsPaged self.now }
         requires parted { IsPartitionedBy (P.passes test.now) (paged self.now) }
@@ -63,7 +65,7 @@ impl<T: Drop, A: Allocator + Copy> Pages<T, A> {
         Place { page, at }
     }
 
-    // The item at a place, or after the end of its page.
+    /// The item at a place, or after the end of its page.
     pub(crate) fn get(&self, place: Place) -> Option<Place>
         requires paged { IsPaged self.now }
         requires near { IsNear self.now place }
@@ -81,7 +83,7 @@ impl<T: Drop, A: Allocator + Copy> Pages<T, A> {
         }
     }
 
-    // The item at a place.
+    /// The item at a place.
     pub(crate) fn item_at(&self, place: Place) -> &T
         requires inside { IsInside self.now place }
         ensures { IsItemAt self.now place result.now }
@@ -105,8 +107,8 @@ impl<T: Drop, A: Allocator + Copy> Pages<T, A> {
         Ok(())
     }
 
-    // Makes room for an item at a place, and says where the place is then. It also gives up at 2^64 - 1 items, which no
-    // memory holds.
+    /// Makes room for an item at a place, and says where the place is then. It also gives up at 2^64 - 1 items, which no
+    /// memory holds.
     pub(crate) fn room_at(&mut self, place: Place) -> Result<Place, AllocError>
         requires paged { IsPaged self.old }
         requires near { IsNear self.old place }
@@ -176,7 +178,7 @@ impl<T: Drop, A: Allocator + Copy> Pages<T, A> {
         }
     }
 
-    // Puts an item at a place with room.
+    /// Puts an item at a place with room.
     pub(crate) fn put(&mut self, place: Place, item: T)
         requires paged { IsPaged self.old }
         requires beside { IsBeside self.old place }
@@ -189,6 +191,7 @@ impl<T: Drop, A: Allocator + Copy> Pages<T, A> {
     }
 }
 
+// Whether the first item of a page passes the test, or there is none.
 fn starts<T, A: Allocator, P: Test<T>>(page: &Vec<T, A>, test: &P) -> bool
     ensures { result ≡ starts (P.passes test.now) page.now }
 {
@@ -198,6 +201,7 @@ fn starts<T, A: Allocator, P: Test<T>>(page: &Vec<T, A>, test: &P) -> bool
     }
 }
 
+// Puts an item at a place of a page with room.
 fn put<T: Drop, A: Allocator>(items: &mut Vec<T, A>, at: usize, item: T)
     requires at { at ≤ length items.old.items }
     requires capacity { vec_len items.old < vec_capacity items.old }

@@ -15,7 +15,7 @@ use oct_ops::{Block, Dot};
 use std::alloc::{AllocError, Allocator};
 use std::cmp::Ordering;
 
-// The entries rise. As many as were compared are settled, and the others wait.
+/// The entries rise. As many as were compared are settled, and the others wait.
 #[derive(Drop)]
 pub(crate) struct Shelf<A: Allocator + Copy> {
     pub(crate) comparer: Comparer<A>,
@@ -34,6 +34,7 @@ fn grown(known: u32, status: Status, end: u32) -> u32
 }
 
 impl<A: Allocator + Copy> Shelf<A> {
+    /// No block. Takes no memory.
     pub(crate) fn new(alloc: A, code: Code) -> Shelf<A>
         ensures code { result.comparer.values.code ≡ code }
         ensures kept { IsKept result }
@@ -46,7 +47,7 @@ impl<A: Allocator + Copy> Shelf<A> {
         }
     }
 
-    // Where the entry of this block is, or where it would go.
+    /// Where the entry of this block is, or where it would go.
     pub(crate) fn place(&self, dot: &Dot, block: &Block<A>) -> Result<Place, Place>
         requires { IsHalfway self.now }
         ensures { MatchResult result
@@ -147,7 +148,7 @@ impl<A: Allocator + Copy> Shelf<A> {
             .put(place, Entry::new(dot, block, Status::Pending));
     }
 
-    // Adds a block. A refusal hands it back, and leaves what is filed as it was.
+    /// Adds a block. A refusal hands it back, and leaves what is filed as it was.
     pub(crate) fn add(&mut self, dot: Dot, block: Block<A>) -> Result<(), (AllocError, Block<A>)>
         requires kept { IsKept self.old }
         requires game { block.code ≡ self.old.comparer.values.code }

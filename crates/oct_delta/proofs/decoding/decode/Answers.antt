@@ -21,20 +21,20 @@ returns-then-is_err-clause-unread g c = λ _.
     reads_none c.in-Some.edition c.args.bytes.now c.in-Some.list.now (λ i. omega (arith, c.type_inv.bytes i)) c.in-Some.ensures.some
     (none_along c.limit-limit.result (format c.in-Some.edition).limit c.in-Some.list.now c.limit-limit.ensures.value (on_err c.check_list.result (sym c.is_err.ensures.value ∙ c.if-is_err.true) c.check_list.ensures.err))
 
-pub returns-in-Ok-from_rising-clause-ok : goal.returns-in-Ok-from_rising-clause-ok
-returns-in-Ok-from_rising-clause-ok g c =
-    text_of_list c.in-Some.edition c.args.bytes.now c.in-Some.list.now c.in-Ok-from_rising.list c.in-Some.ensures.some
-    (list_along c.limit-limit.result (format c.in-Some.edition).limit c.in-Some.list.now c.in-Ok.ops.items c.in-Ok-from_rising.list c.limit-limit.ensures.value c.in-Ok-from_rising.ensures.ok c.in-Ok.ensures.ok)
+pub returns-clause-ok : goal.returns-clause-ok
+returns-clause-ok g c =
+    text_of_list c.in-Some.edition c.args.bytes.now c.in-Some.list.now c.of_rising.result c.in-Some.ensures.some
+    (list_along c.limit-limit.result (format c.in-Some.edition).limit c.in-Some.list.now c.in-Ok.ops.items c.of_rising.result c.limit-limit.ensures.value c.of_rising.ensures c.in-Ok.ensures.ok)
 
-pub returns-in-Ok-from_rising-clause-read : goal.returns-in-Ok-from_rising-clause-read
-returns-in-Ok-from_rising-clause-read g c =
-    reads_list c.in-Some.edition c.args.bytes.now c.in-Some.list.now c.in-Ok-from_rising.list c.in-Some.ensures.some
-    (list_along c.limit-limit.result (format c.in-Some.edition).limit c.in-Some.list.now c.in-Ok.ops.items c.in-Ok-from_rising.list c.limit-limit.ensures.value c.in-Ok-from_rising.ensures.ok c.in-Ok.ensures.ok)
+pub returns-clause-read : goal.returns-clause-read
+returns-clause-read g c =
+    reads_list c.in-Some.edition c.args.bytes.now c.in-Some.list.now c.of_rising.result c.in-Some.ensures.some
+    (list_along c.limit-limit.result (format c.in-Some.edition).limit c.in-Some.list.now c.in-Ok.ops.items c.of_rising.result c.limit-limit.ensures.value c.of_rising.ensures c.in-Ok.ensures.ok)
 
-pub returns-in-Ok-from_rising-clause-refused : goal.returns-in-Ok-from_rising-clause-refused
-returns-in-Ok-from_rising-clause-refused g c = (
-  λ e. absurd (no_error c.in-Ok-from_rising.list _ e),
-  λ h. absurd (h.1 c.in-Ok-from_rising.list
-      (text_of_list c.in-Some.edition c.args.bytes.now c.in-Some.list.now c.in-Ok-from_rising.list c.in-Some.ensures.some
-      (list_along c.limit-limit.result (format c.in-Some.edition).limit c.in-Some.list.now c.in-Ok.ops.items c.in-Ok-from_rising.list c.limit-limit.ensures.value c.in-Ok-from_rising.ensures.ok c.in-Ok.ensures.ok))),
+pub returns-clause-refused : goal.returns-clause-refused
+returns-clause-refused g c = (
+  λ e. absurd (no_error c.of_rising.result _ e),
+  λ h. absurd (h.1 c.of_rising.result
+      (text_of_list c.in-Some.edition c.args.bytes.now c.in-Some.list.now c.of_rising.result c.in-Some.ensures.some
+      (list_along c.limit-limit.result (format c.in-Some.edition).limit c.in-Some.list.now c.in-Ok.ops.items c.of_rising.result c.limit-limit.ensures.value c.of_rising.ensures c.in-Ok.ensures.ok))),
 )

@@ -7,7 +7,7 @@ returns-then-len-count-clause-refused g c = λ _.
     let lt : length c.in-Reading.progress.ops.items < c.in-Reading.progress.count = omega (arith, c.if-len-count.true, c.len-in-Reading.ensures, c.in-Reading.progress.ops.ok) in
     unfinished_here c.args.state c.in-Reading.progress c.in-Reading.is c.requires lt
 
-pub returns-in-Ok-clause-ok : goal.returns-in-Ok-clause-ok
-returns-in-Ok-clause-ok g c =
+pub returns-else-len-count-clause-ok : goal.returns-else-len-count-clause-ok
+returns-else-len-count-clause-ok g c =
     let le : c.in-Reading.progress.count ≤ length c.in-Reading.progress.ops.items = omega (arith, c.if-len-count.false, c.len-in-Reading.ensures, c.in-Reading.progress.ops.ok) in
-    finished_here c.args.state c.in-Reading.progress c.in-Ok.list c.in-Reading.is c.requires le c.in-Ok.ensures.ok
+    finished_here c.args.state c.in-Reading.progress c.of_rising.result c.in-Reading.is c.requires le c.of_rising.ensures

@@ -10,12 +10,12 @@ returns-in-Ok-clause-ok g c =
     let counts : 8 + c.args.size ≡ length (encoded pack) = let e = length-encoded pack in let s = c.requires.is in omega (arith, e, s) in
     let len : length c.args.pack.items ≡ c.args.pack.len = omega (arith, c.args.pack.ok) in
     framed_after 2 (8 + c.args.size) (encoded pack) c.args.out.now.items c.put_head.new.out.items _ counts c.in_ok-put_head.ensures.ok
-    (c.in-Ok.ensures.ok ∙ ap (λ ops. c.put_head.new.out.items ++ encoded ops) c.rising.ensures)
+    (c.in-Ok.ensures.ok ∙ ap (λ ops. c.put_head.new.out.items ++ encoded ops) c.of_rising.ensures)
     ∙ ap (λ (z : List ℕ). c.args.out.now.items ++ z) (sym (pack_frame-some pack (ap (λ n. eqb n 0) len ∙ sym c.is_empty.ensures ∙ c.if-is_empty.false)))
 
 pub unreachable-requires : goal.unreachable-requires
 unreachable-requires g c =
     let many = c.encode-2.ensures.too_many.0 (c.in-Err-TooMany.is ∙ ap Err c.in-Err-TooMany.field-0-is) in
-    let listed = ap length c.rising.ensures in
+    let listed = ap length c.of_rising.ensures in
     let few = fewer_than_bytes c.args.pack.items in
     omega (arith, many, listed, few, c.requires.is, c.requires.fits)

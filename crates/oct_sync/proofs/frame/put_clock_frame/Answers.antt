@@ -1,12 +1,9 @@
-use Rattle.std.proofs.Common.{◌+◌, ◌*◌, ◌++◌, List, ℕ, length, append_assoc, ap, ◌∙◌}
-use Rattle.std.specs.List.{flat_map}
-use Rattle.oct_delta.specs.Clocks.{entry_bytes, entries_bytes}
-use Rattle.oct_delta.specs.Text.{u32}
+use Rattle.std.proofs.Common.{◌+◌, ◌*◌, length}
+use Rattle.oct_delta.specs.Clocks.{entries_bytes}
 use Rattle.oct_sync.proofs.Written.{framed_after, length-entries_bytes}
 use Rattle.oct_sync.proofs.frame.put_clock_frame.Goals as goal
 
 pub returns-clause-ok : goal.returns-clause-ok
 returns-clause-ok g c =
     let es = c.args.entries.now in
-    framed_after 1 (4 + 8 * length es) (entries_bytes es) c.args.out.now.items c.put_head.new.out.items _ (length-entries_bytes es) c.in_ok-put_head.ensures.ok
-    (c.in_ok-put_entries.ensures.ok ∙ ap (λ (z : List ℕ). z ++ flat_map entry_bytes es) c.in_ok-put_u32.ensures.ok ∙ append_assoc c.put_head.new.out.items (u32 (length es)) (flat_map entry_bytes es))
+    framed_after 1 (4 + 8 * length es) (entries_bytes es) c.args.out.now.items c.put_head.new.out.items _ (length-entries_bytes es) c.in_ok-put_head.ensures.ok c.in_ok-put_entries.ensures.ok

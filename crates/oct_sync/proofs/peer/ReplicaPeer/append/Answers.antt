@@ -15,4 +15,4 @@ first_in old new list (OutOfMemory done) cut = (done, ap (λ (r : ReplicaContent
 pub returns-in-Err-clause-err : goal.returns-in-Err-clause-err
 returns-in-Err-clause-err g c =
     first_in c.args.self.now c.take_list.new.self c.args.ops.now.items c.in-Err.field-0
-    (subst (λ xs. IsCutBy c.args.self.now c.take_list.new.self xs c.in-Err.field-0) (c.in-Ok.ensures.ok ∙ ap (λ v. v.items) c.replace.ensures.value) c.in-Err.ensures.err)
+    (subst (λ xs. IsCutBy c.args.self.now c.take_list.new.self xs c.in-Err.field-0) (c.of_rising-list.ensures ∙ ap (λ v. v.items) c.replace.ensures.value) c.in-Err.ensures.err)

@@ -2,7 +2,7 @@ use Rattle.std.proofs.Common.{arith, length-drop}
 use Rattle.std.proofs.KnownBytes.{Appends-trans}
 use Rattle.std.proofs.Math.Seq.{take-add}
 use Rattle.std.proofs.lemmas.List.{take_rest}
-use Rattle.oct_sync.proofs.driver.write_out.Goals as goal
+use Rattle.oct_sync.proofs.output.write_out.Goals as goal
 
 pub loop-written-preserved : goal.loop-written-preserved
 loop-written-preserved g c =

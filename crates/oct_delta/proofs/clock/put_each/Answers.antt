@@ -2,7 +2,7 @@ use Rattle.std.proofs.Common.{take}
 use Rattle.std.specs.List.{flat_map}
 use Rattle.oct_delta.specs.Clocks.{entry_bytes}
 use Rattle.oct_delta.proofs.Written.{keeps_more, keeps_then}
-use Rattle.oct_sync.proofs.frame.put_entries.Goals as goal
+use Rattle.oct_delta.proofs.clock.put_each.Goals as goal
 
 pub returns-in_err-put_entry-clause-kept : goal.returns-in_err-put_entry-clause-kept
 returns-in_err-put_entry-clause-kept g c =
