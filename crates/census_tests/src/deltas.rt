@@ -3,7 +3,10 @@
 use crate::vectors::{A, B, C, D, E, F, G, H, I, LAST, long_block, many_notes};
 use metered::Metered;
 use oct_code::Code;
-use oct_delta::{ClockError, DeltaError, OpList, decode, decode_clock, encode, encode_clock};
+use oct_delta::{
+    ClockError, DeltaError, OpList, decode, decode_clock, encode, encode_clock, put_bytes,
+    put_entries, put_u32,
+};
 use oct_join::Clock;
 use oct_ops::{Body, Op};
 use std::alloc::{Allocator, Global};
@@ -317,4 +320,22 @@ fn changed_clocks_are_refused(rt: HostRuntime) {
         all &= refuses_clock(rt.alloc(), &text);
     }
     assert!(rt; all);
+}
+
+// Whether bytes, a number and two authors are appended.
+fn fields_are_appended<A: Allocator>(alloc: A, wanted: &[u8]) -> bool {
+    let mut out = Vec::new(alloc);
+    put_bytes(&mut out, b"OGS1").is_ok()
+        && put_u32(&mut out, 258).is_ok()
+        && put_entries(&mut out, &[(1, 3), (2, 65_536)]).is_ok()
+        && out.as_slice() == wanted
+}
+
+#[test]
+fn fields_are_spelled(rt: HostRuntime) {
+    let wanted = [
+        b'O', b'G', b'S', b'1', 0, 0, 1, 2, 0, 0, 0, 2, 0, 0, 0, 1, 0, 0, 0, 3, 0, 0, 0, 2, 0, 1,
+        0, 0,
+    ];
+    assert!(rt; fields_are_appended(rt.alloc(), &wanted));
 }

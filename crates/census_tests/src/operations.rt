@@ -4,7 +4,7 @@ use metered::Metered;
 use oct_code::Code;
 use oct_ops::{
     Block, BlockError, Body, Dot, DotError, ListError, Note, NoteError, Op, OpList, Period,
-    PeriodError, Removal, RemovalError, rises,
+    PeriodError, Removal, RemovalError, is_name, is_text, rises,
 };
 use std::alloc::{Allocator, Global};
 
@@ -147,7 +147,7 @@ fn is_list<A: Allocator>(ops: Vec<Op<A>, A>, dot: Dot) -> bool {
             list.len() == 2
                 && !list.is_empty()
                 && are_claims(list.as_slice(), dot)
-                && list.into_vec().len() == 2
+                && OpList::of_rising(list.into_vec()).len() == 2
         }
         Err(_) => false,
     }
@@ -373,4 +373,23 @@ fn old_limits_are_kept_and_lists_rise(rt: HostRuntime) {
         }
     );
     assert!(rt; rises(&[1u32, 2, 4]) && !rises(&[1u32, 2, 2]));
+}
+
+// Whether names and texts of notes are told from other bytes.
+fn words_are_told(letters: &[u8; 201]) -> bool {
+    is_name(b"kayles-0-77")
+        && is_name(&letters[..32])
+        && !is_name(&letters[..33])
+        && !is_name(b"")
+        && !is_name(b"Kayles")
+        && is_text(b"")
+        && is_text(b" ~")
+        && is_text(&letters[..200])
+        && !is_text(letters)
+        && !is_text(b"\x7f")
+}
+
+#[test]
+fn names_and_texts_are_told(rt: HostRuntime) {
+    assert!(rt; words_are_told(&[b'k'; 201]));
 }

@@ -1,1 +1,12 @@
--- All is left to the tactic. Where a function has this file, a wrong body of it is refused without a second search.
+use Rattle.std.proofs.Common.{arith}
+use Rattle.std.proofs.lemmas.Grind.{common_steps}
+use Rattle.oct_sync.proofs.driver.send.Goals as goal
+
+pub returns-clause-ok : goal.returns-clause-ok
+returns-clause-ok g c = grind (arith, common_steps)
+
+pub returns-clause-empty : goal.returns-clause-empty
+returns-clause-empty g c = cc
+
+pub returns-clause-err : goal.returns-clause-err
+returns-clause-err g c = cc

@@ -1,1 +1,9 @@
--- All is left to the tactic. Where a function has this file, a wrong body of it is refused without a second search.
+use Rattle.std.proofs.Common.{arith}
+use Rattle.std.proofs.lemmas.Grind.{common_steps}
+use Rattle.oct_code.proofs.code.Code.len.Goals as goal
+
+pub returns-clause-value : goal.returns-clause-value
+returns-clause-value c = grind (arith, common_steps)
+
+pub returns-clause-valid : goal.returns-clause-valid
+returns-clause-valid c = grind (arith, common_steps)

@@ -1,1 +1,4 @@
--- All is left to the tactic. Where a function has this file, a wrong body of it is refused without a second search.
+use Rattle.oct_mex.proofs.values.Values.extend_to.Goals as goal
+
+pub returns-clause-err : goal.returns-clause-err
+returns-clause-err g c = cc

@@ -1,1 +1,4 @@
--- All is left to the tactic. Where a function has this file, a wrong body of it is refused without a second search.
+use Rattle.oct_ops.proofs.op.Op.dot.Goals as goal
+
+pub returns-clause-value : goal.returns-clause-value
+returns-clause-value g c = cc

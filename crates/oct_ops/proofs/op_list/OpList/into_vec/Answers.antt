@@ -1,1 +1,7 @@
--- All is left to the tactic. Where a function has this file, a wrong body of it is refused without a second search.
+use Rattle.oct_ops.proofs.op_list.OpList.into_vec.Goals as goal
+
+pub returns-clause-value : goal.returns-clause-value
+returns-clause-value g c = cc
+
+pub returns-clause-valid : goal.returns-clause-valid
+returns-clause-valid g c = cc

@@ -1,1 +1,5 @@
--- All is left to the tactic. Where a function has this file, a wrong body of it is refused without a second search.
+use Rattle.std.proofs.Common.{ap}
+use Rattle.oct_ops.proofs.period.Period.code.Goals as goal
+
+pub returns-clause-value : goal.returns-clause-value
+returns-clause-value c = ap (λ x. x.code) c.self.view_is
