@@ -5,19 +5,10 @@
 //!     census compute anna.state 0.77 168
 //!     census show anna.state
 //!
-//! `command_line` says what its words mean and `task` what they ask for; `run` does it over any three streams, with the
-//! files and the network that it was lent. What a command makes of the bytes of its files is `census_core::perform`.
+//! What it does with its words is `census_run::run`.
 #![tactic(auto)]
 
-mod command_line;
-mod files;
-mod help;
-mod network;
-mod run;
-mod task;
-#[cfg(test)]
-mod tests;
-
+use census_run::run;
 use std::env;
 use std::process::ExitCode;
 
@@ -30,5 +21,5 @@ fn main(rt: HostRuntime) -> ExitCode {
         return ExitCode::from(4);
     };
     let (mut input, mut output, mut errors) = (rt.stdin(), rt.stdout(), rt.stderr());
-    ExitCode::from(run::run(&rt, &words, &mut input, &mut output, &mut errors))
+    ExitCode::from(run(&rt, &words, &mut input, &mut output, &mut errors))
 }

@@ -20,6 +20,8 @@ mod operations;
 #[cfg(test)]
 mod reader;
 #[cfg(test)]
+mod requests;
+#[cfg(test)]
 mod stores;
 #[cfg(test)]
 mod values;

@@ -13,9 +13,6 @@
 //! A growth and a shrinkage count as one request each. What is given back costs nothing.
 #![tactic(auto)]
 
-#[cfg(test)]
-mod tests;
-
 use std::alloc::{AllocError, Allocator};
 use std::cell::Cell;
 

@@ -25,9 +25,9 @@ keeps_then a b c k l =
     keeps_more a c (rest_of a b ++ rest_of b c) (split b c l ∙ ap (λ (z : Bytes). z ++ rest_of b c) (split a b k) ∙ append_assoc a (rest_of a b) (rest_of b c))
 
 -- one item more was written
-pub written_more : {X : Type 0} (text : X → Bytes) (xs : List X) (i : ℕ) (x : X) (old now new : Bytes) → i < length xs → x ≡ get_or xs i x → now ≡ old ++ flat_map text (take i xs) → new ≡ now ++ text x
+pub written_more : {X : Type 0} (text : X → Bytes) (xs : List X) (i : ℕ) (x other : X) (old now new : Bytes) → i < length xs → x ≡ get_or xs i other → now ≡ old ++ flat_map text (take i xs) → new ≡ now ++ text x
     → new ≡ old ++ flat_map text (take (i + 1) xs)
-written_more {X} text xs i x old now new lt is so_far e =
+written_more {X} text xs i x other old now new lt is so_far e =
     let one : flat_map text (take (i + 1) xs) ≡ flat_map text (take i xs) ++ text x =
-    ap (flat_map text) (take_more xs i x lt ∙ ap (λ (y : X). take i xs ++ y ∷ []) (sym is)) ∙ flat_map-append text (take i xs) (x ∷ []) ∙ ap (λ (z : Bytes). flat_map text (take i xs) ++ z) (append-nil (text x)) in
+    ap (flat_map text) (take_more xs i other lt ∙ ap (λ (y : X). take i xs ++ y ∷ []) (sym is)) ∙ flat_map-append text (take i xs) (x ∷ []) ∙ ap (λ (z : Bytes). flat_map text (take i xs) ++ z) (append-nil (text x)) in
     e ∙ ap (λ (z : Bytes). z ++ text x) so_far ∙ append_assoc old (flat_map text (take i xs)) (text x) ∙ ap (λ (z : Bytes). old ++ z) (sym one)

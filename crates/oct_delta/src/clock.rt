@@ -126,7 +126,6 @@ pub fn decode_clock<A: Allocator>(alloc: A, bytes: &[u8]) -> Result<Clock<A>, Cl
 }
 
 // Appends an author and its number.
-#[tactic(auto, using(crate::proofs::Written::keeps_then))]
 fn put_entry<A: Allocator>(out: &mut Vec<u8, A>, entry: (u32, u32)) -> Result<(), AllocError>
     ensures ok { OnOk result (out.new.items ≡ out.old.items ++ entry_bytes entry) }
     ensures kept { Keeps out.old.items out.new.items }
@@ -136,7 +135,6 @@ fn put_entry<A: Allocator>(out: &mut Vec<u8, A>, entry: (u32, u32)) -> Result<()
 }
 
 // Appends each author and its number.
-#[tactic(auto, using(crate::proofs::Written::keeps_then))]
 fn put_each<A: Allocator>(out: &mut Vec<u8, A>, entries: &[(u32, u32)]) -> Result<(), AllocError>
     ensures ok { OnOk result (out.new.items ≡ out.old.items ++ flat_map entry_bytes entries.now) }
     ensures kept { Keeps out.old.items out.new.items }
@@ -149,7 +147,6 @@ fn put_each<A: Allocator>(out: &mut Vec<u8, A>, entries: &[(u32, u32)]) -> Resul
 
 /// Appends how many authors there are, and then each with its number. After a refusal what was there before is at the
 /// front.
-#[tactic(auto, using(crate::proofs::Written::keeps_then))]
 pub fn put_entries<A: Allocator>(
     out: &mut Vec<u8, A>,
     entries: &[(u32, u32)],

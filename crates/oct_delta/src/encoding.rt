@@ -17,7 +17,6 @@ use oct_ops::{Block, Body, Dot, Note, Op, OpList, Period, Removal};
 use std::alloc::{AllocError, Allocator};
 
 // Appends a dot.
-#[tactic(auto, using(crate::proofs::Written::keeps_then))]
 fn put_dot<A: Allocator>(out: &mut Vec<u8, A>, dot: Dot) -> Result<(), AllocError>
     ensures ok { OnOk result (out.new.items ≡ out.old.items ++ dot_bytes dot) }
     ensures kept { Keeps out.old.items out.new.items }
@@ -27,7 +26,6 @@ fn put_dot<A: Allocator>(out: &mut Vec<u8, A>, dot: Dot) -> Result<(), AllocErro
 }
 
 // Appends a code: head, number of digits, digits.
-#[tactic(auto, using(crate::proofs::Written::keeps_then))]
 fn put_code<A: Allocator>(out: &mut Vec<u8, A>, code: Code) -> Result<(), AllocError>
     ensures ok { OnOk result (out.new.items ≡ out.old.items ++ code_bytes code) }
     ensures kept { Keeps out.old.items out.new.items }
@@ -38,7 +36,6 @@ fn put_code<A: Allocator>(out: &mut Vec<u8, A>, code: Code) -> Result<(), AllocE
 }
 
 // Appends numbers of 32 bits.
-#[tactic(auto, using(crate::proofs::Written::keeps_then))]
 fn put_numbers<A: Allocator>(out: &mut Vec<u8, A>, numbers: &[u32]) -> Result<(), AllocError>
     ensures ok { OnOk result (out.new.items ≡ out.old.items ++ flat_map u32 numbers.now) }
     ensures kept { Keeps out.old.items out.new.items }
@@ -50,7 +47,6 @@ fn put_numbers<A: Allocator>(out: &mut Vec<u8, A>, numbers: &[u32]) -> Result<()
 }
 
 // Appends a block.
-#[tactic(auto, using(crate::proofs::Written::keeps_then))]
 fn put_block<A: Allocator>(out: &mut Vec<u8, A>, block: &Block<A>) -> Result<(), AllocError>
     ensures ok { OnOk result (out.new.items ≡ out.old.items ++ block_bytes block.now) }
     ensures kept { Keeps out.old.items out.new.items }
@@ -63,7 +59,6 @@ fn put_block<A: Allocator>(out: &mut Vec<u8, A>, block: &Block<A>) -> Result<(),
 }
 
 // Appends a period claim.
-#[tactic(auto, using(crate::proofs::Written::keeps_then))]
 fn put_period<A: Allocator>(out: &mut Vec<u8, A>, period: &Period) -> Result<(), AllocError>
     ensures ok { OnOk result (out.new.items ≡ out.old.items ++ period_bytes period.now) }
     ensures kept { Keeps out.old.items out.new.items }
@@ -74,7 +69,6 @@ fn put_period<A: Allocator>(out: &mut Vec<u8, A>, period: &Period) -> Result<(),
 }
 
 // Appends a note.
-#[tactic(auto, using(crate::proofs::Written::keeps_then))]
 fn put_note<A: Allocator>(out: &mut Vec<u8, A>, note: &Note<A>) -> Result<(), AllocError>
     ensures ok { OnOk result (out.new.items ≡ out.old.items ++ note_bytes note.now) }
     ensures kept { Keeps out.old.items out.new.items }
@@ -88,7 +82,6 @@ fn put_note<A: Allocator>(out: &mut Vec<u8, A>, note: &Note<A>) -> Result<(), Al
 }
 
 // Appends dots.
-#[tactic(auto, using(crate::proofs::Written::keeps_then))]
 fn put_dots<A: Allocator>(out: &mut Vec<u8, A>, dots: &[Dot]) -> Result<(), AllocError>
     ensures ok { OnOk result (out.new.items ≡ out.old.items ++ flat_map dot_bytes dots.now) }
     ensures kept { Keeps out.old.items out.new.items }
@@ -100,7 +93,6 @@ fn put_dots<A: Allocator>(out: &mut Vec<u8, A>, dots: &[Dot]) -> Result<(), Allo
 }
 
 // Appends a removal.
-#[tactic(auto, using(crate::proofs::Written::keeps_then))]
 fn put_removal<A: Allocator>(out: &mut Vec<u8, A>, removal: &Removal<A>) -> Result<(), AllocError>
     ensures ok { OnOk result (out.new.items ≡ out.old.items ++ removal_bytes removal.now) }
     ensures kept { Keeps out.old.items out.new.items }
@@ -124,7 +116,6 @@ fn put_body<A: Allocator>(out: &mut Vec<u8, A>, body: &Body<A>) -> Result<(), Al
 }
 
 // Appends an operation.
-#[tactic(auto, using(crate::proofs::Written::keeps_then))]
 fn put_op<A: Allocator>(out: &mut Vec<u8, A>, op: &Op<A>) -> Result<(), AllocError>
     ensures ok { OnOk result (out.new.items ≡ out.old.items ++ op_bytes op.now) }
     ensures kept { Keeps out.old.items out.new.items }
@@ -135,7 +126,6 @@ fn put_op<A: Allocator>(out: &mut Vec<u8, A>, op: &Op<A>) -> Result<(), AllocErr
 }
 
 // Appends operations.
-#[tactic(auto, using(crate::proofs::Written::keeps_then))]
 fn put_ops<A: Allocator>(out: &mut Vec<u8, A>, ops: &[Op<A>]) -> Result<(), AllocError>
     ensures ok { OnOk result (out.new.items ≡ out.old.items ++ flat_map op_bytes ops.now) }
     ensures kept { Keeps out.old.items out.new.items }
@@ -165,7 +155,6 @@ fn edition_of<A: Allocator>(ops: &[Op<A>]) -> Edition
 }
 
 // Appends a tag, a count and the operations.
-#[tactic(auto, using(crate::proofs::Written::keeps_then))]
 fn put_delta<A: Allocator>(out: &mut Vec<u8, A>, ops: &[Op<A>]) -> Result<(), AllocError>
     requires { length ops.now < 2 ^ 32 }
     ensures ok { OnOk result (out.new.items ≡ out.old.items ++ encoded ops.now) }

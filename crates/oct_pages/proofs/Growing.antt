@@ -1,18 +1,27 @@
 -- Texts that grow at their end.
-use Rattle.std.proofs.Common.{◌≡◌, ℕ, List, [], ◌++◌, sym, ap, ◌∙◌, append_assoc}
+use Rattle.std.proofs.Common.{◌≡◌, ℕ, ◌+◌, ◌<◌, get_or, List, [], ◌∷◌, ◌++◌, length, take, sym, ap, ◌∙◌, append_assoc}
 use Rattle.std.specs.Prelude.{Result, Ok, Err, OnOk, is_ok, if◌then◌else◌}
 use Rattle.std.specs.declared.alloc.AllocError.{AllocError}
-use Rattle.std.proofs.lemmas.List.{append-nil}
+use Rattle.std.specs.List.{flat_map}
+use Rattle.std.proofs.lemmas.Grind.{flat_map-append}
+use Rattle.std.proofs.lemmas.List.{append-nil, take_more}
 use Rattle.oct_pages.specs.Growth.{Extends}
 
 pub extends_same : (text : List ℕ) → Extends text text
 extends_same text = record { more = []; is = sym (append-nil text) }
 
-pub extends_more : (old new more : List ℕ) → Extends old new → Extends old (new ++ more)
-extends_more old new more e = record { more = e.more ++ more; is = ap (λ t. t ++ more) e.is ∙ append_assoc old e.more more }
-
 pub extends_trans : (a b c : List ℕ) → Extends a b → Extends b c → Extends a c
 extends_trans a b c e f = record { more = e.more ++ f.more; is = f.is ∙ ap (λ t. t ++ f.more) e.is ∙ append_assoc a e.more f.more }
+
+pub extends_by : (old new more : List ℕ) → new ≡ old ++ more → Extends old new
+extends_by old new more e = record { more = more; is = e }
+
+pub extends_equal : (old new : List ℕ) → new ≡ old → Extends old new
+extends_equal old new e = record { more = []; is = e ∙ sym (append-nil old) }
+
+-- two texts, one after another
+pub grown_twice : (old first second a b : List ℕ) → first ≡ old ++ a → second ≡ first ++ b → second ≡ old ++ (a ++ b)
+grown_twice old first second a b e f = f ∙ ap (λ t. t ++ b) e ∙ append_assoc old a b
 
 -- three texts, one after another
 pub grown_thrice : (old first second third a b c : List ℕ) → first ≡ old ++ a → second ≡ first ++ b → third ≡ second ++ c → third ≡ old ++ (a ++ b ++ c)
@@ -33,7 +42,14 @@ pub extended_grown : (result : Result (Unit {0}) AllocError) (old new more : Lis
 extended_grown (Ok u) old new more e = record { more = more; is = e }
 extended_grown (Err error) old new more e = record { more = []; is = e ∙ sym (append-nil old) }
 
--- five texts, one after another
-pub grown_five_times : (old first second third fourth fifth a b c d e : List ℕ) → first ≡ old ++ a → second ≡ first ++ b → third ≡ second ++ c → fourth ≡ third ++ d → fifth ≡ fourth ++ e → fifth ≡ old ++ (a ++ b ++ c ++ d ++ e)
-grown_five_times old first second third fourth fifth a b c d e p q r s t =
-    t ∙ ap (λ l. l ++ e) (grown_four_times old first second third fourth a b c d p q r s) ∙ append_assoc old (a ++ b ++ c ++ d) e
+-- two labelled texts after another text, one by one
+pub regrouped : (text first a second b : List ℕ) → text ++ (first ++ a) ++ (second ++ b) ≡ text ++ first ++ a ++ second ++ b
+regrouped text first a second b = ap (λ t. t ++ (second ++ b)) (sym (append_assoc text first a)) ∙ sym (append_assoc (text ++ first ++ a) second b)
+
+-- the texts of the items before i, and then the next one's
+pub grown_each : {X : Type 0} (text : X → List ℕ) (xs : List X) (i : ℕ) (x other : X) (old new next : List ℕ)
+    → i < length xs → x ≡ get_or xs i other → new ≡ old ++ flat_map text (take i xs) → next ≡ new ++ text x → next ≡ old ++ flat_map text (take (i + 1) xs)
+grown_each text xs i x other old new next within is so_far e =
+    grown_twice old new next (flat_map text (take i xs)) (text x) so_far e
+    ∙ ap (λ t. old ++ t) (ap (λ t. flat_map text (take i xs) ++ t) (sym (append-nil (text x))) ∙ sym (flat_map-append text (take i xs) (x ∷ []))
+    ∙ ap (flat_map text) (ap (λ y. take i xs ++ y ∷ []) is ∙ sym (take_more xs i other within)))

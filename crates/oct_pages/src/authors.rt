@@ -8,7 +8,7 @@ ghost use Rattle.oct_pages.specs.Window.{Shown};
 ghost use Rattle.oct_store.specs.Summary as summary;
 
 use crate::window::Window;
-use crate::words::{append_dot, append_labelled};
+use crate::words::{append_labelled, append_labelled_dot, append_labelled_text, append_text};
 use oct_store::{Author, Fork, Store};
 use std::alloc::{AllocError, Allocator};
 
@@ -67,7 +67,7 @@ fn append_author<A: Allocator>(out: &mut Vec<u8, A>, author: &Author) -> Result<
     append_labelled(out, b"author ", author.author)?;
     append_labelled(out, b" through ", author.through)?;
     append_labelled(out, b" last ", author.last)?;
-    out.extend_from_slice(b"\n")
+    append_text(out, b"\n")
 }
 
 // Appends the line of a fork, where it is shown.
@@ -90,9 +90,11 @@ fn append_fork<A: Allocator>(out: &mut Vec<u8, A>, fork: &Fork) -> Result<(), Al
     ensures ok { OnOk result (out.new.items ≡ out.old.items ++ fork_text fork.now.dot fork.now.contents) }
     ensures grown { Extends out.old.items out.new.items }
 {
-    out.extend_from_slice(b"fork ")?;
-    append_dot(out, fork.dot)?;
-    out.extend_from_slice(b" contents ")?;
-    out.extend_from_slice(itoa::Buffer::new().format(fork.contents).as_bytes())?;
-    out.extend_from_slice(b"\n")
+    append_labelled_dot(out, b"fork ", fork.dot)?;
+    append_labelled_text(
+        out,
+        b" contents ",
+        itoa::Buffer::new().format(fork.contents).as_bytes(),
+    )?;
+    append_text(out, b"\n")
 }

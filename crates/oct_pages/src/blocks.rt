@@ -6,7 +6,7 @@ ghost use Rattle.oct_pages.specs.Growth.{Extends};
 ghost use Rattle.oct_pages.specs.Window.{Shown};
 
 use crate::window::Window;
-use crate::words::{append_dot, append_labelled};
+use crate::words::{append_labelled, append_labelled_dot, append_text};
 use oct_code::Code;
 use oct_ops::{Block, Dot};
 use oct_verify::Status;
@@ -37,10 +37,10 @@ fn append_game<A: Allocator>(
     ensures ok { OnOk result (out.new.items ≡ out.old.items ++ game_text code.now known) }
     ensures grown { Extends out.old.items out.new.items }
 {
-    out.extend_from_slice(b"game ")?;
+    append_text(out, b"game ")?;
     code.append_text(out)?;
     append_labelled(out, b" known ", known)?;
-    out.extend_from_slice(b"\n")
+    append_text(out, b"\n")
 }
 
 // Appends a space and the words of a status.
@@ -49,8 +49,8 @@ fn append_status<A: Allocator>(out: &mut Vec<u8, A>, status: &Status) -> Result<
     ensures grown { Extends out.old.items out.new.items }
 {
     match status {
-        Status::Proved => out.extend_from_slice(b" proved"),
-        Status::Pending => out.extend_from_slice(b" pending"),
+        Status::Proved => append_text(out, b" proved"),
+        Status::Pending => append_text(out, b" pending"),
         Status::Refuted { at, claimed, truth } => append_refutation(out, *at, *claimed, *truth),
     }
 }
@@ -99,7 +99,7 @@ fn append_block<A: Allocator>(
 {
     append_claim(out, dot, block)?;
     append_status(out, status)?;
-    out.extend_from_slice(b"\n")
+    append_text(out, b"\n")
 }
 
 // Appends which block it is, where it begins and how many values it has.
@@ -111,8 +111,7 @@ fn append_claim<A: Allocator>(
     ensures ok { OnOk result (out.new.items ≡ out.old.items ++ claim_text dot block.now) }
     ensures grown { Extends out.old.items out.new.items }
 {
-    out.extend_from_slice(b"block ")?;
-    append_dot(out, dot)?;
+    append_labelled_dot(out, b"block ", dot)?;
     append_labelled(out, b" at ", block.start())?;
     append_labelled(out, b" count ", block.end() - block.start())
 }

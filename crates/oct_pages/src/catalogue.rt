@@ -11,6 +11,7 @@ use crate::authors::{append_authors, append_forks};
 use crate::games::append_games;
 use crate::notes::append_notes;
 use crate::window::Window;
+use crate::words::append_text;
 use oct_code::Code;
 use oct_notes::Notes;
 use oct_period::Game;
@@ -112,5 +113,5 @@ fn show_line<A: Allocator>(
     if !window.pass() {
         return Ok(());
     }
-    out.extend_from_slice(line)
+    append_text(out, line)
 }

@@ -6,7 +6,7 @@ ghost use Rattle.oct_pages.specs.Growth.{Extends};
 ghost use Rattle.oct_pages.specs.Window.{Shown};
 
 use crate::window::Window;
-use crate::words::{append_dot, append_labelled};
+use crate::words::{append_labelled, append_labelled_dot, append_text};
 use oct_ops::{Dot, Period};
 use oct_period::PeriodStatus;
 use std::alloc::{AllocError, Allocator};
@@ -40,7 +40,7 @@ fn append_claim<A: Allocator>(
 {
     append_repetition(out, dot, period)?;
     append_status(out, status)?;
-    out.extend_from_slice(b"\n")
+    append_text(out, b"\n")
 }
 
 // Appends which claim it is, and from where on it says that the values repeat.
@@ -52,8 +52,7 @@ fn append_repetition<A: Allocator>(
     ensures ok { OnOk result (out.new.items ≡ out.old.items ++ repetition_text dot period.now) }
     ensures grown { Extends out.old.items out.new.items }
 {
-    out.extend_from_slice(b"period ")?;
-    append_dot(out, dot)?;
+    append_labelled_dot(out, b"period ", dot)?;
     append_labelled(out, b" from ", period.start())?;
     append_labelled(out, b" by ", period.period())
 }
@@ -67,7 +66,7 @@ fn append_status<A: Allocator>(
     ensures grown { Extends out.old.items out.new.items }
 {
     match status {
-        PeriodStatus::Proved => out.extend_from_slice(b" proved"),
+        PeriodStatus::Proved => append_text(out, b" proved"),
         PeriodStatus::Refuted { at } => append_labelled(out, b" refuted at ", *at),
         PeriodStatus::Pending { needs } => append_labelled(out, b" pending needs ", *needs),
     }

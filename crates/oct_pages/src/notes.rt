@@ -8,7 +8,7 @@ ghost use Rattle.oct_pages.specs.Growth.{Extends};
 ghost use Rattle.oct_pages.specs.Window.{Shown};
 
 use crate::window::Window;
-use crate::words::append_dot;
+use crate::words::{append_labelled_dot, append_labelled_text, append_text};
 use oct_notes::Notes;
 use oct_ops::{Body, Dot, Note, Op};
 use std::alloc::{AllocError, Allocator};
@@ -64,11 +64,8 @@ fn append_note<A: Allocator + Copy>(
     ensures ok { OnOk result (out.new.items ≡ out.old.items ++ note_text dot note.now) }
     ensures grown { Extends out.old.items out.new.items }
 {
-    out.extend_from_slice(b"note ")?;
-    out.extend_from_slice(note.name())?;
-    out.extend_from_slice(b" ")?;
-    append_dot(out, dot)?;
-    out.extend_from_slice(b" ")?;
-    out.extend_from_slice(note.text())?;
-    out.extend_from_slice(b"\n")
+    append_labelled_text(out, b"note ", note.name())?;
+    append_labelled_dot(out, b" ", dot)?;
+    append_labelled_text(out, b" ", note.text())?;
+    append_text(out, b"\n")
 }

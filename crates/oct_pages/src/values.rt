@@ -7,7 +7,7 @@ ghost use Rattle.oct_pages.specs.Growth.{Extends};
 ghost use Rattle.oct_pages.specs.Window.{Shown};
 
 use crate::window::Window;
-use crate::words::append_labelled;
+use crate::words::{append_labelled, append_text};
 use std::alloc::{AllocError, Allocator};
 
 // How many values stand in a line.
@@ -74,7 +74,7 @@ fn append_row<A: Allocator>(
 {
     append_labelled(out, b"values ", first)?;
     append_each(out, values)?;
-    out.extend_from_slice(b"\n")
+    append_text(out, b"\n")
 }
 
 // Appends each value after a space.

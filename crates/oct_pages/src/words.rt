@@ -8,6 +8,27 @@ ghost use Rattle.oct_pages.specs.Growth.{Extends};
 use oct_ops::Dot;
 use std::alloc::{AllocError, Allocator};
 
+/// Appends a text.
+pub(crate) fn append_text<A: Allocator>(out: &mut Vec<u8, A>, text: &[u8]) -> Result<(), AllocError>
+    ensures ok { OnOk result (out.new.items ≡ out.old.items ++ text.now) }
+    ensures grown { Extends out.old.items out.new.items }
+{
+    out.extend_from_slice(text)
+}
+
+/// Appends a text, and after it another.
+pub(crate) fn append_labelled_text<A: Allocator>(
+    out: &mut Vec<u8, A>,
+    label: &[u8],
+    text: &[u8],
+) -> Result<(), AllocError>
+    ensures ok { OnOk result (out.new.items ≡ out.old.items ++ (label.now ++ text.now)) }
+    ensures grown { Extends out.old.items out.new.items }
+{
+    append_text(out, label)?;
+    append_text(out, text)
+}
+
 /// Appends a number in decimal digits.
 pub(crate) fn append_number<A: Allocator>(
     out: &mut Vec<u8, A>,
@@ -16,7 +37,7 @@ pub(crate) fn append_number<A: Allocator>(
     ensures ok { OnOk result (out.new.items ≡ out.old.items ++ decimal number) }
     ensures grown { Extends out.old.items out.new.items }
 {
-    out.extend_from_slice(itoa::Buffer::new().format(number).as_bytes())
+    append_text(out, itoa::Buffer::new().format(number).as_bytes())
 }
 
 /// Appends a text, and after it a number.
@@ -28,7 +49,7 @@ pub(crate) fn append_labelled<A: Allocator>(
     ensures ok { OnOk result (out.new.items ≡ out.old.items ++ (label.now ++ decimal number)) }
     ensures grown { Extends out.old.items out.new.items }
 {
-    out.extend_from_slice(label)?;
+    append_text(out, label)?;
     append_number(out, number)
 }
 
@@ -38,6 +59,18 @@ pub(crate) fn append_dot<A: Allocator>(out: &mut Vec<u8, A>, dot: Dot) -> Result
     ensures grown { Extends out.old.items out.new.items }
 {
     append_number(out, dot.author())?;
-    out.extend_from_slice(b".")?;
-    append_number(out, dot.number())
+    append_labelled(out, b".", dot.number())
+}
+
+/// Appends a text, and after it a dot.
+pub(crate) fn append_labelled_dot<A: Allocator>(
+    out: &mut Vec<u8, A>,
+    label: &[u8],
+    dot: Dot,
+) -> Result<(), AllocError>
+    ensures ok { OnOk result (out.new.items ≡ out.old.items ++ (label.now ++ dot_text dot)) }
+    ensures grown { Extends out.old.items out.new.items }
+{
+    append_text(out, label)?;
+    append_dot(out, dot)
 }

@@ -35,7 +35,6 @@ fn may_follow<A: Allocator>(pack: &[Op<A>], size: usize, op: &Op<A>) -> bool
 }
 
 // Appends a frame of these operations, whose texts have so many bytes, or none where there are none.
-#[tactic(auto, using(oct_delta::proofs::Written::keeps_then))]
 fn put_pack<A: Allocator>(
     out: &mut Vec<u8, A>,
     pack: Vec<Op<A>, A>,

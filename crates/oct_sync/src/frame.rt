@@ -22,7 +22,6 @@ pub(crate) const DELTA: u8 = 2;
 pub(crate) const END: u8 = 3;
 
 /// Appends the length and the tag of a frame whose payload has so many bytes.
-#[tactic(auto, using(oct_delta::proofs::Written::keeps_then))]
 pub(crate) fn put_head<A: Allocator>(
     out: &mut Vec<u8, A>,
     tag: u8,
@@ -37,7 +36,6 @@ pub(crate) fn put_head<A: Allocator>(
 }
 
 /// Appends a clock frame of these authors with their numbers.
-#[tactic(auto, using(oct_delta::proofs::Written::keeps_then))]
 pub(crate) fn put_clock_frame<A: Allocator>(
     out: &mut Vec<u8, A>,
     entries: &[(u32, u32)],

@@ -1,5 +1,5 @@
-//! Tests of replicas, of sessions between them, and of what the program does with files and lines: worked cases, devices that
-//! fail, and what a call leaves where memory is refused, request by request. They stand here so that the proof of a
+//! Tests of replicas, of sessions between them, and of what the program does with words, files and lines: worked cases, devices
+//! that fail, and what a call leaves where memory is refused, request by request. They stand here so that the proof of a
 //! library need not be done again for its tests.
 #![tactic(auto)]
 
@@ -9,5 +9,7 @@ mod commands;
 mod fold;
 #[cfg(test)]
 mod replica;
+#[cfg(test)]
+mod runs;
 #[cfg(test)]
 mod sync;

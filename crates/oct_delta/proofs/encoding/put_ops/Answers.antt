@@ -11,4 +11,4 @@ returns-in_err-put_op-clause-kept g c =
 
 pub loop-op-preserved : goal.loop-op-preserved
 loop-op-preserved g c =
-    written_more op_bytes c.args.ops.now c.loop-op.op-index c.op-item.result c.args.out.now.items c.loop-op.out.items c.put_op.new.out.items c.loop-op-test.true c.op-item.is c.loop-op.invariant c.in_ok-put_op.ensures.ok
+    written_more op_bytes c.args.ops.now c.loop-op.op-index c.op-item.result c.op-item.result c.args.out.now.items c.loop-op.out.items c.put_op.new.out.items c.loop-op-test.true c.op-item.is c.loop-op.invariant c.in_ok-put_op.ensures.ok

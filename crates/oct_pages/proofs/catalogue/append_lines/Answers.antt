@@ -11,6 +11,24 @@ use Rattle.oct_pages.proofs.Growing.{extends_trans}
 use Rattle.oct_pages.proofs.Windows.{shown_then}
 use Rattle.oct_pages.proofs.catalogue.append_lines.Goals as goal
 
+pub returns-in_err-show_line-clause-grown : goal.returns-in_err-show_line-clause-grown
+returns-in_err-show_line-clause-grown g c = c.show_line.ensures.grown
+
+pub returns-in_err-append_games-clause-grown : goal.returns-in_err-append_games-clause-grown
+returns-in_err-append_games-clause-grown g c = extends_trans _ _ _ c.show_line.ensures.grown c.append_games.ensures.grown
+
+pub returns-in_err-append_notes-clause-grown : goal.returns-in_err-append_notes-clause-grown
+returns-in_err-append_notes-clause-grown g c = extends_trans _ _ _ c.show_line.ensures.grown (extends_trans _ _ _ c.append_games.ensures.grown c.append_notes.ensures.grown)
+
+pub returns-in_err-append_forks-clause-grown : goal.returns-in_err-append_forks-clause-grown
+returns-in_err-append_forks-clause-grown g c =
+    extends_trans _ _ _ c.show_line.ensures.grown (extends_trans _ _ _ c.append_games.ensures.grown (extends_trans _ _ _ c.append_notes.ensures.grown c.append_forks.ensures.grown))
+
+pub returns-in_err-append_authors-clause-grown : goal.returns-in_err-append_authors-clause-grown
+returns-in_err-append_authors-clause-grown g c =
+    extends_trans _ _ _ c.show_line.ensures.grown (extends_trans _ _ _ c.append_games.ensures.grown (extends_trans _ _ _ c.append_notes.ensures.grown
+    (extends_trans _ _ _ c.append_forks.ensures.grown c.append_authors.ensures.grown)))
+
 pub returns-clause-ok : goal.returns-clause-ok
 returns-clause-ok g c =
     let parts = c.args.parts.now in
@@ -30,5 +48,5 @@ returns-clause-ok g c =
 
 pub returns-clause-grown : goal.returns-clause-grown
 returns-clause-grown g c =
-    extends_trans _ _ _ c.in_ok-show_line.ensures.grown (extends_trans _ _ _ c.in_ok-append_games.ensures.grown (extends_trans _ _ _ c.in_ok-append_notes.ensures.grown
-    (extends_trans _ _ _ c.in_ok-append_forks.ensures.grown (extends_trans _ _ _ c.in_ok-append_authors.ensures.grown c.show_line-2.ensures.grown))))
+    extends_trans _ _ _ c.show_line.ensures.grown (extends_trans _ _ _ c.append_games.ensures.grown (extends_trans _ _ _ c.append_notes.ensures.grown
+    (extends_trans _ _ _ c.append_forks.ensures.grown (extends_trans _ _ _ c.append_authors.ensures.grown c.show_line-2.ensures.grown))))

@@ -7,11 +7,22 @@ use Rattle.oct_pages.specs.Catalogue.{game_text, values_lines}
 use Rattle.oct_pages.specs.Groups.{block_lines, claim_lines}
 use Rattle.oct_pages.specs.Window.{Shown}
 use Rattle.oct_pages.proofs.GroupLaws.{lent_ops}
+use Rattle.oct_pages.proofs.Growing.{extends_trans}
 use Rattle.oct_pages.proofs.Windows.{shown_then}
 use Rattle.oct_pages.proofs.games.append_game_lines.Goals as goal
 
 pub append_values-requires : goal.append_values-requires
 append_values-requires g c = omega (arith, c.known_values.ensures.within)
+
+pub returns-in_err-show_game-clause-grown : goal.returns-in_err-show_game-clause-grown
+returns-in_err-show_game-clause-grown g c = c.show_game.ensures.grown
+
+pub returns-in_err-append_values-clause-grown : goal.returns-in_err-append_values-clause-grown
+returns-in_err-append_values-clause-grown g c = extends_trans _ _ _ c.show_game.ensures.grown c.append_values.ensures.grown
+
+pub returns-in_err-append_blocks-clause-grown : goal.returns-in_err-append_blocks-clause-grown
+returns-in_err-append_blocks-clause-grown g c =
+    extends_trans _ _ _ c.show_game.ensures.grown (extends_trans _ _ _ c.append_values.ensures.grown c.append_blocks.ensures.grown)
 
 pub returns-clause-ok : goal.returns-clause-ok
 returns-clause-ok g c =
@@ -27,3 +38,7 @@ returns-clause-ok g c =
     (shown_then _ _ _ _ _ _ (game_text c.args.code.now c.known.result ∷ values_lines c.known_values.result.now) blocks
     (shown_then _ _ _ _ _ _ (game_text c.args.code.now c.known.result ∷ []) (values_lines c.known_values.result.now) c.in_ok-show_game.ensures.ok c.in_ok-append_values.ensures.ok)
     c.in_ok-append_blocks.ensures.ok) last)) c.append_claims.ensures.ok
+
+pub returns-clause-grown : goal.returns-clause-grown
+returns-clause-grown g c =
+    extends_trans _ _ _ c.show_game.ensures.grown (extends_trans _ _ _ c.append_values.ensures.grown (extends_trans _ _ _ c.append_blocks.ensures.grown c.append_claims.ensures.grown))

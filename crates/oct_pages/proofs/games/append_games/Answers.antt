@@ -55,3 +55,9 @@ loop-code-preserved g c =
 
 pub returns-in_err-append_game-clause-grown : goal.returns-in_err-append_game-clause-grown
 returns-in_err-append_game-clause-grown g c = extends_trans _ _ _ c.loop-code.invariant.grown c.in_err-append_game.ensures.grown
+
+pub returns-in_err-groups-clause-grown : goal.returns-in_err-groups-clause-grown
+returns-in_err-groups-clause-grown g c = extends_same c.args.out.now.items
+
+pub returns-clause-grown : goal.returns-clause-grown
+returns-clause-grown g c = c.loop-code.invariant.grown

@@ -2,6 +2,7 @@ use Rattle.std.proofs.Common.{◌≡◌, ◌+◌, ◌++◌, List, ℕ, Err, leng
 use Rattle.oct_delta.specs.Delta.{encoded}
 use Rattle.oct_sync.proofs.Packed.{fewer_than_bytes}
 use Rattle.oct_sync.proofs.Written.{framed_after, length-encoded, pack_frame-some}
+use Rattle.oct_delta.proofs.Written.{keeps_more, keeps_same, keeps_then}
 use Rattle.oct_sync.proofs.deltas.put_pack.Goals as goal
 
 pub returns-in-Ok-clause-ok : goal.returns-in-Ok-clause-ok
@@ -19,3 +20,9 @@ unreachable-requires g c =
     let listed = ap length c.of_rising.ensures in
     let few = fewer_than_bytes c.args.pack.items in
     omega (arith, many, listed, few, c.requires.is, c.requires.fits)
+
+pub returns-in-Ok-clause-kept : goal.returns-in-Ok-clause-kept
+returns-in-Ok-clause-kept g c = keeps_then _ _ _ c.put_head.ensures.kept (keeps_more _ _ _ c.in-Ok.ensures.ok)
+
+pub returns-in-Err-OutOfMemory-clause-kept : goal.returns-in-Err-OutOfMemory-clause-kept
+returns-in-Err-OutOfMemory-clause-kept g c = keeps_then _ _ _ c.put_head.ensures.kept (keeps_same _ _ c.in-Err-OutOfMemory.ensures.err)

@@ -1,7 +1,9 @@
 use Rattle.std.proofs.Common.{ℕ, ◌+◌, sym, ap, subst, ◌∙◌}
+use Rattle.oct_ops.specs.Operations.{set_of}
 use Rattle.oct_ops.specs.Order.{op_cmp}
 use Rattle.oct_ops.specs.Sets.{rises}
-use Rattle.oct_replica.proofs.Taking.{TakesAlong, takes_start, takes_new, takes_held}
+use Rattle.oct_replica.specs.Taking.{count_new, with_all, IsCut}
+use Rattle.oct_replica.proofs.Taking.{TakesAlong, takes_start, takes_new, takes_held, takes_cut, takes_done}
 use Rattle.oct_replica.proofs.replica.Replica.take_list.Goals as goal
 use Rattle.oct_replica.proofs.replica.Replica.take_list.Goals.{then-is_new, else-is_new}
 
@@ -23,3 +25,18 @@ loop-op-preserved g c =
           (takes_held old c.loop-op.self c.add.new.self list c.loop-op.op-index c.loop-op.done c.loop-op.new c.op-item.result rising c.loop-op-test.true c.op-item.is c.loop-op.invariant c.in-Ok.ensures.ok
           (sym w.if-is_new.false ∙ c.in-Ok.ensures.added))
     ]
+
+pub returns-in_default-clause-err : goal.returns-in_default-clause-err
+returns-in_default-clause-err g c =
+    subst (λ list. IsCut c.args.self.now c.add.new.self list c.loop-op.done) c.as_slice-ops.ensures.value
+    (takes_cut c.args.self.now c.loop-op.self c.add.new.self c.as_slice-ops.result.now c.loop-op.op-index c.loop-op.done c.loop-op.new c.loop-op-test.true c.loop-op.invariant c.in_default.ensures.err)
+
+pub returns-clause-ok : goal.returns-clause-ok
+returns-clause-ok g c =
+    let all = takes_done c.args.self.now c.loop-op.self c.as_slice-ops.result.now c.loop-op.op-index c.loop-op.done c.loop-op.new c.loop-op-test.false c.loop-op.invariant in
+    all.0 ∙ ap (λ list. with_all c.args.self.now (set_of list)) c.as_slice-ops.ensures.value
+
+pub returns-clause-new : goal.returns-clause-new
+returns-clause-new g c =
+    let all = takes_done c.args.self.now c.loop-op.self c.as_slice-ops.result.now c.loop-op.op-index c.loop-op.done c.loop-op.new c.loop-op-test.false c.loop-op.invariant in
+    all.1 ∙ ap (count_new c.args.self.now.ops) c.as_slice-ops.ensures.value

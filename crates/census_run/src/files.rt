@@ -9,7 +9,7 @@ use std::rt::Files;
 
 /// All the bytes of a file. The fault is `File` where it can't be read, `TooLong` where it has more than `INPUT_LIMIT`
 /// bytes, and `OutOfMemory`.
-pub fn read_file<R: Files + AllocGlobal>(rt: &R, path: &str) -> Result<Vec<u8>, Fault> {
+pub(crate) fn read_file<R: Files + AllocGlobal>(rt: &R, path: &str) -> Result<Vec<u8>, Fault> {
     let Ok(mut file) = fs::open(rt, path) else {
         return Err(Fault::File);
     };
@@ -20,7 +20,7 @@ pub fn read_file<R: Files + AllocGlobal>(rt: &R, path: &str) -> Result<Vec<u8>, 
 }
 
 /// Whether anything stands at the path, be it a folder or a link that leads nowhere.
-pub fn exists<R: Files>(rt: &R, path: &str) -> Result<bool, Fault> {
+pub(crate) fn exists<R: Files>(rt: &R, path: &str) -> Result<bool, Fault> {
     match fs::symlink_metadata(rt, path) {
         Ok(_) => Ok(true),
         Err(e) if e.kind() == ErrorKind::NotFound => Ok(false),
@@ -30,7 +30,11 @@ pub fn exists<R: Files>(rt: &R, path: &str) -> Result<bool, Fault> {
 
 /// Writes the bytes to the path with `.new` behind it, and renames that file to the path. The fault is `TooLong` before
 /// anything is written, `File`, and `OutOfMemory`.
-pub fn replace_file<R: Files + AllocGlobal>(rt: &R, path: &str, bytes: &[u8]) -> Result<(), Fault> {
+pub(crate) fn replace_file<R: Files + AllocGlobal>(
+    rt: &R,
+    path: &str,
+    bytes: &[u8],
+) -> Result<(), Fault> {
     let new_path = beside(rt.alloc(), path)?;
     write_file(rt, new_path.as_str(), bytes)?;
     match fs::rename(rt, new_path.as_str(), path) {
@@ -41,7 +45,7 @@ pub fn replace_file<R: Files + AllocGlobal>(rt: &R, path: &str, bytes: &[u8]) ->
 
 /// Writes the bytes to the path, in place of what stands there. The fault is `TooLong` before anything is written, and
 /// `File`.
-pub fn write_file<R: Files>(rt: &R, path: &str, bytes: &[u8]) -> Result<(), Fault> {
+pub(crate) fn write_file<R: Files>(rt: &R, path: &str, bytes: &[u8]) -> Result<(), Fault> {
     if bytes.len() as u64 > INPUT_LIMIT {
         return Err(Fault::TooLong);
     }

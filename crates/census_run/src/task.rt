@@ -7,7 +7,7 @@ use std::alloc::Global;
 
 /// What a command line asks for. Names of files and addresses are as they stand there.
 #[derive(Drop)]
-pub enum Task<'a> {
+pub(crate) enum Task<'a> {
     /// The catalogue of the lines of standard input.
     Fold,
     /// A new state file of this author.
@@ -34,7 +34,7 @@ pub enum Task<'a> {
 
 /// What the matches of a command line ask for. The fault is `Number` where a word is no number of its range, and
 /// `OutOfMemory`.
-pub fn read_task<'a>(alloc: Global, matches: &ArgMatches<'a>) -> Result<Task<'a>, Fault> {
+pub(crate) fn read_task<'a>(alloc: Global, matches: &ArgMatches<'a>) -> Result<Task<'a>, Fault> {
     let Some((name, found)) = matches.subcommand() else {
         return Ok(Task::Fold);
     };

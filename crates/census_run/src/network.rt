@@ -10,7 +10,7 @@ use std::rt::Files;
 
 /// Brings the state file and its peer up to date over one connection to the address: as the server, which waits for it, or
 /// as the client, which makes it. The state is saved also where the session ended early.
-pub fn exchange<R>(rt: &R, role: Role, state: &str, address: &str) -> Result<(), Fault>
+pub(crate) fn exchange<R>(rt: &R, role: Role, state: &str, address: &str) -> Result<(), Fault>
 where
     R: Files + AllocGlobal + Net<Stream = TcpStream, Listener = TcpListener>,
 {

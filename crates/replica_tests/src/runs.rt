@@ -1,8 +1,10 @@
-use crate::run::run;
+//! The program, run on its words over files that the test makes.
+
+use census_run::run;
 use std::test::Fail;
 use std::{env, fs};
 
-/// What a run wrote, and its status.
+// What a run wrote, and its status.
 #[derive(Drop)]
 struct Outcome {
     status: u8,

@@ -1,4 +1,6 @@
-use super::*;
+//! The allocator that refuses requests.
+
+use metered::Metered;
 use std::test::Fail;
 
 #[test]

@@ -2,13 +2,13 @@
 
 /// The help of a command: its first line, and what stands after its words.
 #[derive(Clone, Copy)]
-pub struct Help {
-    pub about: &'static str,
-    pub after: &'static str,
+pub(crate) struct Help {
+    pub(crate) about: &'static str,
+    pub(crate) after: &'static str,
 }
 
 /// The help of the program, on one screen.
-pub const CENSUS: &str = "\
+pub(crate) const CENSUS: &str = "\
 One table of nim-sequences of octal games that a group of researchers can trust
 
 Usage: census COMMAND ..
@@ -45,7 +45,7 @@ Example:
 Exit status: 0 done, 1 refused, 2 command line, 3 file, stream or network, 4 memory
 ";
 
-pub const FOLD: Help = Help {
+pub(crate) const FOLD: Help = Help {
     about: "Reads deltas from standard input, and prints their catalogue",
     after: "\
 Each line of the input is the hexadecimal text of one delta: blocks of values, period
@@ -59,7 +59,7 @@ Example:
   census fold < examples/kayles.hex",
 };
 
-pub const INIT: Help = Help {
+pub(crate) const INIT: Help = Help {
     about: "Makes a state file, and prints its author",
     after: "\
 Exit status: 0 done, 1 the author is 0, 2 command line, 3 there is such a file, or it can't be written, 4 memory
@@ -68,7 +68,7 @@ Example:
   census init anna.state 1",
 };
 
-pub const IMPORT: Help = Help {
+pub(crate) const IMPORT: Help = Help {
     about: "Issues the block of values of a JSON file, and prints its author and number",
     after: "\
 The object has exactly the keys code, start (the heap of the first value) and values, 1 to 1024 of
@@ -80,7 +80,7 @@ Example:
   census import anna.state examples/dawson.json",
 };
 
-pub const COMPUTE: Help = Help {
+pub(crate) const COMPUTE: Help = Help {
     about: "Computes the next values of a game and issues them, and prints author and number",
     after: "\
 The values begin where those known of the game end.
@@ -91,7 +91,7 @@ Example:
   census compute anna.state 0.77 168",
 };
 
-pub const PERIOD: Help = Help {
+pub(crate) const PERIOD: Help = Help {
     about: "Issues the claim that a game's values repeat, and prints its author and number",
     after: "\
 The claim says that each heap from E on has the value of the heap that is P larger. It is proved
@@ -103,7 +103,7 @@ Example:
   census period anna.state 0.77 71 12",
 };
 
-pub const NOTE: Help = Help {
+pub(crate) const NOTE: Help = Help {
     about: "Issues a note, and prints its author and number",
     after: "\
 Exit status: 0 done, 1 refused, 2 command line, 3 file, 4 memory
@@ -112,7 +112,7 @@ Example:
   census note anna.state kayles 'period 12 from heap 71'",
 };
 
-pub const UNNOTE: Help = Help {
+pub(crate) const UNNOTE: Help = Help {
     about: "Takes back the notes of a name that are seen here, and prints the removal's author and number",
     after: "\
 Notes of the name that come later stay.
@@ -123,7 +123,7 @@ Example:
   census unnote anna.state kayles",
 };
 
-pub const MERGE: Help = Help {
+pub(crate) const MERGE: Help = Help {
     about: "Takes a delta file in, and prints how many of its operations are new",
     after: "\
 Exit status: 0 done (also where nothing is new), 1 the file is no state or no delta, 2 command line, 3 file, 4 memory
@@ -132,7 +132,7 @@ Example:
   census merge anna.state ben.delta",
 };
 
-pub const DELTA: Help = Help {
+pub(crate) const DELTA: Help = Help {
     about: "Writes all operations as one delta file, and prints how many there are",
     after: "\
 Exit status: 0 done, 1 the file is no state, 2 command line, 3 file, 4 memory
@@ -141,7 +141,7 @@ Example:
   census delta ben.state ben.delta",
 };
 
-pub const SERVE: Help = Help {
+pub(crate) const SERVE: Help = Help {
     about: "Waits for one connection to an address, and exchanges all that is new with its `sync`",
     after: "\
 The state is saved also where the session ends early.
@@ -152,7 +152,7 @@ Example:
   census serve anna.state 127.0.0.1:4000",
 };
 
-pub const SYNC: Help = Help {
+pub(crate) const SYNC: Help = Help {
     about: "Connects to an address, and exchanges all that is new with the `serve` there",
     after: "\
 The state is saved also where the session ends early.
@@ -163,7 +163,7 @@ Example:
   census sync ben.state 127.0.0.1:4000",
 };
 
-pub const VALUE: Help = Help {
+pub(crate) const VALUE: Help = Help {
     about: "Prints the nim-value of a position, and who wins it in normal play",
     after: "\
 The nim-value is the exclusive or of the heaps' values. Where one is not known, `unknown at` names
@@ -175,7 +175,7 @@ Example:
   census value anna.state 0.77 5 6",
 };
 
-pub const PAGE: Help = Help {
+pub(crate) const PAGE: Help = Help {
     about: "Prints one page of the catalogue",
     after: "\
 Exit status: 0 done, 1 there is no such page, 2 command line, 3 file, 4 memory
@@ -184,7 +184,7 @@ Example:
   census page anna.state 0",
 };
 
-pub const SHOW: Help = Help {
+pub(crate) const SHOW: Help = Help {
     about: "Prints the catalogue",
     after: "\
 Exit status: 0 done, 1 the file is no state, 2 command line, 3 file, 4 memory
