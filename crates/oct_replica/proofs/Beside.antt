@@ -23,7 +23,7 @@ use Rattle.oct_period.specs.Claims.{claim_cmp}
 use Rattle.oct_period.specs.ClaimLaws.{claim_cmp_total, claim_cmp_exact}
 use Rattle.oct_period.specs.GameContent.{GameContent}
 use Rattle.oct_pages.specs.Catalogue.{blocks_of, block_in, claims_of, claim_in, if_some, under}
-use Rattle.oct_replica.specs.Beside.{Games, content_in, has_game, game_in, AreBeside, HasOwnCode, new_game, game_at, with_block, with_period, filed, noted}
+use Rattle.oct_replica.specs.Beside.{Games, content_in, has_game, game_in, AreBeside, HasOwnCode, new_game, game_at, after, with_block, with_period, filed, noted}
 use Rattle.oct_replica.proofs.Inserting.{insert_option, filter_map-insert, if_true, filter-map, any-insert}
 
 -- ---- the empty set
@@ -46,6 +46,9 @@ own_code ops c false = tt
 pub own_codes : (ops : Operations) (found : Games) (held : Operations) → AreBeside ops found held → HasOwnCode found
 own_codes ops found held beside c = subst (λ o. IfSome o (λ (game : GameContent). game.code ≡ c)) (sym (beside.games c)) (own_code ops c (has_game ops c))
 
+pub own_code_at : (found : Games) (code : Code) (held : GameContent) → HasOwnCode found → Some held ≡ found code → held.code ≡ code
+own_code_at found code held own is = subst (λ o. IfSome o (λ (game : GameContent). game.code ≡ code)) (sym is) (own code)
+
 -- ---- a game that is changed where it is found
 
 pub put_back : (old : Games) (code : Code) (held new : GameContent) → Some held ≡ old code → new ≡ held → (q : Code) → cond (eq_by_cmp code_cmp code q) (Some new) (old q) ≡ old q
@@ -54,6 +57,16 @@ put_back old code held new found same q =
       | true ↦ λ tied. ap Some same ∙ found ∙ ap old (code_cmp_exact code q ((Equal-is (code_cmp code q)).0 tied))
       | false ↦ λ _. refl
     ] refl
+
+pub put_in : (old : Games) (code of : Code) (held new : GameContent) (more : GameContent → GameContent) → Some held ≡ old code → code ≡ of → new ≡ more held → (q : Code) → after old code new q ≡ after old of (more (game_at old of)) q
+put_in old code of held new more found is grown q =
+    let at : held ≡ game_at old of = ap (λ o. Rattle.std.specs.Prelude.unwrap_or o (new_game code)) found ∙ ap (game_at old) is in
+    (λ i. after old (is i) ((grown ∙ ap more at) i) q)
+
+pub put_new : (old : Games) (code of : Code) (new : GameContent) (more : GameContent → GameContent) → None ≡ old code → code ≡ of → new ≡ more (new_game code) → (q : Code) → after old code new q ≡ after old of (more (game_at old of)) q
+put_new old code of new more none is grown q =
+    let at : new_game code ≡ game_at old of = ap (λ o. Rattle.std.specs.Prelude.unwrap_or o (new_game code)) none ∙ ap (game_at old) is in
+    (λ i. after old (is i) ((grown ∙ ap more at) i) q)
 
 -- ---- the games of a set
 

@@ -1,5 +1,5 @@
 -- Operations of a list, taken in one after the other.
-use Rattle.std.proofs.Common.{arith, ◌≡◌, ℕ, zero, suc, ◌+◌, ◌^◌, ◌<◌, ◌≤◌, inl, inr, Some, Result, Ok, Err, IfErr, IsErrOf, Bool, true, false, not, ◌||◌, cond, List, [], ◌∷◌, ◌++◌, length, take, refl, sym, ap, ◌∙◌, subst}
+use Rattle.std.proofs.Common.{arith, ◌≡◌, ◌↔◌, ℕ, zero, suc, ◌+◌, ◌^◌, ◌<◌, ◌≤◌, inl, inr, Some, Result, Ok, Err, IfErr, IsErrOf, Bool, true, false, not, ◌||◌, cond, List, [], ◌∷◌, ◌++◌, length, take, refl, sym, ap, ◌∙◌, subst}
 use Rattle.std.specs.Prelude.{get_or}
 use Rattle.std.specs.List.{list_all, list_any}
 use Rattle.std.specs.declared.cmp.Ordering.{Ordering}
@@ -153,6 +153,10 @@ cut_is_no_refusal old new list (Ok n) cut is = cc
 cut_is_no_refusal old new list (Err Version) cut is = cut
 cut_is_no_refusal old new list (Err Refused) cut is = cut
 cut_is_no_refusal old new list (Err (OutOfMemory done)) cut is = cc
+
+-- an error is not another one
+pub not_refused : (P : Type 0) → ¬ P → IsErrOf {T = ℕ} (Err Version) Refused ↔ P
+not_refused P none = (λ e. cc, λ p. absurd (none p))
 
 -- nothing was taken in
 pub none_taken : (r : ReplicaContent) (list : List Operation) → IsCut r r list 0

@@ -1,1 +1,6 @@
--- All is left to the tactic. Where a function has this file, a wrong body of it is refused without a second search.
+use Rattle.std.proofs.Common.{arith}
+use Rattle.std.proofs.lemmas.Grind.{common_steps}
+use Rattle.oct_ops.proofs.note.is_name.Goals as goal
+
+pub returns-then-name-le-MAX_NAME : goal.returns-then-name-le-MAX_NAME
+returns-then-name-le-MAX_NAME c = grind (arith, common_steps)

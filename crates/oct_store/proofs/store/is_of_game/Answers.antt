@@ -1,1 +1,4 @@
--- All is left to the tactic. Where a function has this file, a wrong body of it is refused without a second search.
+use Rattle.oct_store.proofs.store.is_of_game.Goals as goal
+
+pub returns-in-Period : goal.returns-in-Period
+returns-in-Period g c = rw c.in-Period.is (cc)

@@ -1,1 +1,8 @@
--- All is left to the tactic. Where a function has this file, a wrong body of it is refused without a second search.
+use Rattle.std.proofs.Common.{arith}
+use Rattle.oct_verify.proofs.shelf.grown.Goals as goal
+
+pub returns-in-Proved : goal.returns-in-Proved
+returns-in-Proved c = rw c.in-Proved.is (cc)
+
+pub returns-in-Refuted : goal.returns-in-Refuted
+returns-in-Refuted c = grind arith

@@ -1,3 +1,5 @@
+use Rattle.std.proofs.Common.{arith}
+use Rattle.std.proofs.lemmas.Grind.{common_steps}
 use Rattle.oct_ops.proofs.block.Block.new.Goals as goal
 
 pub returns-clause-ok : goal.returns-clause-ok
@@ -8,3 +10,9 @@ returns-clause-fault g c = cc
 
 pub returns-clause-back : goal.returns-clause-back
 returns-clause-back g c = cc
+
+pub returns-clause-accepted : goal.returns-clause-accepted
+returns-clause-accepted g c = grind (arith, common_steps)
+
+pub returns-then-len-gt-MAX_ITEMS-clause-fault : goal.returns-then-len-gt-MAX_ITEMS-clause-fault
+returns-then-len-gt-MAX_ITEMS-clause-fault g c = grind (arith, common_steps)

@@ -1,1 +1,4 @@
--- All is left to the tactic. Where a function has this file, a wrong body of it is refused without a second search.
+use Rattle.oct_ops.proofs.op.Body.kind.Goals as goal
+
+pub returns-in-Note : goal.returns-in-Note
+returns-in-Note g c = cc

@@ -1,1 +1,6 @@
--- All is left to the tactic. Where a function has this file, a wrong body of it is refused without a second search.
+use Rattle.std.proofs.Common.{arith}
+use Rattle.std.proofs.lemmas.Grind.{common_steps}
+use Rattle.oct_ops.proofs.op.OpOrd.cmp.Goals as goal
+
+pub returns-in_default : goal.returns-in_default
+returns-in_default g c = grind (arith, common_steps)

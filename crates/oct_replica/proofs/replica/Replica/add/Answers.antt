@@ -1,4 +1,4 @@
-use Rattle.std.proofs.Common.{sym, ap, ◌∙◌, subst}
+use Rattle.std.proofs.Common.{sym, ap, ◌∙◌, subst, not}
 use Rattle.std.specs.BTreeMap as tree
 use Rattle.oct_code.specs.Code.{code_cmp}
 use Rattle.oct_ops.specs.Operations as set
@@ -51,3 +51,8 @@ invariant_of-self-in_default-file g c =
           subst (λ (s : Operations). AreBeside s (tree.get code_cmp c.file.new.games) c.file.new.notes) (sym grown)
           (beside_more store (tree.get code_cmp c.self.inside.games) (tree.get code_cmp c.file.new.games) c.self.inside.notes c.file.new.notes c.args.op.now c.self.invariant.beside c.in_default-file.ensures.games c.in_default-file.ensures.notes);
     }
+
+pub returns-then-contains-clause-added : goal.returns-then-contains-clause-added
+returns-then-contains-clause-added g c =
+    let held = sym c.contains.ensures ∙ c.if-contains.true in
+    sym (ap (λ (r : ReplicaContent). not (set.contains r.ops c.args.op.now)) (sym c.self.view_is) ∙ ap not held)

@@ -14,3 +14,6 @@ invariant_of-result g c = record {
       subst (λ (s : Operations). AreBeside s (tree.get code_cmp c.new-2.result) c.new-3.result) (sym c.new.ensures)
       (beside_nothing (tree.get code_cmp c.new-2.result) c.new-3.result (λ q. ap (λ es. lookup (tree.is_at (code_cmp q)) es) c.new-2.ensures.empty) c.new-3.ensures);
 }
+
+pub returns-then-author-eq0-clause-refused : goal.returns-then-author-eq0-clause-refused
+returns-then-author-eq0-clause-refused g c = c.if-author-eq0.true

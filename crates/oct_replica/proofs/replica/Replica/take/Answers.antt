@@ -1,9 +1,11 @@
-use Rattle.std.proofs.Common.{◌≡◌, IsSome, refl, sym, ap, subst, ◌∙◌}
+use Rattle.std.proofs.Common.{◌≡◌, IsSome, refl, sym, ap, subst, ◌∙◌, Err}
 use Rattle.std.proofs.lemmas.Result.{IfOk-weaker, IfErr-weaker, on_ok_weaker}
 use Rattle.oct_ops.specs.Operations.{listed}
 use Rattle.oct_delta.specs.Taken.{operations_of}
-use Rattle.oct_replica.specs.Taking.{count_new, IsCutBy, LeavesAt}
-use Rattle.oct_replica.proofs.Taking.{cut_leaves, none_taken, read_list}
+use Rattle.oct_replica.specs.Taking.{count_new, IsCutBy, LeavesAt, with_all}
+use Rattle.oct_replica.proofs.Taking.{cut_leaves, none_taken, read_list, not_refused, read_set}
+use Rattle.std.specs.Option.{is_some}
+use Rattle.std.proofs.lemmas.Bool.{false≢true}
 use Rattle.oct_replica.proofs.replica.Replica.take.Goals as goal
 
 pub returns-in-Ok-clause-new : goal.returns-in-Ok-clause-new
@@ -22,3 +24,21 @@ returns-in-Ok-clause-err g c =
 
 pub returns-in-Err-OutOfMemory-clause-err : goal.returns-in-Err-OutOfMemory-clause-err
 returns-in-Err-OutOfMemory-clause-err g c = none_taken c.args.self.now (listed (operations_of c.args.bytes.now))
+
+pub returns-in-Err-Version-clause-version : goal.returns-in-Err-Version-clause-version
+returns-in-Err-Version-clause-version g c = (λ _. c.in-Err-Version.ensures.version.0 (ap Err c.in-Err-Version.field-0-is), λ _. refl)
+
+pub returns-in-Err-Refused-clause-err : goal.returns-in-Err-Refused-clause-err
+returns-in-Err-Refused-clause-err g c = refl
+
+pub returns-in-Err-Version-clause-err : goal.returns-in-Err-Version-clause-err
+returns-in-Err-Version-clause-err g c = refl
+
+pub returns-in-Ok-clause-ok : goal.returns-in-Ok-clause-ok
+returns-in-Ok-clause-ok g c =
+    on_ok_weaker c.take_list.result (λ taken. taken ∙ ap (with_all c.args.self.now) (sym (read_set c.args.bytes.now c.in-Ok.list c.in-Ok.ensures.read))) c.take_list.ensures.ok
+
+pub returns-in-Err-Version-clause-refused : goal.returns-in-Err-Version-clause-refused
+returns-in-Err-Version-clause-refused g c =
+    let none = c.in-Err-Version.ensures.version.0 (ap Err c.in-Err-Version.field-0-is) in
+    not_refused _ (λ so. false≢true (sym (ap is_some none) ∙ so.0))

@@ -1,6 +1,10 @@
 use Rattle.std.proofs.Common.{sym, ap, ◌∙◌, arith}
+use Rattle.oct_store.specs.Summary.{last}
 use Rattle.oct_store.proofs.Lasts.{last_next, last_kept}
 use Rattle.oct_store.proofs.store.Store.last.Goals as goal
+
+pub loop-op-init : goal.loop-op-init
+loop-op-init g c = ap (λ ops. last ops c.args.author) (c.into_iter-op-iterator.ensures.into_iter_gives ∙ c.iter-op-items.ensures)
 
 pub loop-op-preserved-then-author : goal.loop-op-preserved-then-author
 loop-op-preserved-then-author g c =

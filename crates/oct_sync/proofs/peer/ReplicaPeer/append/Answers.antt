@@ -12,7 +12,23 @@ first_in old new list Version cut = absurd cut
 first_in old new list Refused cut = absurd cut
 first_in old new list (OutOfMemory done) cut = (done, ap (λ (r : ReplicaContent). r.ops) cut.held)
 
+author_stays : (old new : ReplicaContent) (list : List Operation) (e : TakeError) → IsCutBy old new list e → new.author ≡ old.author
+author_stays old new list Version cut = absurd cut
+author_stays old new list Refused cut = absurd cut
+author_stays old new list (OutOfMemory done) cut = ap (λ (r : ReplicaContent). r.author) cut.held
+
+pub returns-in-Ok-clause-ok : goal.returns-in-Ok-clause-ok
+returns-in-Ok-clause-ok g c =
+    ap (λ (r : ReplicaContent). r.ops) c.in-Ok.ensures.ok
+    ∙ ap (λ xs. union c.args.self.now.ops (set_of xs)) (c.of_rising-list.ensures ∙ ap (λ v. v.items) c.replace.ensures.value)
+
+pub returns-in-Ok-clause-author : goal.returns-in-Ok-clause-author
+returns-in-Ok-clause-author g c = ap (λ (r : ReplicaContent). r.author) c.in-Ok.ensures.ok
+
 pub returns-in-Err-clause-err : goal.returns-in-Err-clause-err
 returns-in-Err-clause-err g c =
     first_in c.args.self.now c.take_list.new.self c.args.ops.now.items c.in-Err.field-0
     (subst (λ xs. IsCutBy c.args.self.now c.take_list.new.self xs c.in-Err.field-0) (c.of_rising-list.ensures ∙ ap (λ v. v.items) c.replace.ensures.value) c.in-Err.ensures.err)
+
+pub returns-in-Err-clause-author : goal.returns-in-Err-clause-author
+returns-in-Err-clause-author g c = author_stays c.args.self.now c.take_list.new.self c.of_rising-list.result c.in-Err.field-0 c.in-Err.ensures.err

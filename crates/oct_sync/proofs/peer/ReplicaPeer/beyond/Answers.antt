@@ -1,1 +1,4 @@
--- All is left to the tactic. Where a function has this file, a wrong body of it is refused without a second search.
+use Rattle.oct_sync.proofs.peer.ReplicaPeer.beyond.Goals as goal
+
+pub returns : goal.returns
+returns g c = c.beyond.ensures

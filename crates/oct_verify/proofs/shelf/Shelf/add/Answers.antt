@@ -10,3 +10,6 @@ pub returns-in-Ok-None-clause-ok : goal.returns-in-Ok-None-clause-ok
 returns-in-Ok-None-clause-ok g c =
     let f : Filing = (c.args.dot, c.args.block) in
     sym (insert_filed (shelved c.open.new.self) f (rw c.in-Ok-None.field-0-is at c.in-Ok-None.ensures.ok)) ∙ ap (λ s. set.insert s f) c.in-Ok-None.ensures.filings
+
+pub returns-clause-kept : goal.returns-clause-kept
+returns-clause-kept g c = assumption

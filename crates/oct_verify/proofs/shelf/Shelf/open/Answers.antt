@@ -1,7 +1,29 @@
+use Rattle.std.proofs.Common.{refl, ap, arith}
+use Rattle.oct_mex.specs.Held.{Held}
 use Rattle.oct_verify.specs.Filing.{Filing}
 use Rattle.oct_verify.specs.Paged.{paged, index_of}
+use Rattle.oct_verify.proofs.Growing.{kept_grown}
 use Rattle.oct_verify.proofs.Searching.{filed_at}
 use Rattle.oct_verify.proofs.shelf.Shelf.open.Goals as goal
+
+pub returns-in_err-room_to-clause-kept : goal.returns-in_err-room_to-clause-kept
+returns-in_err-room_to-clause-kept g c = rw c.in_err-room_to.ensures.err c.requires.kept
+
+pub returns-in_err-room_at-clause-kept : goal.returns-in_err-room_at-clause-kept
+returns-in_err-room_at-clause-kept g c =
+    let old = c.args.self.now in
+    let more = c.in_ok-room_to.ensures.ok in
+    let room = ap (λ (h : Held). h.room) more in
+    kept_grown old record { comparer = record old.comparer { values = c.room_to.new.self }; entries = c.room_at.new.self; known = old.known } c.requires.kept c.in_err-room_at.ensures.paged c.in_err-room_at.ensures.same refl refl
+    (ap (λ (h : Held). h.code) more) (ap (λ (h : Held). h.len) more) (omega (arith, room))
+
+pub returns-clause-kept : goal.returns-clause-kept
+returns-clause-kept g c =
+    let old = c.args.self.now in
+    let more = c.in_ok-room_to.ensures.ok in
+    let room = ap (λ (h : Held). h.room) more in
+    kept_grown old record { comparer = record old.comparer { values = c.room_to.new.self }; entries = c.room_at.new.self; known = old.known } c.requires.kept c.in_ok-room_at.ensures.paged c.in_ok-room_at.ensures.same refl refl
+    (ap (λ (h : Held). h.code) more) (ap (λ (h : Held). h.len) more) (omega (arith, room))
 
 pub returns-in_default-clause-ok : goal.returns-in_default-clause-ok
 returns-in_default-clause-ok g c =
