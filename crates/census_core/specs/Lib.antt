@@ -2,6 +2,7 @@ pub mod Asking
 pub mod Codes
 pub mod Folded
 pub mod Imported
+pub mod Inputs
 pub mod Issuing
 pub mod Lines
 pub mod Performed

@@ -4,6 +4,7 @@ ghost use Rattle.std.specs.Prelude.{◌≡◌, ◌≢◌, ◌<◌, length, IfOk,
 ghost use Rattle.std.specs.Io.KnownBytes.{Appends, Keeps};
 ghost use Rattle.oct_sync.specs.Output.{AppendsPrefix};
 ghost use Rattle.census_core.specs.Folded.{folded, refused};
+ghost use Rattle.census_core.specs.Inputs.{IsFoldFault};
 
 use crate::fault::Fault;
 use crate::input::{INPUT_LIMIT, read_whole};
@@ -27,6 +28,7 @@ pub fn fold_lines<A: Allocator + Copy, R: Read, W: Write>(
     ensures prefix { IsErrOf result Fault.Write → IfSome (R.remaining reader.old) (λ input. AppendsPrefix (W.contents writer.old) (W.contents writer.new) (folded input)) }
     ensures unwritten { IfErr result (λ e. e ≢ Fault.Write → Keeps (W.contents writer.old) (W.contents writer.new)) }
     ensures too_long { IsErrOf result Fault.TooLong → IfSome (R.remaining reader.old) (λ input. INPUT_LIMIT < length input) }
+    ensures faults { IfErr result IsFoldFault }
 {
     let input = read_whole(alloc, reader, INPUT_LIMIT)?;
     let lines = take_lines(alloc, &input)?;

@@ -1,7 +1,8 @@
 //! The whole of an input.
 
-ghost use Rattle.std.specs.Prelude.{◌≡◌, ◌+◌, ◌<◌, ◌≤◌, ◌^◌, length, vec_len, IfOk, OnOk, IfSome, IsErrOf};
+ghost use Rattle.std.specs.Prelude.{◌≡◌, ◌+◌, ◌<◌, ◌≤◌, ◌^◌, length, vec_len, IfOk, OnOk, IfSome, IfErr, IsErrOf};
 ghost use Rattle.std.specs.Io.KnownBytes.{IsAtEnd};
+ghost use Rattle.census_core.specs.Inputs.{IsInputFault};
 
 use crate::fault::Fault;
 use std::alloc::Allocator;
@@ -21,6 +22,7 @@ pub fn read_whole<A: Allocator, R: Read>(
     ensures whole { IfOk result (λ bytes. IfSome (R.remaining reader.old) (λ x. bytes.items ≡ x)) }
     ensures fits { IfOk result (λ bytes. vec_len bytes ≤ limit) }
     ensures too_long { IsErrOf result Fault.TooLong → IfSome (R.remaining reader.old) (λ x. limit < length x) }
+    ensures faults { IfErr result IsInputFault }
 {
     let mut bytes = Vec::new(alloc);
     match reader.take(limit + 1).read_to_end(&mut bytes) {

@@ -6,7 +6,7 @@ use Rattle.std.proofs.lemmas.List.{append-nil, take_at, drop_at}
 use Rattle.std.proofs.Math.Seq.{take-add}
 use Rattle.oct_delta.specs.Text.{Bytes}
 use Rattle.oct_ops.specs.Operations.{Operations}
-use Rattle.oct_sync.specs.Driven.{Breaks, Completes, begun}
+use Rattle.oct_sync.specs.Driven.{Breaks, Completes, IsOutside, Tells, begun}
 use Rattle.oct_sync.specs.Output.{AppendsPrefix}
 use Rattle.oct_sync.specs.Session.{Phase, AwaitsClock, AwaitsDeltas, AwaitsEnd, IsDone, HasFailed, Session, Point, fed}
 use Rattle.oct_sync.specs.Standing.{Ends, IsAt, Standing, StandsAt, at_start, ended, progress_in, progress_of}
@@ -61,6 +61,18 @@ done_at : (role : Role) (s : Option Standing) (held : Operations) (sent : Bytes)
 done_at role None held sent p done at = absurd at
 done_at role (Some s) held sent p done at = ap (λ (t : Session). t.phase) at.session ∙ done_phase s.phase done
 
+tells_outside : (e : SyncError) → IsOutside e → (phase : Phase) → Tells e phase
+tells_outside fault.Frame outside phase = absurd outside
+tells_outside fault.Order outside phase = absurd outside
+tells_outside fault.Clock outside phase = absurd outside
+tells_outside fault.Delta outside phase = absurd outside
+tells_outside fault.OutOfMemory outside phase = absurd outside
+tells_outside fault.Failed outside phase = absurd outside
+tells_outside fault.Cut outside phase = tt
+tells_outside fault.Read outside phase = tt
+tells_outside fault.Write outside phase = tt
+tells_outside fault.Turns outside phase = tt
+
 module _ (role : Role) (r r' w w' : Option Bytes) (before : Operations) (s : Option Standing) (held : Operations) (owed : Bytes) (running : IsRunning role r r' w w' before s held owed) where
   abbrev here : Point
   here = fed role (record { session = begun role before; rest = [] }) running.bytes
@@ -76,10 +88,11 @@ module _ (role : Role) (r r' w w' : Option Bytes) (before : Operations) (s : Opt
   }
 
   -- a part of what is owed is written, and the writer fails
-  pub Breaks-sending : (w'' : Option Bytes) → AppendsPrefix w' w'' owed → Breaks role r r' w w'' before held
+  pub Breaks-sending : (w'' : Option Bytes) → AppendsPrefix w' w'' owed → Breaks role fault.Write r r' w w'' before held
   Breaks-sending w'' put = record {
     bytes = running.bytes;
     read = running.read;
+    told = tt;
     held_is = sym (held_at role s held (running.written ++ owed) here running.at).0;
     written = (
       length running.written + put.0,
@@ -89,10 +102,11 @@ module _ (role : Role) (r r' w w' : Option Bytes) (before : Operations) (s : Opt
   }
 
   -- the reader fails, and keeps what it has
-  pub Breaks-reading : (r'' : Option Bytes) → Keeps r' r'' → Breaks role r r'' w w' before held
-  Breaks-reading r'' kept = record {
+  pub Breaks-reading : (e : SyncError) → IsOutside e → (r'' : Option Bytes) → Keeps r' r'' → Breaks role e r r'' w w' before held
+  Breaks-reading e outside r'' kept = record {
     bytes = running.bytes;
     read = Consumes-kept r r' r'' running.bytes running.read kept;
+    told = tells_outside e outside here.session.phase;
     held_is = sym (held_at role s held (running.written ++ owed) here running.at).0;
     written = (
       length running.written,
@@ -145,6 +159,19 @@ ends_session role q piece fault.Read held sent m h = h
 ends_session role q piece fault.Write held sent m h = h
 ends_session role q piece fault.Turns held sent m h = h
 
+tells_ended : (role : Role) (q : Point) (piece : Bytes) (e : SyncError) (held : Operations) (sent : Bytes) → (e ≡ fault.OutOfMemory → ⊥) → Ends role q piece e held sent
+    → (phase : Phase) → phase ≡ HasFailed e → Tells e phase
+tells_ended role q piece fault.Frame held sent m h phase is = is
+tells_ended role q piece fault.Order held sent m h phase is = is
+tells_ended role q piece fault.Clock held sent m h phase is = is
+tells_ended role q piece fault.Delta held sent m h phase is = is
+tells_ended role q piece fault.OutOfMemory held sent m h phase is = absurd (m refl)
+tells_ended role q piece fault.Failed held sent m h phase is = absurd h
+tells_ended role q piece fault.Cut held sent m h phase is = tt
+tells_ended role q piece fault.Read held sent m h phase is = tt
+tells_ended role q piece fault.Write held sent m h phase is = tt
+tells_ended role q piece fault.Turns held sent m h phase is = tt
+
 module _ (role : Role) (r r' r'' w w' : Option Bytes) (before : Operations) (s : Option Standing) (held : Operations) (none piece : Bytes) (running : IsRunning role r r' w w' before s held []) (quiet : none ≡ []) (read : Consumes r' r'' piece) where
   abbrev now : Point
   now = fed role (record { session = begun role before; rest = [] }) running.bytes
@@ -163,13 +190,15 @@ module _ (role : Role) (r r' r'' w w' : Option Bytes) (before : Operations) (s :
         (past_at role s' held' running.written owed (fed role (unsent none now) piece) (feeds role (unsent none now) (unsent_at role s held (running.written ++ []) none now running.at)));
   }
 
-  pub Breaks-feeding : (e : SyncError) (held' : Operations) (owed : Bytes) → (e ≡ fault.OutOfMemory → ⊥) → ((t : Role) (p : Point) → StandsAt t s held none p → Ends t p piece e held' owed) → Breaks role r r'' w w' before held'
+  pub Breaks-feeding : (e : SyncError) (held' : Operations) (owed : Bytes) → (e ≡ fault.OutOfMemory → ⊥) → ((t : Role) (p : Point) → StandsAt t s held none p → Ends t p piece e held' owed) → Breaks role e r r'' w w' before held'
   Breaks-feeding e held' owed memory feeds =
-      let ends = ends_session role (unsent none now) piece e held' owed memory (feeds role (unsent none now) (unsent_at role s held (running.written ++ []) none now running.at)) in
+      let fault_shown = feeds role (unsent none now) (unsent_at role s held (running.written ++ []) none now running.at) in
+      let ends = ends_session role (unsent none now) piece e held' owed memory fault_shown in
       let session : (fed role (record { session = begun role before; rest = [] }) (running.bytes ++ piece)).session ≡ past running.written (ended e held' owed) = ap (λ (p : Point). p.session) whole ∙ ap (past running.written) ends in
       record {
         bytes = running.bytes ++ piece;
         read = Consumes-trans r r' r'' running.bytes piece running.read read;
+        told = tells_ended role (unsent none now) piece e held' owed memory fault_shown _ (ap (λ (t : Session). t.phase) session);
         held_is = sym (ap (λ (t : Session). t.held) session);
         written = (
           length running.written,

@@ -2,7 +2,7 @@
 
 ghost use Rattle.std.specs.Prelude.{◌≡◌, ◌≢◌, ◌++◌, ◌≤◌, [], Some, length, vec_len, IfOk, IfErr, OnOk, OnErr};
 ghost use Rattle.std.specs.Io.KnownBytes.{Appends, Consumes, Keeps};
-ghost use Rattle.oct_sync.specs.Driven.{Breaks, Completes, begun};
+ghost use Rattle.oct_sync.specs.Driven.{Breaks, Completes, IsOutside, begun};
 ghost use Rattle.oct_sync.specs.Output.{AppendsPrefix};
 ghost use Rattle.oct_sync.specs.Standing.{at_start};
 
@@ -40,7 +40,7 @@ pub fn drive<A: Allocator + Copy, P: Peer<A>, R: Read, W: Write>(
     writer: &mut W,
 ) -> Result<(), SyncError>
     ensures ok { OnOk result (Completes role (R.remaining reader.old) (R.remaining reader.new) (W.contents writer.old) (W.contents writer.new) (P.held peer.old) (P.held peer.new)) }
-    ensures err { IfErr result (λ e. e ≢ SyncError.OutOfMemory → Breaks role (R.remaining reader.old) (R.remaining reader.new) (W.contents writer.old) (W.contents writer.new) (P.held peer.old) (P.held peer.new)) }
+    ensures err { IfErr result (λ e. e ≢ SyncError.OutOfMemory → Breaks role e (R.remaining reader.old) (R.remaining reader.new) (W.contents writer.old) (W.contents writer.new) (P.held peer.old) (P.held peer.new)) }
     ensures author { P.author peer.new ≡ P.author peer.old }
 {
     let mut owed = Vec::new(alloc);
@@ -98,6 +98,7 @@ fn receive<'b, R: Read>(
     ensures ok { IfOk result (λ piece. Consumes (R.remaining reader.old) (R.remaining reader.new) piece.now) }
     ensures few { IfOk result (λ piece. length piece.now ≤ most) }
     ensures err { OnErr result (Keeps (R.remaining reader.old) (R.remaining reader.new)) }
+    ensures outside { IfErr result IsOutside }
 {
     let most = most.min(buffer.len());
     match reader.read(&mut buffer[..most]) {

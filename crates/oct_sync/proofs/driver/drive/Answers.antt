@@ -15,7 +15,7 @@ loop-init g c = record {
 pub returns-in_err-send-clause-err : goal.returns-in_err-send-clause-err
 returns-in_err-send-clause-err g c =
     let p = err_from_is_err_and c.from_residual-in_err-send.result c.from_residual-in_err-send.ensures.1 in
-    rw p.1 (λ _. Breaks-sending _ _ _ _ _ _ _ _ _ c.loop.invariant.running _ c.in_err-send.ensures.err)
+    rw (p.1, p.2) (λ _. Breaks-sending _ _ _ _ _ _ _ _ _ c.loop.invariant.running _ c.in_err-send.ensures.err)
 
 pub returns-in-Done-clause-ok : goal.returns-in-Done-clause-ok
 returns-in-Done-clause-ok g c =
@@ -24,13 +24,13 @@ returns-in-Done-clause-ok g c =
 pub returns-in_err-piece-clause-err : goal.returns-in_err-piece-clause-err
 returns-in_err-piece-clause-err g c =
     let p = err_from_is_err_and c.from_residual-in_err-piece.result c.from_residual-in_err-piece.ensures.1 in
-    rw p.1 (λ _. Breaks-reading _ _ _ _ _ _ _ _ _ (IsRunning-sent _ _ _ _ _ _ _ _ _ c.loop.invariant.running _ c.in_ok-send.ensures.ok) _ c.in_err-piece.ensures.err)
+    rw (p.1, p.2) (λ _. Breaks-reading _ _ _ _ _ _ _ _ _ (IsRunning-sent _ _ _ _ _ _ _ _ _ c.loop.invariant.running _ c.in_ok-send.ensures.ok) _ c.in_err-piece.ensures.outside _ c.in_err-piece.ensures.err)
 
 pub returns-in_err-progress-clause-err : goal.returns-in_err-progress-clause-err
 returns-in_err-progress-clause-err g c =
     let p = err_from_is_err_and c.from_residual-in_err-progress.result c.from_residual-in_err-progress.ensures.1 in
-    rw p.1 (λ memory. Breaks-feeding _ _ _ _ _ _ _ _ _ _ _ (IsRunning-sent _ _ _ _ _ _ _ _ _ c.loop.invariant.running _ c.in_ok-send.ensures.ok) c.in_ok-send.ensures.empty c.in_ok-piece.ensures.ok
-    c.in_err-progress.field-0.0 _ _ (λ e. memory (p.2 ∙ e)) c.in_err-progress.ensures.err)
+    rw (p.1, p.2) (λ memory. Breaks-feeding _ _ _ _ _ _ _ _ _ _ _ (IsRunning-sent _ _ _ _ _ _ _ _ _ c.loop.invariant.running _ c.in_ok-send.ensures.ok) c.in_ok-send.ensures.empty c.in_ok-piece.ensures.ok
+    c.in_err-progress.field-0.0 _ _ memory c.in_err-progress.ensures.err)
 
 pub loop-preserved : goal.loop-preserved
 loop-preserved g c = record {
@@ -43,7 +43,7 @@ loop-preserved g c = record {
 pub returns-in_err-send-2-clause-err : goal.returns-in_err-send-2-clause-err
 returns-in_err-send-2-clause-err g c =
     let p = err_from_is_err_and c.from_residual-in_err-send-2.result c.from_residual-in_err-send-2.ensures.1 in
-    rw p.1 (λ _. Breaks-sending _ _ _ _ _ _ _ _ _ c.loop.invariant.running _ c.in_err-send-2.ensures.err)
+    rw (p.1, p.2) (λ _. Breaks-sending _ _ _ _ _ _ _ _ _ c.loop.invariant.running _ c.in_err-send-2.ensures.err)
 
 pub returns-in-Done-progress-clause-ok : goal.returns-in-Done-progress-clause-ok
 returns-in-Done-progress-clause-ok g c =
@@ -51,4 +51,4 @@ returns-in-Done-progress-clause-ok g c =
 
 pub returns-clause-err : goal.returns-clause-err
 returns-clause-err g c _ =
-    Breaks-reading _ _ _ _ _ _ _ _ _ (IsRunning-sent _ _ _ _ _ _ _ _ _ c.loop.invariant.running _ c.in_ok-send-2.ensures.ok) _ (Keeps-refl _)
+    Breaks-reading _ _ _ _ _ _ _ _ _ (IsRunning-sent _ _ _ _ _ _ _ _ _ c.loop.invariant.running _ c.in_ok-send-2.ensures.ok) _ tt _ (Keeps-refl _)
