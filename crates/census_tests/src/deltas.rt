@@ -131,7 +131,7 @@ const PAST_LAST: &[u8] = b"OGD2\x00\x00\x00\x01\
       \x00\x00\x00\x00\x00\x00\x00\x00";
 
 /// Whether the bytes are refused so.
-pub fn is_refused<A: Allocator + Copy>(alloc: A, bytes: &[u8], error: DeltaError) -> bool {
+pub(crate) fn is_refused<A: Allocator + Copy>(alloc: A, bytes: &[u8], error: DeltaError) -> bool {
     match decode(alloc, bytes) {
         Ok(_) => false,
         Err(refused) => refused == error,

@@ -56,7 +56,7 @@ const KAYLES: [u8; 167] = [
 ];
 
 /// Kayles from place 0, by author 1, with 167 values.
-pub fn long_block() -> [u8; 695] {
+pub(crate) fn long_block() -> [u8; 695] {
     let mut bytes = [0; 695];
     bytes[..27].copy_from_slice(
         b"OGD1\x00\x00\x00\x01\x00\x00\x00\x01\x00\x00\x00\x01\x01\x00\x02\x07\x07\x00\x00\x00\x00\x00\xa7",
@@ -68,7 +68,7 @@ pub fn long_block() -> [u8; 695] {
 }
 
 /// The notes 3.1 to 3.70 without text.
-pub fn many_notes() -> [u8; 848] {
+pub(crate) fn many_notes() -> [u8; 848] {
     let mut bytes = [0; 848];
     bytes[..8].copy_from_slice(b"OGD1\x00\x00\x00\x46");
     for number in 1..71u8 {
