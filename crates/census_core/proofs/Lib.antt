@@ -5,6 +5,7 @@ mod Importing
 mod Members
 mod Merging
 mod Outcomes
+mod Stepping
 mod StoredStates
 mod Taking
 mod Wholes

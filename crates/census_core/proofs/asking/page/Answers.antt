@@ -1,9 +1,19 @@
-use Rattle.std.proofs.Common.{arith}
-use Rattle.std.proofs.lemmas.Grind.{common_steps}
+use Rattle.std.proofs.Common.{Ok, Err, ◌++◌, cond, not, ap, sym, ◌∙◌}
+use Rattle.oct_ops.specs.Operations.{listed}
+use Rattle.oct_pages.specs.Catalogue as catalogue
+use Rattle.census_core.specs.Replies.{said}
+use Rattle.census_core.specs.declared.fault.Fault.TheVariants.{NoPage}
+use Rattle.census_core.proofs.Stepping.{then_with}
 use Rattle.census_core.proofs.asking.page.Goals as goal
 
 pub returns-clause-ok : goal.returns-clause-ok
-returns-clause-ok c = grind (arith, common_steps)
+returns-clause-ok c =
+    let ops = listed c.in_ok-replica.replica.ops in
+    let shown = c.in_ok-page.ensures.ok ∙ ap (λ front. front ++ catalogue.page ops c.args.number) c.new-text.ensures.items in
+    then_with _ _ _ c.in_ok-replica.ensures.ok
+    ∙ ap (λ found. cond found (Ok (said (catalogue.page ops c.args.number))) (Err NoPage)) (sym c.in_ok-page.ensures.found ∙ c.if-not-branch.false)
+    ∙ ap (λ text. Ok (said text)) (sym shown)
+    ∙ ap Ok (sym c.said.ensures)
 
 pub returns-clause-err : goal.returns-clause-err
 returns-clause-err c = cc

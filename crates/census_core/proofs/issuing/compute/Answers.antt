@@ -1,9 +1,14 @@
-use Rattle.std.proofs.Common.{arith}
-use Rattle.std.proofs.lemmas.Grind.{common_steps}
+use Rattle.std.proofs.Common.{ap, sym, ◌∙◌}
+use Rattle.std.proofs.lemmas.Result.{IfErr-weaker, IfOk-weaker}
+use Rattle.census_core.specs.Steps.{because}
+use Rattle.census_core.specs.declared.fault.Fault.TheVariants as fault
+use Rattle.census_core.proofs.Stepping.{allowed, then_with}
 use Rattle.census_core.proofs.issuing.compute.Goals as goal
 
 pub returns-clause-ok : goal.returns-clause-ok
-returns-clause-ok c = grind (arith, common_steps)
+returns-clause-ok c =
+    IfOk-weaker c.issue.result _ _ (λ reply done. then_with _ _ _ c.in_ok-replica.ensures.ok ∙ then_with _ _ _ (ap (because fault.Code) (sym c.read_code.ensures ∙ c.in_ok-code.was)) ∙ then_with _ _ _ (allowed _ _ _ _ c.in_ok-block.ensures.accepted c.in_ok-block.ensures.ok) ∙ done) c.issue.ensures.ok
 
 pub returns-clause-err : goal.returns-clause-err
-returns-clause-err c = grind (arith, common_steps)
+returns-clause-err c =
+    IfErr-weaker c.issue.result _ _ (λ e done other. then_with _ _ _ c.in_ok-replica.ensures.ok ∙ then_with _ _ _ (ap (because fault.Code) (sym c.read_code.ensures ∙ c.in_ok-code.was)) ∙ then_with _ _ _ (allowed _ _ _ _ c.in_ok-block.ensures.accepted c.in_ok-block.ensures.ok) ∙ done other) c.issue.ensures.err

@@ -1,9 +1,12 @@
-use Rattle.std.proofs.Common.{arith}
-use Rattle.std.proofs.lemmas.Grind.{common_steps}
+use Rattle.std.proofs.Common.{◌∙◌}
+use Rattle.std.proofs.lemmas.Result.{IfErr-weaker, IfOk-weaker}
+use Rattle.census_core.proofs.Stepping.{allowed, then_with}
 use Rattle.census_core.proofs.issuing.unnote.Goals as goal
 
 pub returns-clause-ok : goal.returns-clause-ok
-returns-clause-ok c = grind (arith, common_steps)
+returns-clause-ok c =
+    IfOk-weaker c.issue.result _ _ (λ reply done. then_with _ _ _ c.in_ok-replica.ensures.ok ∙ then_with _ _ _ (allowed _ _ _ _ c.in_ok-removal.ensures.accepted c.in_ok-removal.ensures.ok) ∙ done) c.issue.ensures.ok
 
 pub returns-clause-err : goal.returns-clause-err
-returns-clause-err c = grind (arith, common_steps)
+returns-clause-err c =
+    IfErr-weaker c.issue.result _ _ (λ e done other. then_with _ _ _ c.in_ok-replica.ensures.ok ∙ then_with _ _ _ (allowed _ _ _ _ c.in_ok-removal.ensures.accepted c.in_ok-removal.ensures.ok) ∙ done other) c.issue.ensures.err
