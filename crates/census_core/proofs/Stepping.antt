@@ -1,11 +1,60 @@
--- Steps that were taken.
-use Rattle.std.proofs.Common.{◌≡◌, Option, None, Result, Ok, sym, ap, ◌∙◌}
+-- Steps that were taken, and one that was refused.
+use Rattle.std.proofs.Common.{◌≡◌, ◌≢◌, Option, None, Some, Result, Ok, Err, sym, ap, ◌∙◌, refl}
+use Rattle.std.specs.Prelude.{unwrap_or}
+use Rattle.oct_delta.specs.Text.{Bytes}
+use Rattle.oct_notes.specs.Notes.{live_dots}
+use Rattle.oct_ops.specs.Faults.{IsFaultOrMemory}
+use Rattle.oct_ops.specs.Operation.{removing}
+use Rattle.oct_ops.specs.Operations.{listed}
+use Rattle.oct_ops.specs.declared.error.NoteError.{NoteError}
+use Rattle.oct_ops.specs.declared.error.NoteError.TheVariants as note
+use Rattle.oct_replica.specs.declared.error.ComputeError.{ComputeError}
+use Rattle.oct_replica.specs.declared.error.ComputeError.TheVariants as compute
+use Rattle.oct_replica.specs.Computing.{RefusesRemoval}
+use Rattle.oct_replica.specs.Content.{ReplicaContent}
+use Rattle.oct_replica.specs.declared.error.RemovalError.{RemovalError}
+use Rattle.oct_replica.specs.declared.error.RemovalError.TheVariants as removal
+use Rattle.census_core.specs.Issuing.{removal_of}
+use Rattle.census_core.specs.Refusals.{compute_fault, note_fault, removal_fault}
 use Rattle.census_core.specs.Steps.{◌>>=◌, because, unless}
+use Rattle.census_core.specs.declared.fault.Fault.TheVariants as fault
 
 -- the next step is taken with what the last one gave
 pub then_with : {A B E : Type 0} (step : Result A E) (next : A → Result B E) (x : A) → step ≡ Ok x → (step >>= next) ≡ next x
 then_with step next x is = ap (λ r. r >>= next) is
 
+-- none is taken after a fault
+pub stopped : {A B E : Type 0} (step : Result A E) (next : A → Result B E) (e : E) → step ≡ Err e → (step >>= next) ≡ Err e
+stopped step next e is = ap (λ r. r >>= next) is
+
 -- a step that has no fault gives its value
 pub allowed : {A E F : Type 0} (cause : E → F) (fault : Option E) (value x : A) → fault ≡ None → x ≡ value → because cause (unless fault value) ≡ Ok x
 allowed cause fault value x none is = ap (λ f. because cause (unless f value)) none ∙ ap Ok (sym is)
+
+-- ---- the fault of a step, unless memory was refused
+
+compute_named : (e : ComputeError) → compute_fault e ≢ fault.OutOfMemory → fault.Compute e ≡ compute_fault e
+compute_named compute.Zero other = refl
+compute_named compute.TooMany other = refl
+compute_named compute.AtLimit other = refl
+compute_named compute.OutOfMemory other = absurd (other refl)
+
+pub not_computed : {A : Type 0} (found : Option ComputeError) (value : A) (e : ComputeError) → e ≡ unwrap_or found compute.OutOfMemory → compute_fault e ≢ fault.OutOfMemory
+    → because fault.Compute (unless found value) ≡ Err (compute_fault e)
+not_computed None value e is other = absurd (other (ap compute_fault is))
+not_computed (Some cause) value e is other = ap (λ c. Err (fault.Compute c)) (sym is) ∙ ap Err (compute_named e other)
+
+note_named : (e : NoteError) → note_fault e ≢ fault.OutOfMemory → fault.Note e ≡ note_fault e
+note_named note.Name other = refl
+note_named note.Text other = refl
+note_named note.OutOfMemory other = absurd (other refl)
+
+pub not_noted : {A : Type 0} (found : Option NoteError) (value : A) (e : NoteError) → IsFaultOrMemory found e → note_fault e ≢ fault.OutOfMemory
+    → because fault.Note (unless found value) ≡ Err (note_fault e)
+not_noted None value e is other = absurd (other (ap note_fault is))
+not_noted (Some cause) value e is other = ap (λ c. Err (fault.Note c)) (sym is) ∙ ap Err (note_named e other)
+
+pub not_removed : (r : ReplicaContent) (name : Bytes) (e : RemovalError) → RefusesRemoval (live_dots (listed r.ops) name) e → removal_fault e ≢ fault.OutOfMemory → removal_of r name ≡ Err (removal_fault e)
+not_removed r name removal.NoNote is other = ap (λ f. because fault.Removal (unless f (removing (live_dots (listed r.ops) name)))) is
+not_removed r name removal.TooMany is other = ap (λ f. because fault.Removal (unless f (removing (live_dots (listed r.ops) name)))) is
+not_removed r name removal.OutOfMemory is other = absurd (other refl)

@@ -58,9 +58,9 @@ fn knows_two<A: Allocator>(clock: &Clock<A>) -> bool {
 }
 
 // Whether a clock is made and read without a request for memory.
-fn takes_no_memory(heap: &Metered<Global>) -> bool {
+fn takes_no_memory<A: Allocator>(heap: &Metered<Global>, alloc: A) -> bool {
     heap.arm(1_000);
-    let mut clock = Clock::new(heap);
+    let mut clock = Clock::new(alloc);
     let is_made = heap.left() == 1_000 && clock.raise(5, 2).is_ok();
     heap.arm(1_000);
     is_made && knows_two(&clock) && heap.left() == 1_000
@@ -68,7 +68,8 @@ fn takes_no_memory(heap: &Metered<Global>) -> bool {
 
 #[test]
 fn answers_take_no_memory(rt: HostRuntime) {
-    assert!(rt; takes_no_memory(&Metered::new(rt.alloc())));
+    let heap = Metered::new(rt.alloc());
+    assert!(rt; takes_no_memory(&heap, &heap));
 }
 
 // Whether each author of the entries has at least that number in the others.
@@ -116,9 +117,9 @@ fn joins<A: Allocator>(heap: &Metered<Global>, clock: &mut Clock<A>, other: &Clo
 }
 
 // Whether the old clock is joined with that of the five, once that is raised.
-fn joins_both(heap: &Metered<Global>) -> bool {
-    let mut clock = Clock::new(heap);
-    let mut other = Clock::new(heap);
+fn joins_both<A: Allocator + Copy>(heap: &Metered<Global>, alloc: A) -> bool {
+    let mut clock = Clock::new(alloc);
+    let mut other = Clock::new(alloc);
     raises(&mut clock, OLD) && is_raised(heap, &mut other) && joins(heap, &mut clock, &other)
 }
 
@@ -153,5 +154,5 @@ fn gathers_both(heap: &Metered<Global>, entries: &[(u32, u32)]) -> bool {
 #[test]
 fn refused_clocks_grow_in_the_end(rt: HostRuntime) {
     let heap = Metered::new(rt.alloc());
-    assert!(rt; joins_both(&heap) && gathers_both(&heap, TWO) && gathers_both(&heap, FIVE));
+    assert!(rt; joins_both(&heap, &heap) && gathers_both(&heap, TWO) && gathers_both(&heap, FIVE));
 }

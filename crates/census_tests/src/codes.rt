@@ -13,8 +13,21 @@ fn is_written<A: Allocator>(alloc: A, text: &[u8], written: &[u8]) -> bool {
     }
 }
 
+// Texts that are no code, and their faults.
+const REFUSED: &[(&[u8], CodeError)] = &[
+    (b"0.8", CodeError::Digit),
+    (b"0.7.7", CodeError::Digit),
+    (b"3.1", CodeError::Head),
+    (b"x.8", CodeError::Head),
+    (b"0.", CodeError::Form),
+    (b"77", CodeError::Form),
+    (b"00.7", CodeError::Form),
+    (b"", CodeError::Form),
+    (b"0.77777777777777777", CodeError::Long),
+];
+
 #[test]
-fn texts_are_read_and_written(rt: HostRuntime) {
+fn texts_are_refused_or_read_and_written(rt: HostRuntime) {
     let rows: [(&[u8], &[u8]); 5] = [
         (b"0.77", b"0.77"),
         (b".770", b"0.77"),
@@ -26,33 +39,8 @@ fn texts_are_read_and_written(rt: HostRuntime) {
     for (text, written) in rows {
         all &= is_written(rt.alloc(), text, written);
     }
-    assert!(rt; all);
-}
-
-// Whether the text is refused by this fault.
-fn is_refused(text: &[u8], fault: CodeError) -> bool {
-    match Code::parse(text) {
-        Ok(_) => false,
-        Err(error) => error == fault,
-    }
-}
-
-#[test]
-fn texts_are_refused(rt: HostRuntime) {
-    let rows: [(&[u8], CodeError); 9] = [
-        (b"0.8", CodeError::Digit),
-        (b"0.7.7", CodeError::Digit),
-        (b"3.1", CodeError::Head),
-        (b"x.8", CodeError::Head),
-        (b"0.", CodeError::Form),
-        (b"77", CodeError::Form),
-        (b"00.7", CodeError::Form),
-        (b"", CodeError::Form),
-        (b"0.77777777777777777", CodeError::Long),
-    ];
-    let mut all = true;
-    for (text, fault) in rows {
-        all &= is_refused(text, fault);
+    for (text, fault) in REFUSED {
+        all &= Code::parse(text) == Err(*fault);
     }
     assert!(rt; all);
 }

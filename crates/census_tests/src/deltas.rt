@@ -11,26 +11,40 @@ use oct_join::Clock;
 use oct_ops::{Body, Op};
 use std::alloc::{Allocator, Global};
 
-// Whether what the bytes spell is written as the text.
-fn writes(alloc: Global, bytes: &[u8], text: &[u8]) -> bool {
+// A in the new format.
+const RENAMED: &[u8] = b"OGD2\x00\x00\x00\x01\
+      \x00\x00\x00\x01\x00\x00\x00\x01\x01\x00\x02\x07\x07\x00\x00\x00\x00\x00\x05\
+      \x00\x00\x00\x00\x00\x00\x00\x01\x00\x00\x00\x02\x00\x00\x00\x03\x00\x00\x00\x01";
+
+// Two values from place 4095, as the new format has them and as the old one would.
+const LATER: &[u8] = b"OGD2\x00\x00\x00\x01\
+      \x00\x00\x00\x01\x00\x00\x00\x01\x01\x00\x02\x07\x07\x00\x00\x0f\xff\x00\x02\
+      \x00\x00\x00\x00\x00\x00\x00\x00";
+
+const LATER_IN_OLD: &[u8] = b"OGD1\x00\x00\x00\x01\
+      \x00\x00\x00\x01\x00\x00\x00\x01\x01\x00\x02\x07\x07\x00\x00\x0f\xff\x00\x02\
+      \x00\x00\x00\x00\x00\x00\x00\x00";
+
+// Two values from the last place on.
+const PAST_LAST: &[u8] = b"OGD2\x00\x00\x00\x01\
+      \x00\x00\x00\x01\x00\x00\x00\x01\x01\x00\x02\x07\x07\x00\x00\xff\xff\x00\x02\
+      \x00\x00\x00\x00\x00\x00\x00\x00";
+
+/// Whether the bytes are refused so.
+pub(crate) fn is_refused<A: Allocator + Copy>(alloc: A, bytes: &[u8], error: DeltaError) -> bool {
     match decode(alloc, bytes) {
-        Ok(list) => is_written(alloc, &list, text),
-        Err(_) => false,
+        Ok(_) => false,
+        Err(refused) => refused == error,
     }
 }
 
-fn is_written(alloc: Global, list: &OpList<Global>, text: &[u8]) -> bool {
+// Whether what the bytes spell is written as the text.
+fn writes<A: Allocator + Copy>(alloc: A, bytes: &[u8], text: &[u8]) -> bool {
+    let Ok(list) = decode(alloc, bytes) else {
+        return false;
+    };
     let mut out = Vec::new(alloc);
-    encode(list, &mut out).is_ok() && out.as_slice() == text
-}
-
-#[test]
-fn worked_texts_are_written_back(rt: HostRuntime) {
-    let mut all = true;
-    for text in &[A, B, C, D, E, F, G, H, I] {
-        all &= writes(rt.alloc(), text, text);
-    }
-    assert!(rt; all);
+    encode(&list, &mut out).is_ok() && out.as_slice() == text
 }
 
 // Whether the operation is the one of A.
@@ -58,8 +72,16 @@ fn reads_a(alloc: Global) -> bool {
 }
 
 #[test]
-fn a_worked_text_is_read(rt: HostRuntime) {
-    assert!(rt; reads_a(rt.alloc()));
+fn worked_texts_of_both_formats_are_read_and_written_back(rt: HostRuntime) {
+    let alloc = rt.alloc();
+    let mut all = reads_a(alloc)
+        && writes(alloc, RENAMED, A)
+        && is_refused(alloc, LATER_IN_OLD, DeltaError::Refused)
+        && is_refused(alloc, PAST_LAST, DeltaError::Refused);
+    for text in &[A, B, C, D, E, F, G, H, I, LATER, LAST] {
+        all &= writes(alloc, text, text);
+    }
+    assert!(rt; all);
 }
 
 // The bytes after the tag.
@@ -109,44 +131,6 @@ fn changed_bytes_are_refused_or_written_back(rt: HostRuntime) {
         all &= is_spelled_in_one_way(rt.alloc(), text);
     }
     assert!(rt; all);
-}
-
-// A in the new format.
-const RENAMED: &[u8] = b"OGD2\x00\x00\x00\x01\
-      \x00\x00\x00\x01\x00\x00\x00\x01\x01\x00\x02\x07\x07\x00\x00\x00\x00\x00\x05\
-      \x00\x00\x00\x00\x00\x00\x00\x01\x00\x00\x00\x02\x00\x00\x00\x03\x00\x00\x00\x01";
-
-// Two values from place 4095, as the new format has them and as the old one would.
-const LATER: &[u8] = b"OGD2\x00\x00\x00\x01\
-      \x00\x00\x00\x01\x00\x00\x00\x01\x01\x00\x02\x07\x07\x00\x00\x0f\xff\x00\x02\
-      \x00\x00\x00\x00\x00\x00\x00\x00";
-
-const LATER_IN_OLD: &[u8] = b"OGD1\x00\x00\x00\x01\
-      \x00\x00\x00\x01\x00\x00\x00\x01\x01\x00\x02\x07\x07\x00\x00\x0f\xff\x00\x02\
-      \x00\x00\x00\x00\x00\x00\x00\x00";
-
-// Two values from the last place on.
-const PAST_LAST: &[u8] = b"OGD2\x00\x00\x00\x01\
-      \x00\x00\x00\x01\x00\x00\x00\x01\x01\x00\x02\x07\x07\x00\x00\xff\xff\x00\x02\
-      \x00\x00\x00\x00\x00\x00\x00\x00";
-
-/// Whether the bytes are refused so.
-pub(crate) fn is_refused<A: Allocator + Copy>(alloc: A, bytes: &[u8], error: DeltaError) -> bool {
-    match decode(alloc, bytes) {
-        Ok(_) => false,
-        Err(refused) => refused == error,
-    }
-}
-
-#[test]
-fn the_new_format_has_more_places(rt: HostRuntime) {
-    let alloc = rt.alloc();
-    let right = writes(alloc, RENAMED, A)
-        && writes(alloc, LATER, LATER)
-        && writes(alloc, LAST, LAST)
-        && is_refused(alloc, LATER_IN_OLD, DeltaError::Refused)
-        && is_refused(alloc, PAST_LAST, DeltaError::Refused);
-    assert!(rt; right);
 }
 
 // Whether the text of these operations is read after each request for memory was refused in turn. `heap` counts the

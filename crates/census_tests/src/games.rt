@@ -240,49 +240,24 @@ fn block_status<A: Allocator + Copy>(
     }
 }
 
-// The status of a claim of author 1, which is added if it is not there; none where memory is refused.
-fn claim_status<A: Allocator + Copy>(
-    game: &mut Game<A>,
-    number: u32,
-    start: u32,
-    length: u32,
-) -> Option<PeriodStatus> {
-    let Ok(dot) = Dot::new(1, number) else {
-        return None;
-    };
-    let Ok(period) = Period::new(game.code(), start, length) else {
-        return None;
-    };
-    match game.add_period(dot, period) {
-        Ok(()) => Some(period_status(game.ledger(), &period)),
-        Err(_) => None,
-    }
-}
-
-// Whether the status of a block is the one that is wanted; none where there is none.
-fn is_block_status(status: Option<Status>, wanted: Status) -> Option<bool> {
-    match status {
-        Some(status) => Some(status == wanted),
-        None => None,
-    }
-}
-
-// The same of a claim.
-fn is_claim_status(status: Option<PeriodStatus>, wanted: PeriodStatus) -> Option<bool> {
-    match status {
-        Some(status) => Some(status == wanted),
-        None => None,
-    }
-}
-
-// Whether what is said of an item, which is added if it is not there, is right; none where memory is refused.
+// Whether what is said of an item of author 1, which is added if it is not there, is right; none where memory is refused.
 fn is_said<A: Allocator + Copy>(alloc: A, game: &mut Game<A>, item: Item) -> Option<bool> {
     match item {
         Item::Block(number, start, values, said) => {
-            is_block_status(block_status(alloc, game, number, start, values), said)
+            let status = block_status(alloc, game, number, start, values)?;
+            Some(status == said)
         }
         Item::Claim(number, start, length, said) => {
-            is_claim_status(claim_status(game, number, start, length), said)
+            let (Ok(dot), Ok(period)) = (
+                Dot::new(1, number),
+                Period::new(game.code(), start, length),
+            ) else {
+                return None;
+            };
+            match game.add_period(dot, period) {
+                Ok(()) => Some(period_status(game.ledger(), &period) == said),
+                Err(_) => None,
+            }
         }
     }
 }
@@ -462,42 +437,25 @@ fn is_right<A: Allocator + Copy>(game: &Game<A>, case: &Case) -> bool {
     right && lists(game, case.items) && finds(game, case.items)
 }
 
-// What is left of 1,000 requests by the question for an item that is there: a block and its copy take two.
-fn left_by(item: &Item) -> u64 {
-    match item {
-        Item::Block(..) => 998,
-        Item::Claim(..) => 1_000,
-    }
-}
-
-// Whether all that is said of the items, which are there, is right, and takes no memory.
-fn are_said<A: Allocator + Copy>(
-    heap: &Metered<Global>,
-    alloc: A,
-    game: &mut Game<A>,
-    items: &[Item],
-) -> bool {
-    let mut right = true;
-    for item in items {
-        heap.arm(1_000);
-        right &= is_said(alloc, game, *item) == Some(true) && heap.left() == left_by(item);
-    }
-    right
-}
-
-// Whether a game to which all items are added says what it should, and takes no memory to say it.
+// Whether a game to which all items are added says what it should, and takes no memory to say it; a block that is asked of
+// and its copy take two requests.
 fn is_settled<A: Allocator + Copy>(
     heap: &Metered<Global>,
     alloc: A,
     game: &mut Game<A>,
     case: &Case,
 ) -> bool {
-    let all = fill(heap, alloc, game, case.items, IN_ORDER, u64::MAX);
-    if all != Some(false) || !are_said(heap, alloc, game, case.items) {
-        return false;
+    let mut right = fill(heap, alloc, game, case.items, IN_ORDER, u64::MAX) == Some(false);
+    for item in case.items {
+        heap.arm(1_000);
+        right &= is_said(alloc, game, *item) == Some(true);
+        right &= match item {
+            Item::Block(..) => heap.left() == 998,
+            Item::Claim(..) => heap.left() == 1_000,
+        };
     }
     heap.arm(1_000);
-    is_right(game, case) && heap.left() == 1_000
+    right && is_right(game, case) && heap.left() == 1_000
 }
 
 // Fills a new game in this order, each time with so many requests granted, and then with memory. Says whether the requests
@@ -584,30 +542,23 @@ fn next_wins(heaps: [u32; 5], moves: u32) -> bool {
     false
 }
 
-// Whether the outcome of a position of heaps below 5 is that of the search.
-fn is_found<A: Allocator + Copy>(game: &Game<A>, heaps: &[u64]) -> bool {
-    let mut sizes = [0u32; 5];
-    for heap in heaps {
-        if *heap < 5 {
-            let size = *heap as usize;
-            sizes[size] = sizes[size].saturating_add(1);
-        }
-    }
-    let wanted = if next_wins(sizes, 12) {
-        NextWins
-    } else {
-        NextLoses
-    };
-    game.outcome(heaps) == wanted
-}
-
-// Whether that is so of each position of up to three heaps.
+// Whether the outcome of each position of up to three heaps below 5 is that of the search.
 fn are_found<A: Allocator + Copy>(game: &Game<A>) -> bool {
     let mut all = true;
     for number in 0..125u64 {
         let heaps = [number % 5, number / 5 % 5, number / 25];
+        let mut sizes = [0u32; 5];
         for count in 0..4 {
-            all &= is_found(game, &heaps[..count]);
+            let wanted = if next_wins(sizes, 12) {
+                NextWins
+            } else {
+                NextLoses
+            };
+            all &= game.outcome(&heaps[..count]) == wanted;
+            if count < 3 && heaps[count] < 5 {
+                let size = heaps[count] as usize;
+                sizes[size] = sizes[size].saturating_add(1);
+            }
         }
     }
     all

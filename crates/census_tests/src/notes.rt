@@ -9,10 +9,11 @@ use std::alloc::{Allocator, Global};
 /// A note: its author, its number, its name and its text.
 type Row = (u32, u32, &'static [u8], &'static [u8]);
 
-// The note of a letter. A word stands for the operations of its letters, and a capital is the removal of its note's dot.
+// The note of a letter. A word stands for the operations of its letters; a capital is the removal of its note's dot, and `-`
+// takes the removal A back.
 fn row(letter: u8) -> Row {
     match letter {
-        b'a' | b'A' => (1, 1, b"a", b""),
+        b'a' | b'A' | b'-' => (1, 1, b"a", b""),
         b'b' => (1, 1, b"a", b"again"),
         b'c' => (1, 1, b"b", b""),
         b'd' => (1, 2, b"a", b"text"),
@@ -30,42 +31,24 @@ fn row(letter: u8) -> Row {
     }
 }
 
-// The note of a letter, where there is memory.
-fn note<A: Allocator + Copy>(alloc: A, letter: u8) -> Option<Op<A>> {
+// The operation of a letter, where there is memory: its note, or the removal of that note's dot by author 9.
+fn operation<A: Allocator + Copy>(alloc: A, letter: u8) -> Option<Op<A>> {
     let (author, number, name, text) = row(letter);
-    let Ok(dot) = Dot::new(author, number) else {
+    let (Ok(dot), Ok(own)) = (Dot::new(author, number), Dot::new(9, 1)) else {
         return None;
     };
-    match Note::new(alloc, name, text) {
-        Ok(note) => Some(Op::new(dot, Body::Note(note))),
-        Err(_) => None,
+    if letter.is_ascii_lowercase() {
+        return match Note::new(alloc, name, text) {
+            Ok(note) => Some(Op::new(dot, Body::Note(note))),
+            Err(_) => None,
+        };
     }
-}
-
-// The removal of that note's dot, by author 9.
-fn removal<A: Allocator + Copy>(alloc: A, letter: u8) -> Option<Op<A>> {
-    let (author, number, _, _) = row(letter);
-    let Ok(dot) = Dot::new(9, 1) else {
-        return None;
-    };
-    let Ok(gone) = Dot::new(author, number) else {
-        return None;
-    };
-    let Ok(dots) = Vec::from_slice(alloc, &[gone]) else {
+    let Ok(dots) = Vec::from_slice(alloc, &[dot]) else {
         return None;
     };
     match Removal::new(dots) {
-        Ok(removal) => Some(Op::new(dot, Body::Removal(removal))),
+        Ok(removal) => Some(Op::new(own, Body::Removal(removal))),
         Err(_) => None,
-    }
-}
-
-// The operation of a letter, where there is memory.
-fn operation<A: Allocator + Copy>(alloc: A, letter: u8) -> Option<Op<A>> {
-    if letter.is_ascii_uppercase() {
-        removal(alloc, letter)
-    } else {
-        note(alloc, letter)
     }
 }
 
@@ -99,50 +82,32 @@ fn adds<A: Allocator + Copy>(
     }
 }
 
-// Whether an operation that is there is found and can be taken back, and none of this takes memory.
-fn goes<A: Allocator + Copy>(heap: &Metered<Global>, notes: &mut Notes<A>, op: &Op<A>) -> bool {
-    let before = notes.len();
-    heap.arm(1_000);
-    let was_there = is_added(notes, op) && notes.contains(op) && !notes.is_empty();
-    notes.take_back(op);
-    was_there
-        && !notes.contains(op)
-        && notes.len().saturating_add(1) == before
-        && notes.is_empty() == (before == 1)
-        && heap.left() == 1_000
-}
-
-// Adds an operation, takes it back, and adds it again, with so many requests granted as in `adds`.
+// Adds an operation, takes it back, and adds it again, with so many requests granted as in `adds`. Where it is there, it is
+// found and can be taken back, and none of this takes memory.
 fn comes_back<A: Allocator + Copy>(
     heap: &Metered<Global>,
     notes: &mut Notes<A>,
     op: &Op<A>,
     grants: u64,
 ) -> Option<bool> {
-    match adds(heap, notes, op, grants) {
-        Some(refused) => {
-            if goes(heap, notes, op) && adds(heap, notes, op, grants).is_some() {
-                Some(refused)
-            } else {
-                None
-            }
-        }
-        None => None,
+    let refused = adds(heap, notes, op, grants)?;
+    let before = notes.len();
+    heap.arm(1_000);
+    let was_there = is_added(notes, op) && notes.contains(op) && !notes.is_empty();
+    notes.take_back(op);
+    let is_gone = !notes.contains(op)
+        && notes.len().saturating_add(1) == before
+        && notes.is_empty() == (before == 1)
+        && heap.left() == 1_000;
+    adds(heap, notes, op, grants)?;
+    if was_there && is_gone {
+        Some(refused)
+    } else {
+        None
     }
 }
 
-// Takes the removal A back, for the letter `-`.
-fn takes_back<A: Allocator + Copy>(alloc: A, notes: &mut Notes<A>) -> Option<bool> {
-    match removal(alloc, b'A') {
-        Some(op) => {
-            notes.take_back(&op);
-            Some(false)
-        }
-        None => None,
-    }
-}
-
-// Adds the operation of a letter.
+// Adds the operation of a letter, or takes it back.
 fn adds_letter<A: Allocator + Copy>(
     heap: &Metered<Global>,
     alloc: A,
@@ -151,11 +116,15 @@ fn adds_letter<A: Allocator + Copy>(
     grants: u64,
 ) -> Option<bool> {
     heap.arm(u64::MAX);
-    if letter == b'-' {
-        return takes_back(alloc, notes);
-    }
     match operation(alloc, letter) {
-        Some(op) => comes_back(heap, notes, &op, grants),
+        Some(op) => {
+            if letter == b'-' {
+                notes.take_back(&op);
+                Some(false)
+            } else {
+                comes_back(heap, notes, &op, grants)
+            }
+        }
         None => None,
     }
 }
@@ -201,12 +170,6 @@ fn are_notes<A: Allocator>(ops: &[Op<A>], word: &[u8]) -> bool {
     right
 }
 
-// Whether this is the dot of the note of the letter.
-fn is_dot(dot: Dot, letter: u8) -> bool {
-    let (author, number, _, _) = row(letter);
-    dot.author() == author && dot.number() == number
-}
-
 // Whether these are the dots of the notes of the word, in its order.
 fn are_dots(dots: &[Dot], word: &[u8]) -> bool {
     if dots.len() != word.len() {
@@ -214,7 +177,8 @@ fn are_dots(dots: &[Dot], word: &[u8]) -> bool {
     }
     let mut right = true;
     for place in 0..word.len() {
-        right &= is_dot(dots[place], word[place]);
+        let (author, number, _, _) = row(word[place]);
+        right &= dots[place].author() == author && dots[place].number() == number;
     }
     right
 }
@@ -285,14 +249,6 @@ fn joins<A: Allocator + Copy>(
 /// dots of those that have the name of the other set's first note.
 type Case = [&'static [u8]; 4];
 
-// The name of a word's first note.
-fn name(word: &[u8]) -> &'static [u8] {
-    match word {
-        [letter, ..] => row(*letter).2,
-        [] => b"dawson",
-    }
-}
-
 // Makes the two sets of a case and joins them, each time with so many requests granted at first. Says whether these were too
 // few; none where anything is wrong.
 fn unites<A: Allocator + Copy>(
@@ -300,14 +256,18 @@ fn unites<A: Allocator + Copy>(
     alloc: A,
     one: &mut Notes<A>,
     other: &mut Notes<A>,
-    case: Case,
+    case: &Case,
     grants: u64,
 ) -> Option<bool> {
-    let [held, came, live, dots] = case;
+    let [held, came, live, dots] = *case;
     let mut refused = adds_word(heap, alloc, one, held, grants)?;
     refused |= adds_word(heap, alloc, other, came, grants)?;
     refused |= joins(heap, one, other, grants)?;
-    if reads(heap, one, name(came), live, dots) {
+    let name = match came {
+        [letter, ..] => row(*letter).2,
+        [] => b"dawson",
+    };
+    if reads(heap, one, name, live, dots) {
         Some(refused)
     } else {
         None
@@ -318,7 +278,7 @@ fn unites<A: Allocator + Copy>(
 fn comes_out<A: Allocator + Copy>(
     heap: &Metered<Global>,
     alloc: A,
-    case: Case,
+    case: &Case,
     grants: u64,
 ) -> Option<bool> {
     heap.arm(1_000);
@@ -332,7 +292,7 @@ fn comes_out<A: Allocator + Copy>(
 }
 
 // Whether a case comes out right where each request for memory is refused in turn.
-fn survives(heap: &Metered<Global>, case: Case) -> bool {
+fn survives(heap: &Metered<Global>, case: &Case) -> bool {
     for grants in 0..64u64 {
         match comes_out(heap, heap, case, grants) {
             Some(true) => {}
@@ -343,49 +303,35 @@ fn survives(heap: &Metered<Global>, case: Case) -> bool {
     false
 }
 
-// Whether the later note alone is live, in whatever order it, the early one and the early one's removal come.
-fn hides_the_early_note(heap: &Metered<Global>) -> bool {
-    survives(heap, [b"e", b"lE", b"l", b"l"])
-        && survives(heap, [b"e", b"El", b"l", b"l"])
-        && survives(heap, [b"l", b"eE", b"l", b"l"])
-        && survives(heap, [b"l", b"Ee", b"l", b"l"])
-        && survives(heap, [b"E", b"el", b"l", b"l"])
-        && survives(heap, [b"E", b"le", b"l", b"l"])
-}
+const CASES: &[Case] = &[
+    // The later note alone is live, in whatever order it, the early one and the early one's removal come.
+    [b"e", b"lE", b"l", b"l"],
+    [b"e", b"El", b"l", b"l"],
+    [b"l", b"eE", b"l", b"l"],
+    [b"l", b"Ee", b"l", b"l"],
+    [b"E", b"el", b"l", b"l"],
+    [b"E", b"le", b"l", b"l"],
+    // The live notes are by name, byte by byte, and then as operations: by dot, and a shorter text first.
+    [b"", b"pqrstcu", b"pqrstcu", b"pq"],
+    [b"uctsr", b"qp", b"pqrstcu", b"pq"],
+    [b"x", b"cd", b"dxc", b"c"],
+    [b"", b"vw", b"vw", b"vw"],
+    // The contents of one dot live and go together, a removal hides neither another dot nor what its author has not seen,
+    // and a note comes back when its removal is taken back.
+    [b"", b"abc", b"abc", b"a"],
+    [b"", b"abcA", b"", b""],
+    [b"", b"dcP", b"dc", b"d"],
+    [b"aA", b"q", b"q", b"q"],
+    [b"", b"aA", b"", b""],
+    [b"", b"aA-", b"a", b"a"],
+];
 
 #[test]
-fn removals_hold_in_every_order(rt: HostRuntime) {
+fn unremoved_notes_live_by_name_in_every_order(rt: HostRuntime) {
     let heap = Metered::new(rt.alloc());
-    assert!(rt; hides_the_early_note(&heap));
-}
-
-// Whether the live notes are by name, byte by byte, and then as operations: by dot, and a shorter text first.
-fn are_by_name(heap: &Metered<Global>) -> bool {
-    survives(heap, [b"", b"pqrstcu", b"pqrstcu", b"pq"])
-        && survives(heap, [b"uctsr", b"qp", b"pqrstcu", b"pq"])
-        && survives(heap, [b"x", b"cd", b"dxc", b"c"])
-        && survives(heap, [b"", b"vw", b"vw", b"vw"])
-}
-
-#[test]
-fn live_notes_are_in_byte_order_of_their_names(rt: HostRuntime) {
-    let heap = Metered::new(rt.alloc());
-    assert!(rt; are_by_name(&heap));
-}
-
-// Whether the contents of one dot live and go together, a removal hides neither another dot nor what its author has not
-// seen, and a note comes back when its removal is taken back.
-fn hides_its_dots(heap: &Metered<Global>) -> bool {
-    survives(heap, [b"", b"abc", b"abc", b"a"])
-        && survives(heap, [b"", b"abcA", b"", b""])
-        && survives(heap, [b"", b"dcP", b"dc", b"d"])
-        && survives(heap, [b"aA", b"q", b"q", b"q"])
-        && survives(heap, [b"", b"aA", b"", b""])
-        && survives(heap, [b"", b"aA-", b"a", b"a"])
-}
-
-#[test]
-fn removals_hide_their_dots_alone(rt: HostRuntime) {
-    let heap = Metered::new(rt.alloc());
-    assert!(rt; hides_its_dots(&heap));
+    let mut all = true;
+    for case in CASES {
+        all &= survives(&heap, case);
+    }
+    assert!(rt; all);
 }

@@ -27,24 +27,64 @@ fn ends_as<A: Allocator + Copy>(reader: Reader<A>, ops: &[Op<A>]) -> bool {
     }
 }
 
-// Whether these are the operations of the text, fed byte by byte.
-fn reads_bytes(alloc: Global, text: &[u8], ops: &[Op<Global>]) -> bool {
-    let mut reader = Reader::new(alloc);
-    feed_pieces(&mut reader, text, 1).is_ok() && ends_as(reader, ops)
+// Whether the reader has failed for good.
+fn has_failed<A: Allocator + Copy>(mut reader: Reader<A>) -> bool {
+    if !reader.items().is_empty() || reader.feed(&[]) != Err(DeltaError::Failed) {
+        return false;
+    }
+    match reader.finish() {
+        Ok(_) => false,
+        Err(refused) => refused == DeltaError::Failed,
+    }
 }
 
-fn reads(alloc: Global, text: &[u8]) -> bool {
+// Whether these are the operations of the text, fed in pieces of so many bytes, after readers that were refused each request
+// for memory in turn, and failed. `heap` counts the requests of `alloc`.
+fn reads_again<A: Allocator + Copy>(
+    heap: &Metered<Global>,
+    alloc: A,
+    text: &[u8],
+    size: usize,
+    ops: &[Op<A>],
+) -> bool {
+    for grants in 0..1000u64 {
+        let mut reader = Reader::new(alloc);
+        heap.arm(grants);
+        let fed = feed_pieces(&mut reader, text, size);
+        heap.arm(u64::MAX);
+        match fed {
+            Ok(()) => return grants > 0 && ends_as(reader, ops),
+            Err(refused) => {
+                if refused != DeltaError::OutOfMemory || !has_failed(reader) {
+                    return false;
+                }
+            }
+        }
+    }
+    false
+}
+
+fn reads_after_refusals<A: Allocator + Copy>(
+    heap: &Metered<Global>,
+    alloc: A,
+    text: &[u8],
+    size: usize,
+) -> bool {
     match decode(alloc, text) {
-        Ok(list) => reads_bytes(alloc, text, list.as_slice()),
+        Ok(list) => reads_again(heap, alloc, text, size, list.as_slice()),
         Err(_) => false,
     }
 }
 
 #[test]
-fn worked_texts_are_read_byte_by_byte(rt: HostRuntime) {
+fn refused_texts_are_read_again_in_pieces(rt: HostRuntime) {
+    let heap = Metered::new(rt.alloc());
     let mut all = true;
     for text in &[A, B, C, D, E, F, G, H, I, LAST] {
-        all &= reads(rt.alloc(), text);
+        all &= reads_after_refusals(&heap, &heap, text, 1);
+    }
+    for text in &[A, B, D, F, G, H, I, &long_block(), &many_notes()] {
+        all &= reads_after_refusals(&heap, &heap, text, 16);
     }
     assert!(rt; all);
 }
@@ -78,76 +118,51 @@ const UNKNOWN: &[u8] = b"OGD9\x00\x00\x00\x01\
       \x00\x00\x00\x01\x00\x00\x00\x01\x01\x00\x02\x07\x07\x00\x00\x00\x00\x00\x05\
       \x00\x00\x00\x00\x00\x00\x00\x01\x00\x00\x00\x02\x00\x00\x00\x03\x00\x00\x00\x01";
 
-// Whether the bytes are refused so, byte by byte.
-fn is_refused_in_pieces(alloc: Global, bytes: &[u8], error: DeltaError) -> bool {
+// Whether the bytes are refused so, at once and byte by byte.
+fn is_refused_twice<A: Allocator + Copy>(alloc: A, bytes: &[u8], error: DeltaError) -> bool {
     let mut reader = Reader::new(alloc);
-    match feed_pieces(&mut reader, bytes, 1) {
+    let refused = match feed_pieces(&mut reader, bytes, 1) {
         Ok(()) => match reader.finish() {
-            Ok(_) => false,
-            Err(refused) => refused == error,
+            Ok(_) => return false,
+            Err(refused) => refused,
         },
-        Err(refused) => refused == error,
-    }
+        Err(refused) => refused,
+    };
+    refused == error && is_refused(alloc, bytes, error)
 }
 
 #[test]
-fn other_bytes_are_refused(rt: HostRuntime) {
-    let mut all = true;
-    for (bytes, error) in [
-        (LONGER, DeltaError::Refused),
-        (SWAPPED, DeltaError::Refused),
-        (TWICE, DeltaError::Refused),
-        (COUNTED, DeltaError::Refused),
-        (UNKNOWN, DeltaError::Version),
-    ] {
-        all &= is_refused(rt.alloc(), bytes, error)
-            && is_refused_in_pieces(rt.alloc(), bytes, error);
+fn other_bytes_and_proper_prefixes_are_refused(rt: HostRuntime) {
+    let mut all = is_refused_twice(rt.alloc(), UNKNOWN, DeltaError::Version);
+    for bytes in &[LONGER, SWAPPED, TWICE, COUNTED] {
+        all &= is_refused_twice(rt.alloc(), bytes, DeltaError::Refused);
     }
-    assert!(rt; all);
-}
-
-// Whether each proper prefix of the text is refused.
-fn refuses_prefixes(alloc: Global, text: &[u8]) -> bool {
-    let mut all = true;
-    for end in 0..text.len() {
-        let error = if end < 4 {
-            DeltaError::Version
-        } else {
-            DeltaError::Refused
-        };
-        all &= is_refused(alloc, &text[..end], error)
-            && is_refused_in_pieces(alloc, &text[..end], error);
-    }
-    all
-}
-
-#[test]
-fn proper_prefixes_are_refused(rt: HostRuntime) {
-    let mut all = true;
     for text in &[A, D, F, H] {
-        all &= refuses_prefixes(rt.alloc(), text);
+        for end in 0..text.len() {
+            let error = if end < 4 {
+                DeltaError::Version
+            } else {
+                DeltaError::Refused
+            };
+            all &= is_refused_twice(rt.alloc(), &text[..end], error);
+        }
     }
     assert!(rt; all);
-}
-
-// How many operations are whole in so many bytes of D.
-fn whole_in_d(length: usize) -> usize {
-    match length {
-        0..=53 => 0,
-        54..=73 => 1,
-        _ => 2,
-    }
 }
 
 // Whether a reader of D, cut at two places, has after each piece the operations that are whole.
-fn reads_cut(alloc: Global, ops: &[Op<Global>], first: usize, second: usize) -> bool {
+fn reads_cut<A: Allocator + Copy>(alloc: A, ops: &[Op<A>], first: usize, second: usize) -> bool {
     let mut reader = Reader::new(alloc);
     let mut all = true;
     let mut start = 0;
     for end in [first, second, D.len()] {
-        let piece = D.get(start..end).unwrap_or(&[]);
-        all &= reader.feed(piece).is_ok()
-            && reader.items().len() == whole_in_d(end)
+        let whole = match end {
+            0..=53 => 0,
+            54..=73 => 1,
+            _ => 2,
+        };
+        all &= reader.feed(D.get(start..end).unwrap_or(&[])).is_ok()
+            && reader.items().len() == whole
             && ops.starts_with(reader.items());
         start = end;
     }
@@ -155,41 +170,21 @@ fn reads_cut(alloc: Global, ops: &[Op<Global>], first: usize, second: usize) -> 
 }
 
 // Whether that holds at each pair of places.
-fn reads_every_cut(alloc: Global, ops: &[Op<Global>]) -> bool {
-    let mut all = true;
+fn reads_every_cut<A: Allocator + Copy>(alloc: A) -> bool {
+    let Ok(list) = decode(alloc, D) else {
+        return false;
+    };
+    let mut all = list.len() == 2;
     for first in 0..=D.len() {
         for second in first..=D.len() {
-            all &= reads_cut(alloc, ops, first, second);
+            all &= reads_cut(alloc, list.as_slice(), first, second);
         }
     }
     all
 }
 
-fn reads_cut_d(alloc: Global) -> bool {
-    match decode(alloc, D) {
-        Ok(list) => list.len() == 2 && reads_every_cut(alloc, list.as_slice()),
-        Err(_) => false,
-    }
-}
-
-#[test]
-fn operations_come_as_they_are_whole(rt: HostRuntime) {
-    assert!(rt; reads_cut_d(rt.alloc()));
-}
-
-// Whether the reader has failed for good.
-fn has_failed<A: Allocator + Copy>(mut reader: Reader<A>) -> bool {
-    if !reader.items().is_empty() || reader.feed(&[]) != Err(DeltaError::Failed) {
-        return false;
-    }
-    match reader.finish() {
-        Ok(_) => false,
-        Err(refused) => refused == DeltaError::Failed,
-    }
-}
-
 // Whether a reader that has an operation refuses what follows, and has failed then.
-fn fails_for_good(alloc: Global) -> bool {
+fn fails_for_good<A: Allocator + Copy>(alloc: A) -> bool {
     let mut reader = Reader::new(alloc);
     reader.feed(&D[..60]).is_ok()
         && reader.items().len() == 1
@@ -198,52 +193,6 @@ fn fails_for_good(alloc: Global) -> bool {
 }
 
 #[test]
-fn readers_fail_for_good(rt: HostRuntime) {
-    assert!(rt; fails_for_good(rt.alloc()));
-}
-
-// Whether these are the operations of the text, fed in pieces of 16 bytes, after readers that were refused each request
-// for memory in turn, and failed. `heap` counts the requests of `alloc`.
-fn reads_again<A: Allocator + Copy>(
-    heap: &Metered<Global>,
-    alloc: A,
-    text: &[u8],
-    ops: &[Op<A>],
-) -> bool {
-    for grants in 0..1000u64 {
-        let mut reader = Reader::new(alloc);
-        heap.arm(grants);
-        let fed = feed_pieces(&mut reader, text, 16);
-        heap.arm(u64::MAX);
-        match fed {
-            Ok(()) => return grants > 0 && ends_as(reader, ops),
-            Err(refused) => {
-                if refused != DeltaError::OutOfMemory || !has_failed(reader) {
-                    return false;
-                }
-            }
-        }
-    }
-    false
-}
-
-fn reads_after_refusals<A: Allocator + Copy>(
-    heap: &Metered<Global>,
-    alloc: A,
-    text: &[u8],
-) -> bool {
-    match decode(alloc, text) {
-        Ok(list) => reads_again(heap, alloc, text, list.as_slice()),
-        Err(_) => false,
-    }
-}
-
-#[test]
-fn refused_texts_are_read_again(rt: HostRuntime) {
-    let heap = Metered::new(rt.alloc());
-    let mut all = true;
-    for text in &[A, B, D, F, G, H, I, &long_block(), &many_notes()] {
-        all &= reads_after_refusals(&heap, &heap, text);
-    }
-    assert!(rt; all);
+fn operations_come_as_they_are_whole_and_readers_fail_for_good(rt: HostRuntime) {
+    assert!(rt; reads_every_cut(rt.alloc()) && fails_for_good(rt.alloc()));
 }

@@ -68,16 +68,6 @@ fn copies_grow<A: Allocator + Copy>(alloc: A, code: Code) -> bool {
     values.extend_to(8).is_ok() && copy_grows(alloc, &values) && values.as_slice() == EIGHT
 }
 
-#[test]
-fn copies_grow_on_their_own(rt: HostRuntime) {
-    assert!(rt;
-        match Code::parse(b"0.77") {
-            Ok(code) => copies_grow(rt.alloc(), code),
-            Err(_) => false,
-        }
-    );
-}
-
 // Whether room for eight values is made where each request for memory is refused in turn, and two values stay.
 fn get_room<A: Allocator + Copy>(heap: &Metered<Global>, values: &mut Values<A>) -> bool {
     for grants in 0..10u64 {
@@ -107,20 +97,10 @@ fn grow<A: Allocator + Copy>(heap: &Metered<Global>, values: &mut Values<A>) -> 
 }
 
 // Whether the values of a game get room, and then grow.
-fn grow_after_refusals(heap: &Metered<Global>, code: Code) -> bool {
-    let mut values = Values::new(heap, code);
+fn grow_after_refusals<A: Allocator + Copy>(heap: &Metered<Global>, alloc: A, code: Code) -> bool {
+    heap.arm(u64::MAX);
+    let mut values = Values::new(alloc, code);
     values.extend_to(2).is_ok() && get_room(heap, &mut values) && grow(heap, &mut values)
-}
-
-#[test]
-fn refused_values_are_computed_again(rt: HostRuntime) {
-    let heap = Metered::new(rt.alloc());
-    assert!(rt;
-        match Code::parse(b"0.77") {
-            Ok(code) => grow_after_refusals(&heap, code),
-            Err(_) => false,
-        }
-    );
 }
 
 // Whether these are the first eight values of Kayles.
@@ -133,9 +113,9 @@ fn are_eight<A: Allocator + Copy>(values: &Values<A>, code: Code) -> bool {
 }
 
 // Whether values are made, computed within their room and read without a request for memory.
-fn take_no_memory(heap: &Metered<Global>, code: Code) -> bool {
+fn take_no_memory<A: Allocator + Copy>(heap: &Metered<Global>, alloc: A, code: Code) -> bool {
     heap.arm(1_000);
-    let mut values = Values::new(heap, code);
+    let mut values = Values::new(alloc, code);
     if heap.left() != 1_000 || values.room_to(8).is_err() {
         return false;
     }
@@ -145,11 +125,15 @@ fn take_no_memory(heap: &Metered<Global>, code: Code) -> bool {
 }
 
 #[test]
-fn answers_take_no_memory(rt: HostRuntime) {
+fn values_are_computed_again_and_read_without_memory(rt: HostRuntime) {
     let heap = Metered::new(rt.alloc());
     assert!(rt;
         match Code::parse(b"0.77") {
-            Ok(code) => take_no_memory(&heap, code),
+            Ok(code) => {
+                copies_grow(&heap, code)
+                    && grow_after_refusals(&heap, &heap, code)
+                    && take_no_memory(&heap, &heap, code)
+            }
             Err(_) => false,
         }
     );

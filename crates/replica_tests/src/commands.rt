@@ -7,13 +7,45 @@ use oct_ops::{NoteError, PeriodError};
 use oct_replica::{ComputeError, IssueError, LoadError, RemovalError, TakeError};
 use oct_sync::SyncError;
 use std::alloc::{AllocError, Global};
+use std::test::Fail;
 
-/// The state of author 7 without operations.
+/// What is asked of a state, with the file that a command reads or should write. A claim has the period 1, and a note the
+/// name a.
+#[derive(Clone, Copy)]
+enum Ask<'a> {
+    Init(u32),
+    Import(&'a [u8]),
+    Compute(&'a str, u32),
+    Period(&'a str, u32),
+    Note(&'a str),
+    Unnote(&'a str),
+    Merge(&'a [u8]),
+    Delta(&'a [u8]),
+    Value(&'a str, &'a [u64]),
+    Page(u32),
+    Show,
+}
+
+/// A command, and the text that it prints or the fault that refuses it.
+type Step<'a> = (Ask<'a>, Result<&'a str, Fault>);
+
+/// A state, the commands that are given on it one after the other, and the state in the end, where it is told.
+type Script<'a> = (&'a [u8], &'a [Step<'a>], &'a [u8]);
+
+/// The state of author 7 without operations, and without its last byte.
 const J: &[u8] = b"OGS1\0\0\0\x07OGD1\0\0\0\0";
 
-/// Kayles from heap 0, by author 1.
+const CUT_J: &[u8] = b"OGS1\0\0\0\x07OGD1\0\0\0";
+
+/// Kayles from heap 0, by author 1; without its last byte; and the state of author 7 with it.
 const A: &[u8] =
     b"OGD1\0\0\0\x01\0\0\0\x01\0\0\0\x01\x01\0\x02\x07\x07\0\0\0\0\0\x05\0\0\0\0\0\0\0\x01\0\0\0\x02\0\0\0\x03\0\0\0\x01";
+
+const CUT_A: &[u8] =
+    b"OGD1\0\0\0\x01\0\0\0\x01\0\0\0\x01\x01\0\x02\x07\x07\0\0\0\0\0\x05\0\0\0\0\0\0\0\x01\0\0\0\x02\0\0\0\x03\0\0\0";
+
+const WITH_A: &[u8] =
+    b"OGS1\0\0\0\x07OGD1\0\0\0\x01\0\0\0\x01\0\0\0\x01\x01\0\x02\x07\x07\0\0\0\0\0\x05\0\0\0\0\0\0\0\x01\0\0\0\x02\0\0\0\x03\0\0\0\x01";
 
 /// Notes 1.1 and 1.2, and the removal 2.1 of 1.1.
 const F: &[u8] = b"OGD1\0\0\0\x01\0\0\0\x01\0\0\0\x01\x03\x06kayles\x05early";
@@ -22,361 +54,274 @@ const G: &[u8] = b"OGD1\0\0\0\x01\0\0\0\x01\0\0\0\x02\x03\x06kayles\x05later";
 
 const H: &[u8] = b"OGD1\0\0\0\x01\0\0\0\x02\0\0\0\x01\x04\0\x01\0\0\0\x01\0\0\0\x01";
 
-// The bytes of a text in memory.
-fn bytes(alloc: Global, text: &str) -> Result<Vec<u8>, AllocError> {
-    Vec::from_slice(alloc, text.as_bytes())
-}
+/// The state of author 7 with these, and with the removal 7.1 of 1.2 alone.
+const WITH_REMOVAL: &[u8] =
+    b"OGS1\0\0\0\x07OGD1\0\0\0\x04\0\0\0\x01\0\0\0\x01\x03\x06kayles\x05early\0\0\0\x01\0\0\0\x02\x03\x06kayles\x05later\0\0\0\x02\0\0\0\x01\x04\0\x01\0\0\0\x01\0\0\0\x01\0\0\0\x07\0\0\0\x01\x04\0\x01\0\0\0\x01\0\0\0\x02";
 
-// Whether the command prints this text. Where it writes a state, that becomes the state.
-fn says(alloc: Global, state: &mut Vec<u8>, request: &Request, file: &[u8], text: &str) -> bool {
-    let Ok(reply) = perform(alloc, request, state, file) else {
-        return false;
-    };
-    let Reply {
-        state: new,
-        file: other,
-        text: said,
-    } = reply;
-    if let Some(new) = new {
-        *state = new;
-    }
-    other.is_none() && said.as_slice() == text.as_bytes()
-}
+/// The note 7.1 that was issued twice, the second time from an old state.
+const ONE: &[u8] = b"OGD1\0\0\0\x01\0\0\0\x07\0\0\0\x01\x03\x01a\x03one";
 
-// Whether the command is refused with this fault.
-fn refuses(alloc: Global, state: &[u8], request: &Request, file: &[u8], fault: Fault) -> bool {
-    match perform(alloc, request, state, file) {
-        Ok(_) => false,
-        Err(found) => found == fault,
-    }
-}
+const TWO: &[u8] = b"OGD1\0\0\0\x01\0\0\0\x07\0\0\0\x01\x03\x01a\x03two";
 
-// Whether the state of author 7 is made.
-fn makes_state(alloc: Global) -> bool {
-    let mut state = Vec::new(alloc);
-    says(
-        alloc,
-        &mut state,
-        &Request::Init { id: 7 },
-        b"",
-        "author 7\n",
-    ) && state.as_slice() == J
-}
-
-// Whether author 0 is refused, and what is no state.
-fn refuses_states(alloc: Global) -> bool {
-    refuses(alloc, b"", &Request::Init { id: 0 }, b"", Fault::Zero)
-        && refuses(
-            alloc,
-            &J[..15],
-            &Request::Show,
-            b"",
-            Fault::Load(LoadError::Refused),
-        )
-        && refuses(
-            alloc,
-            A,
-            &Request::Show,
-            b"",
-            Fault::Load(LoadError::Version),
-        )
-        && refuses(
-            alloc,
-            b"",
-            &Request::Show,
-            b"",
-            Fault::Load(LoadError::Version),
-        )
-}
-
-#[test]
-fn states_are_made(rt: HostRuntime) {
-    assert!(rt; makes_state(rt.alloc()) && refuses_states(rt.alloc()));
-}
-
-// Whether the deltas bring so much into the state, where each line says it.
-fn merges(alloc: Global, state: &mut Vec<u8>, deltas: &[&[u8]], text: &str) -> bool {
-    let mut all = true;
-    for delta in deltas {
-        all &= says(alloc, state, &Request::Merge, delta, text);
-    }
-    all
-}
-
-// Whether all operations of the state, of which there is one, are these bytes.
-fn sends_one(alloc: Global, state: &[u8], delta: &[u8]) -> bool {
-    match perform(alloc, &Request::Delta, state, b"") {
-        Ok(reply) => {
-            reply.text.as_slice() == b"operations 1\n".as_slice()
-                && match &reply.file {
-                    Some(file) => file.as_slice() == delta,
-                    None => false,
-                }
-        }
-        Err(_) => false,
-    }
-}
-
-// Whether A is merged once, and what is no delta is refused.
-fn merges_once(alloc: Global) -> bool {
-    let mut state = Vec::new(alloc);
-    let is_new = state.extend_from_slice(J).is_ok() && merges(alloc, &mut state, &[A], "new 1\n");
-    let length = state.len();
-    is_new
-        && merges(alloc, &mut state, &[A], "new 0\n")
-        && state.len() == length
-        && sends_one(alloc, &state, A)
-        && refuses(
-            alloc,
-            &state,
-            &Request::Merge,
-            J,
-            Fault::Merge(TakeError::Version),
-        )
-        && refuses(
-            alloc,
-            &state,
-            &Request::Merge,
-            &A[..46],
-            Fault::Merge(TakeError::Refused),
-        )
-}
-
-#[test]
-fn deltas_are_merged(rt: HostRuntime) {
-    assert!(rt; merges_once(rt.alloc()));
-}
-
-// Whether a file that is no block is refused.
-fn refuses_files(alloc: Global) -> bool {
-    let mut all = true;
-    for (file, fault) in [
-        (
-            br#"{"code":"0.07","values":[0]}"#.as_slice(),
-            Fault::Import(ImportError::Shape),
-        ),
-        (
-            br#"{"code":7,"start":0,"values":[]}"#,
-            Fault::Import(ImportError::Code),
-        ),
-        (
-            br#"{"code":".7","start":-1,"values":[]}"#,
-            Fault::Import(ImportError::Start),
-        ),
-        (
-            br#"{"code":".7","start":0,"values":[]}"#,
-            Fault::Import(ImportError::Empty),
-        ),
-        (b"{", Fault::Json),
-        (b"\"\xff\"", Fault::Json),
-        (b"", Fault::Json),
-    ] {
-        all &= refuses(alloc, J, &Request::Import, file, fault);
-    }
-    all
-}
-
-// Whether the command issues 7.1 from J on, and the catalogue is then this text.
-fn issues(alloc: Global, request: &Request, file: &[u8], text: &str) -> bool {
-    let mut state = Vec::new(alloc);
-    state.extend_from_slice(J).is_ok()
-        && says(alloc, &mut state, request, file, "issued 7.1\n")
-        && says(alloc, &mut state, &Request::Show, b"", text)
-}
+/// A block of Dawson's Kayles.
+const DAWSON: &[u8] = br#"{"code":"0.07","start":0,"values":[0,0,1,1,2,0,3]}"#;
 
 const IMPORTED: &str =
     "census 2\ngame 0.07 known 7\nvalues 0 0 0 1 1 2 0 3\nblock 7.1 at 0 count 7 proved\nauthor 7 through 1 last 1\nend\n";
 
-#[test]
-fn blocks_are_imported(rt: HostRuntime) {
-    let file = br#"{"code":"0.07","start":0,"values":[0,0,1,1,2,0,3]}"#;
-    assert!(rt; issues(rt.alloc(), &Request::Import, file, IMPORTED) && refuses_files(rt.alloc()));
-}
-
 const COMPUTED: &str =
     "census 2\ngame 0.137 known 6\nvalues 0 0 1 1 2 0 3\nblock 7.1 at 1 count 5 proved\nauthor 7 through 1 last 1\nend\n";
-
-// Whether five values of 0.137 are computed.
-fn computes_five(alloc: Global) -> bool {
-    match bytes(alloc, "0.137") {
-        Ok(code) => issues(alloc, &Request::Compute { code, count: 5 }, b"", COMPUTED),
-        Err(_) => false,
-    }
-}
-
-// Whether so many values of it are refused for this cause.
-fn refuses_count(alloc: Global, count: u32, cause: ComputeError) -> bool {
-    match bytes(alloc, "0.137") {
-        Ok(code) => {
-            let request = Request::Compute { code, count };
-            refuses(alloc, J, &request, b"", Fault::Compute(cause))
-        }
-        Err(_) => false,
-    }
-}
-
-#[test]
-fn blocks_are_computed(rt: HostRuntime) {
-    let alloc = rt.alloc();
-    assert!(rt;
-        computes_five(alloc)
-            && refuses_count(alloc, 0, ComputeError::Zero)
-            && refuses_count(alloc, 1_025, ComputeError::TooMany)
-    );
-}
-
-// The claim that the values of the code repeat from the start on, with the period 1.
-fn claim(alloc: Global, code: &str, start: u32) -> Option<Request> {
-    match bytes(alloc, code) {
-        Ok(code) => Some(Request::Period {
-            code,
-            start,
-            period: 1,
-        }),
-        Err(_) => None,
-    }
-}
-
-// Whether such a claim becomes the first operation of the state.
-fn claims(alloc: Global, state: &mut Vec<u8>, code: &str, start: u32) -> bool {
-    match claim(alloc, code, start) {
-        Some(request) => says(alloc, state, &request, b"", "issued 7.1\n"),
-        None => false,
-    }
-}
-
-// Whether such a claim is refused with this fault.
-fn refuses_claim(alloc: Global, state: &[u8], code: &str, start: u32, fault: Fault) -> bool {
-    match claim(alloc, code, start) {
-        Some(request) => refuses(alloc, state, &request, b"", fault),
-        None => false,
-    }
-}
-
-// Whether one claim is issued, and others are refused.
-fn issues_claims(alloc: Global) -> bool {
-    let mut state = Vec::new(alloc);
-    state.extend_from_slice(J).is_ok()
-        && claims(alloc, &mut state, ".3", 4_097)
-        && refuses_claim(
-            alloc,
-            &state,
-            "0.3",
-            65_537,
-            Fault::Period(PeriodError::PastLimit),
-        )
-        && refuses_claim(alloc, &state, "0.3", 0, Fault::Period(PeriodError::Zero))
-        && refuses_claim(alloc, &state, "0.8", 0, Fault::Code(CodeError::Digit))
-}
-
-#[test]
-fn claims_are_issued(rt: HostRuntime) {
-    assert!(rt; issues_claims(rt.alloc()));
-}
-
-// Whether the notes of the name are removed by the operation 7.1.
-fn removes(alloc: Global, state: &mut Vec<u8>, name: &str) -> bool {
-    match bytes(alloc, name) {
-        Ok(name) => says(alloc, state, &Request::Unnote { name }, b"", "issued 7.1\n"),
-        Err(_) => false,
-    }
-}
-
-// Whether it is refused that they are removed, since there is none.
-fn has_no_note(alloc: Global, state: &[u8], name: &str) -> bool {
-    match bytes(alloc, name) {
-        Ok(name) => {
-            let fault = Fault::Removal(RemovalError::NoNote);
-            refuses(alloc, state, &Request::Unnote { name }, b"", fault)
-        }
-        Err(_) => false,
-    }
-}
 
 const REMOVED: &str =
     "census 2\nauthor 1 through 2 last 2\nauthor 2 through 1 last 1\nauthor 7 through 1 last 1\nend\n";
 
-// Whether the live note is removed: the last operation is then the removal of 1.2 alone.
-fn removes_notes(alloc: Global) -> bool {
-    let mut state = Vec::new(alloc);
-    state.extend_from_slice(J).is_ok()
-        && merges(alloc, &mut state, &[F, G, H], "new 1\n")
-        && has_no_note(alloc, &state, "dawson")
-        && removes(alloc, &mut state, "kayles")
-        && state.ends_with(b"\0\0\0\x07\0\0\0\x01\x04\0\x01\0\0\0\x01\0\0\0\x02")
-        && says(alloc, &mut state, &Request::Show, b"", REMOVED)
-}
-
-#[test]
-fn notes_are_removed(rt: HostRuntime) {
-    assert!(rt; removes_notes(rt.alloc()));
-}
-
-// Whether the note 7.1 with the name a and this text is issued.
-fn notes(alloc: Global, state: &mut Vec<u8>, text: &str) -> bool {
-    let Ok(name) = bytes(alloc, "a") else {
-        return false;
-    };
-    match bytes(alloc, text) {
-        Ok(text) => says(
-            alloc,
-            state,
-            &Request::Note { name, text },
-            b"",
-            "issued 7.1\n",
-        ),
-        Err(_) => false,
-    }
-}
-
-// All operations of the state.
-fn delta_of(alloc: Global, state: &[u8]) -> Option<Vec<u8>> {
-    match perform(alloc, &Request::Delta, state, b"") {
-        Ok(reply) => reply.file,
-        Err(_) => None,
-    }
-}
-
-// The delta of that note, issued from J.
-fn noted(alloc: Global, text: &str) -> Option<Vec<u8>> {
-    let mut state = Vec::new(alloc);
-    if state.extend_from_slice(J).is_ok() && notes(alloc, &mut state, text) {
-        delta_of(alloc, &state)
-    } else {
-        None
-    }
-}
-
 const FORKED: &str =
     "census 2\nnote a 7.1 one\nnote a 7.1 two\nfork 7.1 contents 2\nauthor 7 through 1 last 1\nend\n";
 
-// Whether the two deltas make a fork where author 1 merges them.
-fn forks(alloc: Global, deltas: &[&[u8]]) -> bool {
-    let mut state = Vec::new(alloc);
-    says(
-        alloc,
-        &mut state,
-        &Request::Init { id: 1 },
-        b"",
-        "author 1\n",
-    ) && merges(alloc, &mut state, deltas, "new 1\n")
-        && says(alloc, &mut state, &Request::Show, b"", FORKED)
+// The command, with its words in memory.
+fn request_of(alloc: Global, ask: Ask) -> Result<Request, AllocError> {
+    Ok(match ask {
+        Ask::Init(id) => Request::Init { id },
+        Ask::Import(_) => Request::Import,
+        Ask::Compute(code, count) => {
+            let code = Vec::from_slice(alloc, code.as_bytes())?;
+            Request::Compute { code, count }
+        }
+        Ask::Period(code, start) => {
+            let code = Vec::from_slice(alloc, code.as_bytes())?;
+            Request::Period {
+                code,
+                start,
+                period: 1,
+            }
+        }
+        Ask::Note(text) => {
+            let text = Vec::from_slice(alloc, text.as_bytes())?;
+            let name = Vec::from_slice(alloc, b"a")?;
+            Request::Note { name, text }
+        }
+        Ask::Unnote(name) => {
+            let name = Vec::from_slice(alloc, name.as_bytes())?;
+            Request::Unnote { name }
+        }
+        Ask::Merge(_) => Request::Merge,
+        Ask::Delta(_) => Request::Delta,
+        Ask::Value(code, heaps) => {
+            let code = Vec::from_slice(alloc, code.as_bytes())?;
+            let heaps = Vec::from_slice(alloc, heaps)?;
+            Request::Value { code, heaps }
+        }
+        Ask::Page(number) => Request::Page { number },
+        Ask::Show => Request::Show,
+    })
 }
 
-// Whether that is so of two notes from the same state, in both orders.
-fn forks_in_both_orders(alloc: Global) -> bool {
-    let Some(one) = noted(alloc, "one") else {
+// Whether the command is answered so. Where it writes a state, that becomes the state.
+fn answers(alloc: Global, state: &mut Vec<u8>, ask: Ask, answer: Result<&str, Fault>) -> bool {
+    let Ok(request) = request_of(alloc, ask) else {
         return false;
     };
-    match noted(alloc, "two") {
-        Some(two) => forks(alloc, &[&one, &two]) && forks(alloc, &[&two, &one]),
-        None => false,
+    let (read, wanted) = match ask {
+        Ask::Import(file) | Ask::Merge(file) => (file, None),
+        Ask::Delta(file) => (&b""[..], Some(file)),
+        _ => (&b""[..], None),
+    };
+    match perform(alloc, &request, state, read) {
+        Ok(reply) => {
+            let Reply {
+                state: new,
+                file,
+                text,
+            } = reply;
+            if let Some(new) = new {
+                *state = new;
+            }
+            file.as_deref() == wanted && answer.map(str::as_bytes) == Ok(&text[..])
+        }
+        Err(fault) => answer == Err(fault),
     }
 }
 
+// Whether each command of the script is answered so, and leaves the state that is told.
+fn follows(alloc: Global, script: Script) -> bool {
+    let (start, steps, end) = script;
+    let Ok(mut state) = Vec::from_slice(alloc, start) else {
+        return false;
+    };
+    let mut all = true;
+    for &(ask, answer) in steps {
+        all &= answers(alloc, &mut state, ask, answer);
+    }
+    all && (end.is_empty() || state.as_slice() == end)
+}
+
+const SCRIPTS: &[Script<'static>] = &[
+    // A state of author 7 is made, and none of author 0; what is no state is refused.
+    (b"", &[(Ask::Init(7), Ok("author 7\n"))], J),
+    (b"", &[(Ask::Init(0), Err(Fault::Zero))], b""),
+    (
+        b"",
+        &[(Ask::Show, Err(Fault::Load(LoadError::Version)))],
+        b"",
+    ),
+    (A, &[(Ask::Show, Err(Fault::Load(LoadError::Version)))], b""),
+    (
+        CUT_J,
+        &[(Ask::Show, Err(Fault::Load(LoadError::Refused)))],
+        b"",
+    ),
+    // A is merged once, and what is no delta is refused.
+    (J, &[(Ask::Merge(A), Ok("new 1\n"))], WITH_A),
+    (
+        WITH_A,
+        &[
+            (Ask::Merge(A), Ok("new 0\n")),
+            (Ask::Delta(A), Ok("operations 1\n")),
+            (Ask::Merge(J), Err(Fault::Merge(TakeError::Version))),
+            (Ask::Merge(CUT_A), Err(Fault::Merge(TakeError::Refused))),
+        ],
+        WITH_A,
+    ),
+    // A file that is no block is refused, and a block is imported.
+    (J, REFUSED_FILES, J),
+    (
+        J,
+        &[
+            (Ask::Import(DAWSON), Ok("issued 7.1\n")),
+            (Ask::Show, Ok(IMPORTED)),
+        ],
+        b"",
+    ),
+    // Values are computed, neither none nor too many.
+    (
+        J,
+        &[
+            (
+                Ask::Compute("0.137", 0),
+                Err(Fault::Compute(ComputeError::Zero)),
+            ),
+            (
+                Ask::Compute("0.137", 1_025),
+                Err(Fault::Compute(ComputeError::TooMany)),
+            ),
+            (Ask::Compute("0.137", 5), Ok("issued 7.1\n")),
+            (Ask::Show, Ok(COMPUTED)),
+        ],
+        b"",
+    ),
+    // One claim is issued, and others are refused.
+    (
+        J,
+        &[
+            (Ask::Period(".3", 4_097), Ok("issued 7.1\n")),
+            (
+                Ask::Period("0.3", 65_537),
+                Err(Fault::Period(PeriodError::PastLimit)),
+            ),
+            (Ask::Period("0.3", 0), Err(Fault::Period(PeriodError::Zero))),
+            (Ask::Period("0.8", 0), Err(Fault::Code(CodeError::Digit))),
+        ],
+        b"",
+    ),
+    // The live note is removed.
+    (
+        J,
+        &[
+            (Ask::Merge(F), Ok("new 1\n")),
+            (Ask::Merge(G), Ok("new 1\n")),
+            (Ask::Merge(H), Ok("new 1\n")),
+            (
+                Ask::Unnote("dawson"),
+                Err(Fault::Removal(RemovalError::NoNote)),
+            ),
+            (Ask::Unnote("kayles"), Ok("issued 7.1\n")),
+            (Ask::Show, Ok(REMOVED)),
+        ],
+        WITH_REMOVAL,
+    ),
+    // Two notes from the same state make a fork where author 1 merges them, in both orders.
+    (
+        J,
+        &[
+            (Ask::Note("one"), Ok("issued 7.1\n")),
+            (Ask::Delta(ONE), Ok("operations 1\n")),
+        ],
+        b"",
+    ),
+    (
+        J,
+        &[
+            (Ask::Note("two"), Ok("issued 7.1\n")),
+            (Ask::Delta(TWO), Ok("operations 1\n")),
+        ],
+        b"",
+    ),
+    (
+        b"",
+        &[
+            (Ask::Init(1), Ok("author 1\n")),
+            (Ask::Merge(ONE), Ok("new 1\n")),
+            (Ask::Merge(TWO), Ok("new 1\n")),
+            (Ask::Show, Ok(FORKED)),
+        ],
+        b"",
+    ),
+    (
+        b"",
+        &[
+            (Ask::Init(1), Ok("author 1\n")),
+            (Ask::Merge(TWO), Ok("new 1\n")),
+            (Ask::Merge(ONE), Ok("new 1\n")),
+            (Ask::Show, Ok(FORKED)),
+        ],
+        b"",
+    ),
+    // Positions of Kayles have the values that A tells.
+    (
+        WITH_A,
+        &[
+            (
+                Ask::Value("0.77", &[1, 2, 3]),
+                Ok("value 0\nnext player loses\n"),
+            ),
+            (
+                Ask::Value("0.77", &[1, 2]),
+                Ok("value 3\nnext player wins\n"),
+            ),
+            (Ask::Value("0.77", &[5]), Ok("unknown at 0\n")),
+            (Ask::Value("0.77", &[]), Ok("value 0\nnext player loses\n")),
+        ],
+        b"",
+    ),
+];
+
+const REFUSED_FILES: &[Step<'static>] = &[
+    (
+        Ask::Import(br#"{"code":"0.07","values":[0]}"#),
+        Err(Fault::Import(ImportError::Shape)),
+    ),
+    (
+        Ask::Import(br#"{"code":7,"start":0,"values":[]}"#),
+        Err(Fault::Import(ImportError::Code)),
+    ),
+    (
+        Ask::Import(br#"{"code":".7","start":-1,"values":[]}"#),
+        Err(Fault::Import(ImportError::Start)),
+    ),
+    (
+        Ask::Import(br#"{"code":".7","start":0,"values":[]}"#),
+        Err(Fault::Import(ImportError::Empty)),
+    ),
+    (Ask::Import(b"{"), Err(Fault::Json)),
+    (Ask::Import(b"\"\xff\""), Err(Fault::Json)),
+    (Ask::Import(b""), Err(Fault::Json)),
+];
+
 #[test]
-fn an_old_backup_makes_a_fork(rt: HostRuntime) {
-    assert!(rt; forks_in_both_orders(rt.alloc()));
+fn commands_follow_each_other(rt: HostRuntime) {
+    for &script in SCRIPTS {
+        assert!(rt; follows(rt.alloc(), script));
+    }
 }
 
 // The delta of the notes 3.1 to 3.70 of the name n, without text.
@@ -410,35 +355,15 @@ fn many_blocks() -> [u8; 1_548] {
 const BLOCK_PAGE: &str =
     "block 3.62 at 0 count 1 proved\nblock 3.63 at 0 count 1 proved\nblock 3.64 at 0 count 1 proved\nblock 3.65 at 0 count 1 proved\nblock 3.66 at 0 count 1 proved\nblock 3.67 at 0 count 1 proved\nblock 3.68 at 0 count 1 proved\nblock 3.69 at 0 count 1 proved\nblock 3.70 at 0 count 1 proved\nauthor 3 through 70 last 70\nend\n";
 
-// Whether the second page of these 70 operations is this one, and the last.
-fn shows_pages(alloc: Global, delta: &[u8], page: &str) -> bool {
-    let mut state = Vec::new(alloc);
-    state.extend_from_slice(J).is_ok()
-        && merges(alloc, &mut state, &[delta], "new 70\n")
-        && says(alloc, &mut state, &Request::Page { number: 1 }, b"", page)
-        && refuses(
-            alloc,
-            &state,
-            &Request::Page { number: 2 },
-            b"",
-            Fault::NoPage,
-        )
-}
-
 #[test]
 fn pages_are_shown(rt: HostRuntime) {
-    assert!(rt; shows_pages(rt.alloc(), &many_notes(), PAGE));
-    assert!(rt; shows_pages(rt.alloc(), &many_blocks(), BLOCK_PAGE));
-}
-
-// Whether the position has this value.
-fn tells(alloc: Global, state: &mut Vec<u8>, code: &str, heaps: &[u64], text: &str) -> bool {
-    let Ok(code) = bytes(alloc, code) else {
-        return false;
-    };
-    match Vec::from_slice(alloc, heaps) {
-        Ok(heaps) => says(alloc, state, &Request::Value { code, heaps }, b"", text),
-        Err(_) => false,
+    for (delta, page) in [(&many_notes()[..], PAGE), (&many_blocks(), BLOCK_PAGE)] {
+        let steps = [
+            (Ask::Merge(delta), Ok("new 70\n")),
+            (Ask::Page(1), Ok(page)),
+            (Ask::Page(2), Err(Fault::NoPage)),
+        ];
+        assert!(rt; follows(rt.alloc(), (J, &steps, b"")));
     }
 }
 
@@ -453,64 +378,33 @@ fn long_kayles() -> [u8; 737] {
     delta
 }
 
-// Whether positions of Kayles have the values that A tells.
-fn has_values(alloc: Global) -> bool {
-    let mut state = Vec::new(alloc);
-    let mut all = state.extend_from_slice(J).is_ok() && merges(alloc, &mut state, &[A], "new 1\n");
-    for (heaps, text) in [
-        (&[1, 2, 3][..], "value 0\nnext player loses\n"),
-        (&[1, 2], "value 3\nnext player wins\n"),
-        (&[5], "unknown at 0\n"),
-        (&[], "value 0\nnext player loses\n"),
-    ] {
-        all &= tells(alloc, &mut state, "0.77", heaps, text);
-    }
-    all
-}
-
-#[test]
-fn positions_have_values(rt: HostRuntime) {
-    assert!(rt; has_values(rt.alloc()));
-}
-
 // Kayles 1.4 at 167 count 1.
 const LAST: &[u8] =
     b"OGD1\0\0\0\x01\0\0\0\x01\0\0\0\x04\x01\0\x02\x07\x07\0\0\0\xa7\0\x01\0\0\0\x07";
 
-// Whether the state gives the values that follow from the claim.
-fn has_far_values(alloc: Global, state: &mut Vec<u8>) -> bool {
-    let mut all = true;
-    for (code, heaps, text) in [
-        ("0.77", &[1_000_000_000][..], "value 1\nnext player wins\n"),
-        ("0.77", &[5, 6], "value 7\nnext player wins\n"),
-        ("0.77", &[], "value 0\nnext player loses\n"),
-        ("0.77", &[0], "value 0\nnext player loses\n"),
-        ("0.07", &[1], "unknown at 0\n"),
-    ] {
-        all &= tells(alloc, state, code, heaps, text);
-    }
-    all
-}
-
-// Whether the claim gives them once its last value is there, and not before.
-fn follows_claims(alloc: Global) -> bool {
-    let mut state = Vec::new(alloc);
-    state.extend_from_slice(J).is_ok()
-        && merges(alloc, &mut state, &[&long_kayles()], "new 3\n")
-        && tells(
-            alloc,
-            &mut state,
-            "0.77",
-            &[5, 1_000_000_000],
-            "unknown at 1\n",
-        )
-        && merges(alloc, &mut state, &[LAST], "new 1\n")
-        && has_far_values(alloc, &mut state)
-}
-
+// The claim gives values once its last value is there, and not before.
 #[test]
 fn claims_give_values(rt: HostRuntime) {
-    assert!(rt; follows_claims(rt.alloc()));
+    let steps = [
+        (Ask::Merge(&long_kayles()), Ok("new 3\n")),
+        (
+            Ask::Value("0.77", &[5, 1_000_000_000]),
+            Ok("unknown at 1\n"),
+        ),
+        (Ask::Merge(LAST), Ok("new 1\n")),
+        (
+            Ask::Value("0.77", &[1_000_000_000]),
+            Ok("value 1\nnext player wins\n"),
+        ),
+        (
+            Ask::Value("0.77", &[5, 6]),
+            Ok("value 7\nnext player wins\n"),
+        ),
+        (Ask::Value("0.77", &[]), Ok("value 0\nnext player loses\n")),
+        (Ask::Value("0.77", &[0]), Ok("value 0\nnext player loses\n")),
+        (Ask::Value("0.07", &[1]), Ok("unknown at 0\n")),
+    ];
+    assert!(rt; follows(rt.alloc(), (J, &steps, b"")));
 }
 
 #[test]
@@ -523,35 +417,30 @@ fn words_are_numbers(rt: HostRuntime) {
     assert!(rt; all);
 }
 
-// Whether the fault has this text and this status.
-fn is_named(alloc: Global, fault: Fault, text: &str, status: u8) -> bool {
-    match format!(in alloc; "{fault}") {
-        Ok(shown) => shown.as_str() == text && fault.status() == status,
-        Err(_) => false,
-    }
-}
+/// Faults, and their texts and statuses.
+const FAULTS: &[(Fault, &str, u8)] = &[
+    (Fault::Code(CodeError::Digit), "Code Digit", 1),
+    (Fault::Load(LoadError::Version), "Load Version", 1),
+    (Fault::Import(ImportError::Shape), "Import Shape", 1),
+    (Fault::Compute(ComputeError::AtLimit), "Compute AtLimit", 1),
+    (Fault::Period(PeriodError::Zero), "Period Zero", 1),
+    (Fault::Note(NoteError::Name), "Note Name", 1),
+    (Fault::Removal(RemovalError::NoNote), "Removal NoNote", 1),
+    (Fault::Merge(TakeError::Refused), "Merge Refused", 1),
+    (Fault::Issue(IssueError::LastNumber), "Issue LastNumber", 1),
+    (Fault::Sync(SyncError::Order), "Sync Order", 1),
+    (Fault::Sync(SyncError::Cut), "Sync Cut", 3),
+    (Fault::NoPage, "NoPage", 1),
+    (Fault::Number, "Number", 2),
+    (Fault::Exists, "Exists", 3),
+    (Fault::OutOfMemory, "OutOfMemory", 4),
+];
 
 #[test]
-fn faults_are_named(rt: HostRuntime) {
-    let mut all = true;
-    for (fault, text, status) in [
-        (Fault::Code(CodeError::Digit), "Code Digit", 1),
-        (Fault::Load(LoadError::Version), "Load Version", 1),
-        (Fault::Import(ImportError::Shape), "Import Shape", 1),
-        (Fault::Compute(ComputeError::AtLimit), "Compute AtLimit", 1),
-        (Fault::Period(PeriodError::Zero), "Period Zero", 1),
-        (Fault::Note(NoteError::Name), "Note Name", 1),
-        (Fault::Removal(RemovalError::NoNote), "Removal NoNote", 1),
-        (Fault::Merge(TakeError::Refused), "Merge Refused", 1),
-        (Fault::Issue(IssueError::LastNumber), "Issue LastNumber", 1),
-        (Fault::Sync(SyncError::Order), "Sync Order", 1),
-        (Fault::Sync(SyncError::Cut), "Sync Cut", 3),
-        (Fault::NoPage, "NoPage", 1),
-        (Fault::Number, "Number", 2),
-        (Fault::Exists, "Exists", 3),
-        (Fault::OutOfMemory, "OutOfMemory", 4),
-    ] {
-        all &= is_named(rt.alloc(), fault, text, status);
+fn faults_are_named(rt: HostRuntime) -> Result<(), Fail> {
+    for &(fault, text, status) in FAULTS {
+        let shown = format!(in rt.alloc(); "{fault}")?;
+        assert!(rt; shown.as_str() == text && fault.status() == status);
     }
-    assert!(rt; all);
+    Ok(())
 }

@@ -154,62 +154,37 @@ const IN_EVERY_ORDER: &[([&str; 3], &str)] = &[
     ([EARLY, LATER, REMOVAL], LATER_SHOWN),
 ];
 
-// The lines, each with a line feed.
-fn lines_of<A: Allocator>(alloc: A, lines: &[&str]) -> Option<Vec<u8, A>> {
+// Whether the lines, each with a line feed, give this catalogue and so many refusals.
+fn folds<A: Allocator + Copy>(alloc: A, lines: &[&str], shown: &str, refused: u64) -> bool {
     let mut input = Vec::new(alloc);
     let mut fits = true;
     for line in lines {
         fits &= input.extend_from_slice(line.as_bytes()).is_ok() && input.push(b'\n').is_ok();
     }
-    if fits { Some(input) } else { None }
-}
-
-// Whether the input gives this catalogue and so many refusals.
-fn folds<A: Allocator + Copy>(alloc: A, mut input: &[u8], shown: &str, refused: u64) -> bool {
     let mut out = Vec::new(alloc);
-    fold_lines(alloc, &mut input, &mut out) == Ok(refused) && out.as_slice() == shown.as_bytes()
-}
-
-// Whether the lines do.
-fn folds_lines<A: Allocator + Copy>(alloc: A, lines: &[&str], shown: &str, refused: u64) -> bool {
-    match lines_of(alloc, lines) {
-        Some(input) => folds(alloc, &input, shown, refused),
-        None => false,
-    }
-}
-
-// Whether each of the cases is as it should be.
-fn folds_all<A: Allocator + Copy>(alloc: A, cases: &[Case]) -> bool {
-    let mut all = true;
-    for &(lines, shown, refused) in cases {
-        all &= folds_lines(alloc, lines, shown, refused);
-    }
-    all
-}
-
-#[test]
-fn lines_are_folded(rt: HostRuntime) {
-    assert!(rt; folds_all(rt.alloc(), CASES));
+    fits && fold_lines(alloc, &mut &input[..], &mut out) == Ok(refused)
+        && out.as_slice() == shown.as_bytes()
 }
 
 // Whether three lines give this catalogue in each of their six orders.
 fn folds_orders<A: Allocator + Copy>(alloc: A, lines: [&str; 3], shown: &str) -> bool {
     let [one, two, three] = lines;
-    folds_lines(alloc, &[one, two, three], shown, 0)
-        && folds_lines(alloc, &[one, three, two], shown, 0)
-        && folds_lines(alloc, &[two, one, three], shown, 0)
-        && folds_lines(alloc, &[two, three, one], shown, 0)
-        && folds_lines(alloc, &[three, one, two], shown, 0)
-        && folds_lines(alloc, &[three, two, one], shown, 0)
+    folds(alloc, &[one, two, three], shown, 0)
+        && folds(alloc, &[one, three, two], shown, 0)
+        && folds(alloc, &[two, one, three], shown, 0)
+        && folds(alloc, &[two, three, one], shown, 0)
+        && folds(alloc, &[three, one, two], shown, 0)
+        && folds(alloc, &[three, two, one], shown, 0)
 }
 
 #[test]
-fn order_does_not_matter(rt: HostRuntime) {
-    let mut all = true;
-    for &(lines, shown) in IN_EVERY_ORDER {
-        all &= folds_orders(rt.alloc(), lines, shown);
+fn lines_are_folded(rt: HostRuntime) {
+    for &(lines, shown, refused) in CASES {
+        assert!(rt; folds(rt.alloc(), lines, shown, refused));
     }
-    assert!(rt; all);
+    for &(lines, shown) in IN_EVERY_ORDER {
+        assert!(rt; folds_orders(rt.alloc(), lines, shown));
+    }
 }
 
 // Whether a reader and a writer of this number give this to the fold of FIRST without a line feed: they end well, the

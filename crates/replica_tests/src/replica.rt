@@ -119,49 +119,22 @@ fn prints<A: Allocator + Copy>(alloc: A, deltas: &[&[u8]], wanted: &str) -> bool
     }
 }
 
-// Whether the replica is joined with one that takes a delta of one operation.
-fn joins_one<A: Allocator + Copy>(alloc: A, replica: &mut Replica<A>, delta: &[u8]) -> bool {
-    match Replica::new(alloc, 1) {
-        Ok(mut other) => takes(&mut other, &[delta], 1) && replica.join(&other).is_ok(),
-        Err(_) => false,
-    }
-}
-
 // Whether a replica of author 7 that takes a delta of one operation and is joined with one that took another prints the
-// text, and holds so many operations.
-fn joins<A: Allocator + Copy>(
-    alloc: A,
-    ours: &[u8],
-    theirs: &[u8],
-    wanted: &str,
-    count: usize,
-) -> bool {
-    match Replica::new(alloc, 7) {
-        Ok(mut replica) => {
-            takes(&mut replica, &[ours], 1)
-                && joins_one(alloc, &mut replica, theirs)
-                && shows(alloc, &replica, wanted)
-                && replica.author() == 7
-                && replica.len() == count
-                && !replica.is_empty()
-        }
-        Err(_) => false,
-    }
-}
-
-#[test]
-fn order_does_not_matter(rt: HostRuntime) {
-    let alloc = rt.alloc();
-    assert!(rt;
-        prints(alloc, &[&A, &B], BOTH)
-            && prints(alloc, &[&B, &A], BOTH)
-            && prints(alloc, &[&B], ALONE)
-    );
-}
-
-#[test]
-fn joined_replicas_print_both(rt: HostRuntime) {
-    assert!(rt; joins(rt.alloc(), &A, &B, BOTH, 2));
+// text, and holds both operations.
+fn joins<A: Allocator + Copy>(alloc: A, ours: &[u8], theirs: &[u8], wanted: &str) -> bool {
+    let Ok(mut replica) = Replica::new(alloc, 7) else {
+        return false;
+    };
+    let Ok(mut other) = Replica::new(alloc, 1) else {
+        return false;
+    };
+    takes(&mut replica, &[ours], 1)
+        && takes(&mut other, &[theirs], 1)
+        && replica.join(&other).is_ok()
+        && shows(alloc, &replica, wanted)
+        && replica.author() == 7
+        && replica.len() == 2
+        && !replica.is_empty()
 }
 
 // Kayles by author 1: two values from place 2, five from place 3.
@@ -171,11 +144,6 @@ const SECOND: &[u8] =
 const THIRD: &[u8] =
     b"OGD1\x00\x00\x00\x01\x00\x00\x00\x01\x00\x00\x00\x03\x01\x00\x02\x07\x07\x00\x00\x00\x03\x00\x05\x00\x00\x00\x03\x00\x00\x00\x01\x00\x00\x00\x04\x00\x00\x00\x03\x00\x00\x00\x02";
 
-#[test]
-fn what_comes_again_is_not_new(rt: HostRuntime) {
-    assert!(rt; prints(rt.alloc(), &[&A, SECOND, THIRD], OVERLAPPING));
-}
-
 // The note 7.1 that was issued twice, the second time from an old state.
 const ONE: &[u8] = b"OGD1\x00\x00\x00\x01\x00\x00\x00\x07\x00\x00\x00\x01\x03\x01a\x03one";
 
@@ -184,31 +152,42 @@ const TWO: &[u8] = b"OGD1\x00\x00\x00\x01\x00\x00\x00\x07\x00\x00\x00\x01\x03\x0
 const FORKED: &str =
     "census 2\nnote a 7.1 one\nnote a 7.1 two\nfork 7.1 contents 2\nauthor 7 through 1 last 1\nend\n";
 
-#[test]
-fn an_old_state_makes_a_fork(rt: HostRuntime) {
-    let alloc = rt.alloc();
-    assert!(rt;
-        prints(alloc, &[ONE, TWO], FORKED)
-            && prints(alloc, &[TWO, ONE], FORKED)
-            && joins(alloc, TWO, ONE, FORKED, 2)
-    );
+// Byte strings of one operation each, and what a replica prints that takes them.
+const PRINTED: &[(&[&[u8]], &str)] = &[
+    (&[&A, &B], BOTH),
+    (&[&B, &A], BOTH),
+    (&[&B], ALONE),
+    (&[&A, SECOND, THIRD], OVERLAPPING),
+    (&[ONE, TWO], FORKED),
+    (&[TWO, ONE], FORKED),
+    (&[&F, &G, &H], LATER),
+    (&[&F, &H, &G], LATER),
+    (&[&G, &F, &H], LATER),
+    (&[&G, &H, &F], LATER),
+    (&[&H, &F, &G], LATER),
+    (&[&H, &G, &F], LATER),
+];
+
+// Whether a replica that takes the list of D prints its text.
+fn prints_list<A: Allocator + Copy>(alloc: A) -> bool {
+    let Ok(mut replica) = Replica::new(alloc, 1) else {
+        return false;
+    };
+    let Ok(list) = decode(alloc, &D) else {
+        return false;
+    };
+    list.len() == 2 && replica.take_list(list) == Ok(2) && shows(alloc, &replica, TURNS)
 }
 
 #[test]
-fn removals_hold_in_every_order(rt: HostRuntime) {
+fn operations_come_in_any_order(rt: HostRuntime) {
     let alloc = rt.alloc();
-    let mut all = true;
-    for deltas in [
-        [&F[..], &G, &H],
-        [&F, &H, &G],
-        [&G, &F, &H],
-        [&G, &H, &F],
-        [&H, &F, &G],
-        [&H, &G, &F],
-    ] {
-        all &= prints(alloc, &deltas, LATER);
+    for &(deltas, wanted) in PRINTED {
+        assert!(rt; prints(alloc, deltas, wanted));
     }
-    assert!(rt; all);
+    assert!(rt; joins(alloc, &A, &B, BOTH));
+    assert!(rt; joins(alloc, TWO, ONE, FORKED));
+    assert!(rt; prints_list(alloc));
 }
 
 /// The nim-values of Kayles for the heaps below 84, of which the last twelve repeat.
@@ -252,26 +231,22 @@ fn has_values<A: Allocator + Copy>(replica: &Replica<A>, code: Code, other: Code
         && replica.outcome(other, &[]) == Outcome::NextLoses
 }
 
-// Whether its catalogue has one page, which starts like this.
-fn has_one_page<A: Allocator + Copy>(alloc: A, replica: &Replica<A>, start: &[u8]) -> bool {
+// Whether the claim gives values once its last value is there, and not before, and the catalogue has then one page.
+fn follows_claims<A: Allocator + Copy>(alloc: A) -> bool {
+    let Some((code, other)) = codes() else {
+        return false;
+    };
+    let Ok(mut replica) = Replica::new(alloc, 1) else {
+        return false;
+    };
     let mut text = Vec::new(alloc);
-    replica.page(0, &mut text) == Ok(true)
-        && text.starts_with(start)
+    takes(&mut replica, &[&long_block(), RIGHT, EARLY], 1)
+        && replica.value(code, &[5, 1_000_000_000]) == Err(Unknown { index: 1 })
+        && takes(&mut replica, &[LAST], 1)
+        && has_values(&replica, code, other)
+        && replica.page(0, &mut text) == Ok(true)
+        && text.starts_with(b"census 2\ngame 0.77 known 168\n")
         && replica.page(1, &mut text) == Ok(false)
-}
-
-// Whether the claim gives values once its last value is there, and not before.
-fn follows_claims<A: Allocator + Copy>(alloc: A, code: Code, other: Code) -> bool {
-    match Replica::new(alloc, 1) {
-        Ok(mut replica) => {
-            takes(&mut replica, &[&long_block(), RIGHT, EARLY], 1)
-                && replica.value(code, &[5, 1_000_000_000]) == Err(Unknown { index: 1 })
-                && takes(&mut replica, &[LAST], 1)
-                && has_values(&replica, code, other)
-                && has_one_page(alloc, &replica, b"census 2\ngame 0.77 known 168\n")
-        }
-        Err(_) => false,
-    }
 }
 
 // The codes of Kayles and of Dawson's Kayles.
@@ -280,16 +255,6 @@ fn codes() -> Option<(Code, Code)> {
         (Ok(code), Ok(other)) => Some((code, other)),
         _ => None,
     }
-}
-
-#[test]
-fn values_follow_a_proved_claim(rt: HostRuntime) {
-    assert!(rt;
-        match codes() {
-            Some((code, other)) => follows_claims(rt.alloc(), code, other),
-            None => false,
-        }
-    );
 }
 
 // Issues a note without text, where it can, and gives the author and the number of its dot.
@@ -306,14 +271,6 @@ fn issued<A: Allocator + Copy>(
     }
 }
 
-// Whether one operation is beyond the clock.
-fn has_one_beyond<A: Allocator + Copy>(replica: &Replica<A>, clock: &Clock<A>) -> bool {
-    match replica.beyond(clock) {
-        Ok(list) => list.len() == 1,
-        Err(_) => false,
-    }
-}
-
 // Whether the delta beyond the clock is this.
 fn sends_beyond<A: Allocator + Copy>(
     alloc: A,
@@ -327,10 +284,11 @@ fn sends_beyond<A: Allocator + Copy>(
 
 // Whether one operation is beyond the replica's own clock, and the delta of it is this.
 fn sends<A: Allocator + Copy>(alloc: A, replica: &Replica<A>, wanted: &[u8]) -> bool {
-    match replica.clock() {
-        Ok(clock) => {
-            has_one_beyond(replica, &clock) && sends_beyond(alloc, replica, &clock, wanted)
-        }
+    let Ok(clock) = replica.clock() else {
+        return false;
+    };
+    match replica.beyond(&clock) {
+        Ok(list) => list.len() == 1 && sends_beyond(alloc, replica, &clock, wanted),
         Err(_) => false,
     }
 }
@@ -354,24 +312,6 @@ fn issues_after_the_last<A: Allocator + Copy>(alloc: A) -> bool {
     }
 }
 
-#[test]
-fn numbers_are_issued_after_the_last(rt: HostRuntime) {
-    assert!(rt; issues_after_the_last(rt.alloc()));
-}
-
-// Whether the block of the next five values of the game is this one.
-fn computes_five<A: Allocator + Copy>(
-    replica: &Replica<A>,
-    code: Code,
-    start: u32,
-    values: &[u32],
-) -> bool {
-    match replica.compute(code, 5) {
-        Ok(block) => block.code() == code && block.start() == start && block.values() == values,
-        Err(_) => false,
-    }
-}
-
 // Whether the next values of the game are not computed, for this reason.
 fn computes_none<A: Allocator + Copy>(
     replica: &Replica<A>,
@@ -385,11 +325,22 @@ fn computes_none<A: Allocator + Copy>(
     }
 }
 
+// Whether the block of the next five values of the game is this one.
+fn computes_five<A: Allocator + Copy>(replica: &Replica<A>, code: Code, values: &[u32]) -> bool {
+    match replica.compute(code, 5) {
+        Ok(block) => block.code() == code && block.start() == 1 && block.values() == values,
+        Err(_) => false,
+    }
+}
+
 // Whether an empty replica computes five values of 0.137, neither none nor too many, and stays empty.
-fn computes_first<A: Allocator + Copy>(alloc: A, code: Code) -> bool {
+fn computes_first<A: Allocator + Copy>(alloc: A) -> bool {
+    let Ok(code) = Code::parse(b"0.137") else {
+        return false;
+    };
     match Replica::new(alloc, 7) {
         Ok(replica) => {
-            computes_five(&replica, code, 1, &[1, 1, 2, 0, 3])
+            computes_five(&replica, code, &[1, 1, 2, 0, 3])
                 && computes_none(&replica, code, 0, ComputeError::Zero)
                 && computes_none(&replica, code, 1_025, ComputeError::TooMany)
                 && replica.len() == 0
@@ -398,96 +349,69 @@ fn computes_first<A: Allocator + Copy>(alloc: A, code: Code) -> bool {
     }
 }
 
-// Whether the block has so many values from the start on, in turn 0 and 1.
-fn takes_turns<A: Allocator>(block: &Block<A>, start: u32, count: usize) -> bool {
-    let mut right = block.start() == start && block.values().len() == count;
-    let mut value = start % 2;
-    for claimed in block.values() {
-        right &= *claimed == value;
-        value ^= 1;
-    }
-    right
-}
-
-// Whether the block of the next values of 0.3 is this one. It is issued.
+// Whether the block of the next values of 0.3 has so many from the start on, in turn 0 and 1. It is issued.
 fn goes_on<A: Allocator + Copy>(
     replica: &mut Replica<A>,
     code: Code,
     start: u32,
     count: usize,
 ) -> bool {
-    match replica.compute(code, 1_024) {
-        Ok(block) => {
-            let right = takes_turns(&block, start, count);
-            replica.issue(Body::Block(block)).is_ok() && right
-        }
-        Err(_) => false,
+    let Ok(block) = replica.compute(code, 1_024) else {
+        return false;
+    };
+    let mut right = block.start() == start && block.values().len() == count;
+    let mut value = start % 2;
+    for claimed in block.values() {
+        right &= *claimed == value;
+        value ^= 1;
     }
+    replica.issue(Body::Block(block)).is_ok() && right
 }
 
 // Whether the values of 0.3 are computed up to the limit, and none beyond it.
-fn computes_all<A: Allocator + Copy>(alloc: A, code: Code) -> bool {
-    match Replica::new(alloc, 7) {
-        Ok(mut replica) => {
-            let mut all = true;
-            for turn in 0..63u32 {
-                all &= goes_on(&mut replica, code, 1_024 * turn + 1, 1_024);
-            }
-            all && goes_on(&mut replica, code, 64_513, 1_023)
-                && computes_none(&replica, code, 1_025, ComputeError::TooMany)
-                && computes_none(&replica, code, 1, ComputeError::AtLimit)
-        }
-        Err(_) => false,
+fn computes_all<A: Allocator + Copy>(alloc: A) -> bool {
+    let Ok(code) = Code::parse(b"0.3") else {
+        return false;
+    };
+    let Ok(mut replica) = Replica::new(alloc, 7) else {
+        return false;
+    };
+    let mut all = true;
+    for turn in 0..63u32 {
+        all &= goes_on(&mut replica, code, 1_024 * turn + 1, 1_024);
     }
+    all && goes_on(&mut replica, code, 64_513, 1_023)
+        && computes_none(&replica, code, 1_025, ComputeError::TooMany)
+        && computes_none(&replica, code, 1, ComputeError::AtLimit)
 }
 
-#[test]
-fn the_next_values_are_computed(rt: HostRuntime) {
-    assert!(rt;
-        match (Code::parse(b"0.137"), Code::parse(b"0.3")) {
-            (Ok(code), Ok(turns)) => {
-                computes_first(rt.alloc(), code) && computes_all(rt.alloc(), turns)
-            }
-            _ => false,
-        }
-    );
-}
-
-// Whether the removal of the notes of the name names this dot alone.
-fn removes<A: Allocator + Copy>(replica: &Replica<A>, name: &[u8], dot: (u32, u32)) -> bool {
-    match replica.removal(name) {
-        Ok(removal) => match removal.dots() {
-            [only] => (only.author(), only.number()) == dot,
-            _ => false,
-        },
-        Err(_) => false,
-    }
-}
-
-// Whether no note has the name.
-fn removes_none<A: Allocator + Copy>(replica: &Replica<A>, name: &[u8]) -> bool {
-    match replica.removal(name) {
-        Ok(_) => false,
-        Err(refused) => refused == RemovalError::NoNote,
-    }
-}
-
-// Whether the live note of F, G and H is removed by its name, and no other one.
+// Whether the live note of F, G and H is removed by its name alone, and no other one.
 fn removes_by_name<A: Allocator + Copy>(alloc: A) -> bool {
-    match Replica::new(alloc, 1) {
-        Ok(mut replica) => {
-            takes(&mut replica, &[&F, &G, &H], 1)
-                && removes(&replica, b"kayles", (1, 2))
-                && removes_none(&replica, b"dawson")
-                && replica.len() == 3
-        }
-        Err(_) => false,
-    }
+    let Ok(mut replica) = Replica::new(alloc, 1) else {
+        return false;
+    };
+    let is_taken = takes(&mut replica, &[&F, &G, &H], 1);
+    let Ok(removal) = replica.removal(b"kayles") else {
+        return false;
+    };
+    let is_right = match removal.dots() {
+        [only] => only.author() == 1 && only.number() == 2,
+        _ => false,
+    };
+    is_taken
+        && is_right
+        && matches!(replica.removal(b"dawson"), Err(RemovalError::NoNote))
+        && replica.len() == 3
 }
 
 #[test]
-fn live_notes_are_removed_by_name(rt: HostRuntime) {
-    assert!(rt; removes_by_name(rt.alloc()));
+fn operations_are_issued(rt: HostRuntime) {
+    let alloc = rt.alloc();
+    assert!(rt; follows_claims(alloc));
+    assert!(rt; issues_after_the_last(alloc));
+    assert!(rt; computes_first(alloc));
+    assert!(rt; computes_all(alloc));
+    assert!(rt; removes_by_name(alloc));
 }
 
 // Whether each proper prefix of the delta is refused.
@@ -521,51 +445,39 @@ const REPEATED: &[u8] =
 const FALLING: &[u8] =
     b"OGD1\x00\x00\x00\x02\x00\x00\x00\x01\x00\x00\x00\x02\x02\x00\x01\x03\x00\x00\x00\x01\x00\x00\x00\x02\x00\x00\x00\x01\x00\x00\x00\x01\x01\x00\x01\x03\x00\x00\x00\x00\x00\x07\x00\x00\x00\x00\x00\x00\x00\x01\x00\x00\x00\x00\x00\x00\x00\x01\x00\x00\x00\x00\x00\x00\x00\x01\x00\x00\x00\x00";
 
-// Whether each of those is refused.
-fn refuses_changes<A: Allocator + Copy>(replica: &mut Replica<A>) -> bool {
-    replica.take(LONGER) == Err(TakeError::Refused)
-        && replica.take(OTHER_TAG) == Err(TakeError::Version)
-        && replica.take(GREAT_COUNT) == Err(TakeError::Refused)
-        && replica.take(FALLING) == Err(TakeError::Refused)
-        && replica.take(REPEATED) == Err(TakeError::Refused)
-}
+// Those, and why they are refused.
+const CHANGED: &[(&[u8], TakeError)] = &[
+    (LONGER, TakeError::Refused),
+    (OTHER_TAG, TakeError::Version),
+    (GREAT_COUNT, TakeError::Refused),
+    (FALLING, TakeError::Refused),
+    (REPEATED, TakeError::Refused),
+];
 
 // Whether a replica stays empty where it refuses bytes that are no delta.
 fn stays_empty<A: Allocator + Copy>(alloc: A) -> bool {
-    match Replica::new(alloc, 1) {
-        Ok(mut replica) => {
-            refuses_prefixes(&mut replica, &A)
-                && refuses_prefixes(&mut replica, &D)
-                && refuses_prefixes(&mut replica, &F)
-                && refuses_prefixes(&mut replica, &H)
-                && refuses_changes(&mut replica)
-                && shows(alloc, &replica, EMPTY)
-        }
-        Err(_) => false,
+    let Ok(mut replica) = Replica::new(alloc, 1) else {
+        return false;
+    };
+    let mut all = true;
+    for delta in [&A[..], &D, &F, &H] {
+        all &= refuses_prefixes(&mut replica, delta);
     }
-}
-
-#[test]
-fn bytes_that_are_no_delta_change_nothing(rt: HostRuntime) {
-    assert!(rt; stays_empty(rt.alloc()));
-}
-
-// Whether all operations of the replica are these bytes.
-fn sends_all<A: Allocator + Copy>(alloc: A, replica: &Replica<A>, wanted: &[u8]) -> bool {
-    sends_beyond(alloc, replica, &Clock::new(alloc), wanted)
+    for &(bytes, why) in CHANGED {
+        all &= replica.take(bytes) == Err(why);
+    }
+    all && shows(alloc, &replica, EMPTY)
 }
 
 // Whether an empty replica refuses the bytes and stays empty, or takes them in and sends them in the old format.
 fn is_refused_or_sent<A: Allocator + Copy>(alloc: A, bytes: &[u8], old: &[u8]) -> bool {
-    match Replica::new(alloc, 1) {
-        Ok(mut replica) => {
-            if replica.take(bytes).is_err() {
-                shows(alloc, &replica, EMPTY)
-            } else {
-                sends_all(alloc, &replica, old)
-            }
-        }
-        Err(_) => false,
+    let Ok(mut replica) = Replica::new(alloc, 1) else {
+        return false;
+    };
+    if replica.take(bytes).is_err() {
+        shows(alloc, &replica, EMPTY)
+    } else {
+        sends_beyond(alloc, &replica, &Clock::new(alloc), old)
     }
 }
 
@@ -587,87 +499,41 @@ fn changes_are_refused_or_sent<A: Allocator + Copy>(alloc: A, delta: &[u8]) -> b
 }
 
 #[test]
-fn changed_bytes_are_refused_or_taken_as_they_are(rt: HostRuntime) {
+fn bytes_that_are_no_delta_are_refused(rt: HostRuntime) {
     let alloc = rt.alloc();
-    assert!(rt;
-        changes_are_refused_or_sent(alloc, &A)
-            && changes_are_refused_or_sent(alloc, &D)
-            && changes_are_refused_or_sent(alloc, &F)
-            && changes_are_refused_or_sent(alloc, &H)
-    );
-}
-
-// Whether the list of D is taken in.
-fn takes_list<A: Allocator + Copy>(alloc: A, replica: &mut Replica<A>) -> bool {
-    match decode(alloc, &D) {
-        Ok(list) => list.len() == 2 && replica.take_list(list) == Ok(2),
-        Err(_) => false,
+    assert!(rt; stays_empty(alloc));
+    for delta in [&A[..], &D, &F, &H] {
+        assert!(rt; changes_are_refused_or_sent(alloc, delta));
     }
-}
-
-// Whether a replica that takes it prints its text.
-fn prints_list<A: Allocator + Copy>(alloc: A) -> bool {
-    match Replica::new(alloc, 1) {
-        Ok(mut replica) => takes_list(alloc, &mut replica) && shows(alloc, &replica, TURNS),
-        Err(_) => false,
-    }
-}
-
-#[test]
-fn lists_are_taken(rt: HostRuntime) {
-    assert!(rt; prints_list(rt.alloc()));
-}
-
-// Whether the replica is saved as these bytes.
-fn saves<A: Allocator + Copy>(alloc: A, replica: &Replica<A>, bytes: &[u8]) -> bool {
-    let mut text = Vec::new(alloc);
-    replica.save(&mut text).is_ok() && text.as_slice() == bytes
 }
 
 // Whether the bytes are loaded, and saved as they are.
 fn loads<A: Allocator + Copy>(alloc: A, bytes: &[u8]) -> bool {
-    match Replica::load(alloc, bytes) {
-        Ok(replica) => replica.author() == 7 && saves(alloc, &replica, bytes),
-        Err(_) => false,
-    }
-}
-
-// Whether the bytes are no state, for this reason.
-fn refuses_state<A: Allocator + Copy>(alloc: A, bytes: &[u8], why: LoadError) -> bool {
-    match Replica::load(alloc, bytes) {
-        Ok(_) => false,
-        Err(refused) => refused == why,
-    }
+    let Ok(replica) = Replica::load(alloc, bytes) else {
+        return false;
+    };
+    let mut text = Vec::new(alloc);
+    replica.author() == 7 && replica.save(&mut text).is_ok() && text.as_slice() == bytes
 }
 
 // Whether each proper prefix of J is refused, and a delta.
 fn refuses_states<A: Allocator + Copy>(alloc: A) -> bool {
-    let mut all = refuses_state(alloc, &A, LoadError::Version);
+    let mut all = matches!(Replica::load(alloc, &A), Err(LoadError::Version));
     for end in 0..16usize {
-        let why = if end < 4 {
-            LoadError::Version
-        } else {
-            LoadError::Refused
+        all &= match Replica::load(alloc, &J[..end]) {
+            Ok(_) => false,
+            Err(LoadError::Version) => end < 4,
+            Err(refused) => end >= 4 && refused == LoadError::Refused,
         };
-        all &= refuses_state(alloc, &J[..end], why);
     }
     all
-}
-
-// Whether author 0 is refused.
-fn refuses_author<A: Allocator + Copy>(alloc: A) -> bool {
-    match Replica::new(alloc, 0) {
-        Ok(_) => false,
-        Err(refused) => refused == AuthorError::Zero,
-    }
 }
 
 #[test]
 fn states_are_loaded_as_they_were_saved(rt: HostRuntime) {
     let alloc = rt.alloc();
-    assert!(rt;
-        loads(alloc, &J) && loads(alloc, FULL) && refuses_states(alloc) && refuses_author(alloc)
-    );
+    assert!(rt; loads(alloc, &J) && loads(alloc, FULL) && refuses_states(alloc));
+    assert!(rt; matches!(Replica::new(alloc, 0), Err(AuthorError::Zero)));
 }
 
 // A block of another game for each number, at 1 with the value 0.
@@ -681,15 +547,6 @@ fn other_block(number: u8) -> [u8; 32] {
     bytes
 }
 
-// Whether a block of each of 200 games is new.
-fn takes_others<A: Allocator + Copy>(replica: &mut Replica<A>) -> bool {
-    let mut all = true;
-    for number in 1..201u8 {
-        all &= replica.take(&other_block(number)) == Ok(1);
-    }
-    all
-}
-
 // The known length and the comparisons of a game.
 fn counts<A: Allocator + Copy>(replica: &Replica<A>, code: Code) -> (u32, u64) {
     match replica.game(code) {
@@ -698,29 +555,24 @@ fn counts<A: Allocator + Copy>(replica: &Replica<A>, code: Code) -> (u32, u64) {
     }
 }
 
-// Whether a block of Kayles is taken with a few requests for memory, though there are 200 other games.
-fn touches_its_game_alone<A: Allocator + Copy>(
-    heap: &Metered<Global>,
-    alloc: A,
-    code: Code,
-) -> bool {
-    match Replica::new(alloc, 1) {
-        Ok(mut replica) => {
-            let is_full = takes_others(&mut replica);
-            heap.arm(64);
-            is_full && replica.take(&A) == Ok(1) && counts(&replica, code) == (5, 1)
-        }
-        Err(_) => false,
+// Whether a block of Kayles is taken with a few requests for memory, though there is a block of each of 200 other games.
+fn touches_its_game_alone<A: Allocator + Copy>(heap: &Metered<Global>, alloc: A) -> bool {
+    let Ok(code) = Code::parse(b"0.77") else {
+        return false;
+    };
+    let Ok(mut replica) = Replica::new(alloc, 1) else {
+        return false;
+    };
+    let mut all = true;
+    for number in 1..201u8 {
+        all &= replica.take(&other_block(number)) == Ok(1);
     }
+    heap.arm(64);
+    all && replica.take(&A) == Ok(1) && counts(&replica, code) == (5, 1)
 }
 
 #[test]
 fn a_block_touches_its_game_alone(rt: HostRuntime) {
     let heap = Metered::new(rt.alloc());
-    assert!(rt;
-        match Code::parse(b"0.77") {
-            Ok(code) => touches_its_game_alone(&heap, &heap, code),
-            Err(_) => false,
-        }
-    );
+    assert!(rt; touches_its_game_alone(&heap, &heap));
 }

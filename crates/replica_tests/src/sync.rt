@@ -217,24 +217,20 @@ fn outcome_of<A: Allocator + Copy>(
     }
 }
 
-// Whether the side is done where what comes to it comes in pieces of so many.
+// Whether the side is done where what comes to it comes in pieces of so many, for each size from the first to the last.
 fn is_done<A: Allocator + Copy>(
     heap: &Metered<Global>,
     alloc: A,
     side: &Side,
-    size: usize,
+    first: usize,
+    last: usize,
 ) -> bool {
-    match outcome_of(heap, alloc, u64::MAX, side, side.comes, size) {
-        Ok(outcome) => outcome.is_done(side),
-        Err(_) => false,
-    }
-}
-
-// Whether that is so of pieces of each size.
-fn is_done_in_pieces<A: Allocator + Copy>(heap: &Metered<Global>, alloc: A, side: &Side) -> bool {
     let mut all = true;
-    for size in 1..80usize {
-        all &= is_done(heap, alloc, side, size);
+    for size in first..=last {
+        all &= match outcome_of(heap, alloc, u64::MAX, side, side.comes, size) {
+            Ok(outcome) => outcome.is_done(side),
+            Err(_) => false,
+        };
     }
     all
 }
@@ -242,15 +238,13 @@ fn is_done_in_pieces<A: Allocator + Copy>(heap: &Metered<Global>, alloc: A, side
 #[test]
 fn sides_exchange_what_they_lack(rt: HostRuntime) {
     let heap = Metered::new(rt.alloc());
-    let mut all = true;
     for role in [Role::Client, Role::Server] {
-        all &= is_done_in_pieces(&heap, &heap, &side_of(role));
-        all &= is_done_in_pieces(&heap, &heap, &empty_side_of(role));
+        assert!(rt; is_done(&heap, &heap, &side_of(role), 1, 79));
+        assert!(rt; is_done(&heap, &heap, &empty_side_of(role), 1, 79));
     }
     for side in further_sides() {
-        all &= is_done(&heap, &heap, &side, usize::MAX);
+        assert!(rt; is_done(&heap, &heap, &side, usize::MAX, usize::MAX));
     }
-    assert!(rt; all);
 }
 
 // Frames that their receiver refuses, and with which fault.
@@ -284,28 +278,17 @@ const FAULTY: &[(Role, &[u8], SyncError)] = &[
     ),
 ];
 
-// Whether the bytes are refused with this fault.
-fn is_refused<A: Allocator + Copy>(
-    heap: &Metered<Global>,
-    alloc: A,
-    role: Role,
-    bytes: &[u8],
-    fault: SyncError,
-) -> bool {
-    match outcome_of(heap, alloc, u64::MAX, &side_of(role), bytes, usize::MAX) {
-        Ok(outcome) => outcome.is_fault(fault),
-        Err(_) => false,
-    }
-}
-
 #[test]
 fn faulty_frames_are_refused(rt: HostRuntime) {
     let heap = Metered::new(rt.alloc());
-    let mut all = true;
     for &(role, bytes, fault) in FAULTY {
-        all &= is_refused(&heap, &heap, role, bytes, fault);
+        assert!(rt;
+            match outcome_of(&heap, &heap, u64::MAX, &side_of(role), bytes, usize::MAX) {
+                Ok(outcome) => outcome.is_fault(fault),
+                Err(_) => false,
+            }
+        );
     }
-    assert!(rt; all);
 }
 
 // Whether the side leaves what it promises where each request for memory is refused in turn, and is done in the end.
@@ -334,21 +317,15 @@ fn keeps_its_promise<A: Allocator + Copy>(heap: &Metered<Global>, alloc: A, side
 #[test]
 fn each_request_for_memory_may_be_refused(rt: HostRuntime) {
     let heap = Metered::new(rt.alloc());
-    assert!(rt;
-        keeps_its_promise(&heap, &heap, &side_of(Role::Client))
-            && keeps_its_promise(&heap, &heap, &side_of(Role::Server))
-    );
+    assert!(rt; keeps_its_promise(&heap, &heap, &side_of(Role::Client)));
+    assert!(rt; keeps_its_promise(&heap, &heap, &side_of(Role::Server)));
 }
 
-// Whether a server stands, and says how many bytes it wants, without a request for memory.
-fn stands_freely<A: Allocator + Copy>(heap: &Metered<Global>, alloc: A) -> bool {
-    heap.arm(1_000);
-    let session = Session::server(alloc);
-    session.wanted() == 5 && heap.left() == 1_000
-}
-
+// A server stands, and says how many bytes it wants, without a request for memory.
 #[test]
 fn answers_take_no_memory(rt: HostRuntime) {
     let heap = Metered::new(rt.alloc());
-    assert!(rt; stands_freely(&heap, &heap));
+    heap.arm(1_000);
+    let session = Session::server(&heap);
+    assert!(rt; session.wanted() == 5 && heap.left() == 1_000);
 }

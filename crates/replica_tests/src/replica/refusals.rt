@@ -38,35 +38,44 @@ const REMOVED: &str =
 
 /// A call that adds operations.
 #[derive(Clone, Copy)]
-enum Change {
-    Take,
-    TakeList,
+enum Change<'a> {
+    Take(&'a [u8]),
+    TakeList(&'a [u8]),
     Join,
     Issue,
     Compute,
     Remove,
 }
 
-// Makes the change, of which each kind reads what it needs. After a refusal this is how many operations are in.
+// Makes the change. After a refusal this is how many operations are in.
 fn make<A: Allocator + Copy>(
     alloc: A,
     replica: &mut Replica<A>,
     change: Change,
-    delta: &[u8],
     other: &Replica<A>,
 ) -> Result<(), usize> {
     match change {
-        Change::Take => taken(replica.take(delta)),
-        Change::TakeList => take_list(alloc, replica, delta),
-        Change::Join => join(replica, other),
-        Change::Issue => none_in(issued(alloc, replica).is_ok()),
-        Change::Compute => none_in(compute(replica)),
-        Change::Remove => none_in(remove(replica)),
+        Change::Take(delta) => taken(replica.take(delta)),
+        Change::TakeList(delta) => match decode(alloc, delta) {
+            Ok(list) if list.len() <= 2 => taken(replica.take_list(list)),
+            Ok(_) => Err(usize::MAX),
+            Err(_) => Err(0),
+        },
+        Change::Join => {
+            let held = replica.len();
+            match replica.join(other) {
+                Ok(()) => Ok(()),
+                Err(_) => Err(replica.len().saturating_sub(held)),
+            }
+        }
+        Change::Issue | Change::Compute | Change::Remove => {
+            if issue(alloc, replica, change) {
+                Ok(())
+            } else {
+                Err(0)
+            }
+        }
     }
-}
-
-fn none_in(is_made: bool) -> Result<(), usize> {
-    if is_made { Ok(()) } else { Err(0) }
 }
 
 fn taken(answer: Result<u32, TakeError>) -> Result<(), usize> {
@@ -77,45 +86,27 @@ fn taken(answer: Result<u32, TakeError>) -> Result<(), usize> {
     }
 }
 
-// Takes the list of the delta.
-fn take_list<A: Allocator + Copy>(
-    alloc: A,
-    replica: &mut Replica<A>,
-    delta: &[u8],
-) -> Result<(), usize> {
-    match decode(alloc, delta) {
-        Ok(list) if list.len() <= 2 => taken(replica.take_list(list)),
-        Ok(_) => Err(usize::MAX),
-        Err(_) => Err(0),
-    }
-}
-
-// Joins the other replica.
-fn join<A: Allocator + Copy>(replica: &mut Replica<A>, other: &Replica<A>) -> Result<(), usize> {
-    let held = replica.len();
-    match replica.join(other) {
-        Ok(()) => Ok(()),
-        Err(_) => Err(replica.len().saturating_sub(held)),
-    }
-}
-
-// Issues the next five values of 0.137.
-fn compute<A: Allocator + Copy>(replica: &mut Replica<A>) -> bool {
-    match Code::parse(b"0.137") {
-        Ok(code) => match replica.compute(code, 5) {
-            Ok(block) => replica.issue(Body::Block(block)).is_ok(),
-            Err(_) => false,
-        },
-        Err(_) => false,
-    }
-}
-
-// Issues the removal of the notes with the name kayles.
-fn remove<A: Allocator + Copy>(replica: &mut Replica<A>) -> bool {
-    match replica.removal(b"kayles") {
-        Ok(removal) => replica.issue(Body::Removal(removal)).is_ok(),
-        Err(_) => false,
-    }
+// Issues the next five values of 0.137, the removal of the notes with the name kayles, or a note.
+fn issue<A: Allocator + Copy>(alloc: A, replica: &mut Replica<A>, change: Change) -> bool {
+    let body = match change {
+        Change::Compute => {
+            let Ok(code) = Code::parse(b"0.137") else {
+                return false;
+            };
+            let Ok(block) = replica.compute(code, 5) else {
+                return false;
+            };
+            Body::Block(block)
+        }
+        Change::Remove => {
+            let Ok(removal) = replica.removal(b"kayles") else {
+                return false;
+            };
+            Body::Removal(removal)
+        }
+        _ => return issued(alloc, replica).is_ok(),
+    };
+    replica.issue(body).is_ok()
 }
 
 // Whether the change is refused at each request in turn, each time with what it says left, and is made in the end.
@@ -124,13 +115,12 @@ fn changes<A: Allocator + Copy>(
     alloc: A,
     replica: &mut Replica<A>,
     change: Change,
-    delta: &[u8],
     other: &Replica<A>,
 ) -> bool {
     let held = replica.len();
     for grants in 0..200u64 {
         heap.arm(grants);
-        let made = make(alloc, replica, change, delta, other);
+        let made = make(alloc, replica, change, other);
         heap.arm(u64::MAX);
         match made {
             Ok(()) => return grants > 0,
@@ -166,51 +156,15 @@ fn write<A: Allocator + Copy>(
     match writing {
         Writing::Catalogue => replica.catalogue(out).is_ok(),
         Writing::Page(number) => replica.page(number, out) == Ok(true),
-        Writing::Delta => write_delta(replica, out),
+        Writing::Delta => match replica.clock() {
+            Ok(clock) => replica.delta(&clock, out).is_ok(),
+            Err(_) => false,
+        },
         Writing::Save => replica.save(out).is_ok(),
-        Writing::Load => write_loaded(alloc, state, out),
-    }
-}
-
-fn write_delta<A: Allocator + Copy>(replica: &Replica<A>, out: &mut Vec<u8, A>) -> bool {
-    match replica.clock() {
-        Ok(clock) => replica.delta(&clock, out).is_ok(),
-        Err(_) => false,
-    }
-}
-
-fn write_loaded<A: Allocator + Copy>(alloc: A, state: &[u8], out: &mut Vec<u8, A>) -> bool {
-    match Replica::load(alloc, state) {
-        Ok(loaded) => loaded.save(out).is_ok(),
-        Err(_) => false,
-    }
-}
-
-/// What became of a call that writes.
-#[derive(Clone, Copy, PartialEq, Eq)]
-enum Written {
-    Nothing,
-    Wanted,
-    Other,
-}
-
-// What the call writes, where so many requests are granted. Without an answer it should write nothing, and else this.
-fn write_once<A: Allocator + Copy>(
-    heap: &Metered<Global>,
-    alloc: A,
-    replica: &Replica<A>,
-    writing: Writing,
-    wanted: &[u8],
-) -> Written {
-    let mut out = Vec::new(alloc);
-    let is_written = write(alloc, replica, writing, wanted, &mut out);
-    heap.arm(u64::MAX);
-    if is_written && out.as_slice() == wanted {
-        Written::Wanted
-    } else if is_written || !out.is_empty() {
-        Written::Other
-    } else {
-        Written::Nothing
+        Writing::Load => match Replica::load(alloc, state) {
+            Ok(loaded) => loaded.save(out).is_ok(),
+            Err(_) => false,
+        },
     }
 }
 
@@ -224,155 +178,84 @@ fn writes<A: Allocator + Copy>(
 ) -> bool {
     for grants in 0..200u64 {
         heap.arm(grants);
-        match write_once(heap, alloc, replica, writing, wanted) {
-            Written::Nothing => {}
-            Written::Wanted => return grants > 0,
-            Written::Other => return false,
+        let mut out = Vec::new(alloc);
+        let is_written = write(alloc, replica, writing, wanted, &mut out);
+        heap.arm(u64::MAX);
+        if is_written {
+            return grants > 0 && out.as_slice() == wanted;
+        }
+        if !out.is_empty() {
+            return false;
         }
     }
     false
 }
 
-// Whether the replica's catalogue and its first page are this text.
-fn prints_after_refusals<A: Allocator + Copy>(
-    heap: &Metered<Global>,
-    alloc: A,
-    replica: &Replica<A>,
-    wanted: &str,
-) -> bool {
-    writes(heap, alloc, replica, Writing::Catalogue, wanted.as_bytes())
-        && writes(heap, alloc, replica, Writing::Page(0), wanted.as_bytes())
-}
+/// The author of a replica, what it holds, the changes that it makes, and what it then prints.
+type Case<'a> = (u32, &'a [&'a [u8]], &'a [Change<'a>], &'a str);
 
-// Whether the replica takes the deltas, each in spite of refusals.
-fn takes_each<A: Allocator + Copy>(
-    heap: &Metered<Global>,
-    alloc: A,
-    replica: &mut Replica<A>,
-    change: Change,
-    deltas: &[&[u8]],
-    other: &Replica<A>,
-) -> bool {
-    let mut all = true;
-    for delta in deltas {
-        all &= changes(heap, alloc, replica, change, delta, other);
-    }
-    all
-}
+const CASES: &[Case<'static>] = &[
+    (1, &[], &[Change::Take(&A), Change::Take(&B)], BOTH),
+    (1, &[], &[Change::Take(&B), Change::Take(&A)], BOTH),
+    (1, &[], &[Change::TakeList(&B), Change::TakeList(&A)], BOTH),
+    (
+        1,
+        &[],
+        &[Change::Take(&A), Change::Take(SECOND), Change::Take(THIRD)],
+        OVERLAPPING,
+    ),
+    (1, &[], &[Change::Take(&D)], TURNS),
+    (
+        1,
+        &[],
+        &[Change::Take(&H), Change::Take(&F), Change::Take(&G)],
+        LATER,
+    ),
+    (1, &[], &[Change::Take(&I)], UNTOLD),
+    (1, &[], &[Change::Join], BOTH),
+    (1, &[&A], &[Change::Join], BOTH),
+    (7, &[], &[Change::Compute], COMPUTED),
+    (5, &[&I], &[Change::Issue], ISSUED),
+    (3, &[&F, &G, &H], &[Change::Remove], REMOVED),
+];
 
-// Whether it then prints the text.
-fn takes_and_prints<A: Allocator + Copy>(
-    heap: &Metered<Global>,
-    alloc: A,
-    replica: &mut Replica<A>,
-    change: Change,
-    deltas: &[&[u8]],
-    wanted: &str,
-) -> bool {
-    match Replica::new(alloc, 1) {
-        Ok(other) => {
-            takes_each(heap, alloc, replica, change, deltas, &other)
-                && prints_after_refusals(heap, alloc, replica, wanted)
-        }
-        Err(_) => false,
-    }
-}
-
-// Whether a new replica does so.
-fn takes_after_refusals<A: Allocator + Copy>(
-    heap: &Metered<Global>,
-    alloc: A,
-    change: Change,
-    deltas: &[&[u8]],
-    wanted: &str,
-) -> bool {
-    match Replica::new(alloc, 1) {
-        Ok(mut replica) => takes_and_prints(heap, alloc, &mut replica, change, deltas, wanted),
-        Err(_) => false,
-    }
-}
-
-#[test]
-fn refused_deltas_are_taken_again(rt: HostRuntime) {
-    let heap = Metered::new(rt.alloc());
-    let long = long_block();
-    let rows: [(Change, &[&[u8]], &str); 8] = [
-        (Change::Take, &[&A, &B], BOTH),
-        (Change::Take, &[&B, &A], BOTH),
-        (Change::TakeList, &[&B, &A], BOTH),
-        (Change::Take, &[&A, SECOND, THIRD], OVERLAPPING),
-        (Change::Take, &[&D], TURNS),
-        (Change::Take, &[&long, RIGHT, EARLY, LAST], PERIODIC),
-        (Change::Take, &[&H, &F, &G], LATER),
-        (Change::Take, &[&I], UNTOLD),
-    ];
-    let mut all = true;
-    for (change, deltas, wanted) in rows {
-        all &= takes_after_refusals(&heap, &heap, change, deltas, wanted);
-    }
-    assert!(rt; all);
-}
-
-// Whether the replica makes the change in spite of refusals, where the other one holds A and B, and then prints the text.
-fn makes_and_prints<A: Allocator + Copy>(
-    heap: &Metered<Global>,
-    alloc: A,
-    replica: &mut Replica<A>,
-    change: Change,
-    wanted: &str,
-) -> bool {
-    match Replica::new(alloc, 1) {
-        Ok(mut other) => {
-            takes(&mut other, &[&A, &B], 1)
-                && changes(heap, alloc, replica, change, &[], &other)
-                && prints_after_refusals(heap, alloc, replica, wanted)
-        }
-        Err(_) => false,
-    }
-}
-
-// Whether the replica takes the deltas.
-fn takes_all<A: Allocator + Copy>(replica: &mut Replica<A>, deltas: &[&[u8]]) -> bool {
-    let mut all = true;
-    for delta in deltas {
+// Whether the replica makes each of the changes in spite of refusals, where the other one holds A and B, and then prints
+// the text, whole and as its first page.
+fn makes_after_refusals<A: Allocator + Copy>(heap: &Metered<Global>, alloc: A, case: Case) -> bool {
+    let (author, held, made, wanted) = case;
+    let Ok(mut replica) = Replica::new(alloc, author) else {
+        return false;
+    };
+    let Ok(mut other) = Replica::new(alloc, 1) else {
+        return false;
+    };
+    let mut all = takes(&mut other, &[&A, &B], 1);
+    for delta in held {
         all &= replica.take(delta).is_ok();
     }
-    all
-}
-
-// Whether a replica of this author that took the deltas does so.
-fn makes_after_refusals<A: Allocator + Copy>(
-    heap: &Metered<Global>,
-    alloc: A,
-    author: u32,
-    deltas: &[&[u8]],
-    change: Change,
-    wanted: &str,
-) -> bool {
-    match Replica::new(alloc, author) {
-        Ok(mut replica) => {
-            takes_all(&mut replica, deltas)
-                && makes_and_prints(heap, alloc, &mut replica, change, wanted)
-        }
-        Err(_) => false,
+    for change in made {
+        all &= changes(heap, alloc, &mut replica, *change, &other);
     }
+    for writing in [Writing::Catalogue, Writing::Page(0)] {
+        all &= writes(heap, alloc, &replica, writing, wanted.as_bytes());
+    }
+    all
 }
 
 #[test]
 fn refused_changes_are_made_again(rt: HostRuntime) {
     let heap = Metered::new(rt.alloc());
-    let rows: [(u32, &[&[u8]], Change, &str); 5] = [
-        (1, &[], Change::Join, BOTH),
-        (1, &[&A], Change::Join, BOTH),
-        (7, &[], Change::Compute, COMPUTED),
-        (5, &[&I], Change::Issue, ISSUED),
-        (3, &[&F, &G, &H], Change::Remove, REMOVED),
-    ];
-    let mut all = true;
-    for (author, deltas, change, wanted) in rows {
-        all &= makes_after_refusals(&heap, &heap, author, deltas, change, wanted);
+    for &case in CASES {
+        assert!(rt; makes_after_refusals(&heap, &heap, case));
     }
-    assert!(rt; all);
+    let long = long_block();
+    let claims = [
+        Change::Take(&long),
+        Change::Take(RIGHT),
+        Change::Take(EARLY),
+        Change::Take(LAST),
+    ];
+    assert!(rt; makes_after_refusals(&heap, &heap, (1, &[], &claims, PERIODIC)));
 }
 
 // Whether the states and the delta of I are written, and the states are loaded.
@@ -389,12 +272,6 @@ fn writes_states<A: Allocator + Copy>(heap: &Metered<Global>, alloc: A) -> bool 
     }
 }
 
-#[test]
-fn refused_texts_are_written_again(rt: HostRuntime) {
-    let heap = Metered::new(rt.alloc());
-    assert!(rt; writes_states(&heap, &heap));
-}
-
 // The second page of the catalogue of 70 notes of author 3.
 const SECOND_PAGE: &[u8] = b"\
 note n 3.64 \n\
@@ -407,36 +284,6 @@ note n 3.70 \n\
 author 3 through 70 last 70\n\
 end\n";
 
-// The note of this number of author 3.
-fn note_of(number: u8) -> [u8; 20] {
-    let mut bytes = *b"OGD1\x00\x00\x00\x01\x00\x00\x00\x03\x00\x00\x00\x00\x03\x01n\x00";
-    bytes[15] = number;
-    bytes
-}
-
-// Whether the replica takes the 70 notes, each in spite of refusals.
-fn takes_notes<A: Allocator + Copy>(
-    heap: &Metered<Global>,
-    alloc: A,
-    replica: &mut Replica<A>,
-    other: &Replica<A>,
-) -> bool {
-    let mut all = true;
-    for number in 1..71u8 {
-        all &= changes(heap, alloc, replica, Change::Take, &note_of(number), other);
-    }
-    all && replica.len() == 70
-}
-
-// How many lines the text has.
-fn lines_of(text: &[u8]) -> u32 {
-    let mut lines = 0u32;
-    for byte in text {
-        lines = lines.saturating_add(u32::from(*byte == b'\n'));
-    }
-    lines
-}
-
 // Whether the replica's catalogue has 73 lines on two pages, of which this is the second, and is written after refusals.
 fn writes_pages<A: Allocator + Copy>(
     heap: &Metered<Global>,
@@ -445,40 +292,42 @@ fn writes_pages<A: Allocator + Copy>(
     second: &[u8],
 ) -> bool {
     let mut text = Vec::new(alloc);
-    let is_whole = replica.catalogue(&mut text).is_ok()
-        && text.ends_with(second)
-        && lines_of(&text) == 73;
+    let is_whole = replica.catalogue(&mut text).is_ok() && text.ends_with(second);
+    let mut lines = 0u32;
+    for byte in &text {
+        lines = lines.saturating_add(u32::from(*byte == b'\n'));
+    }
     let end = text.len().saturating_sub(second.len());
     is_whole
+        && lines == 73
         && writes(heap, alloc, replica, Writing::Catalogue, &text)
         && writes(heap, alloc, replica, Writing::Page(0), &text[..end])
         && writes(heap, alloc, replica, Writing::Page(1), second)
         && replica.page(2, &mut text) == Ok(false)
 }
 
-// Whether a replica takes those notes and writes those pages.
-fn writes_notes<A: Allocator + Copy>(heap: &Metered<Global>, alloc: A, other: &Replica<A>) -> bool {
-    match Replica::new(alloc, 1) {
-        Ok(mut replica) => {
-            takes_notes(heap, alloc, &mut replica, other)
-                && writes_pages(heap, alloc, &replica, SECOND_PAGE)
-        }
-        Err(_) => false,
+// Whether a replica takes 70 notes of author 3, each in spite of refusals, and writes those pages.
+fn writes_notes<A: Allocator + Copy>(heap: &Metered<Global>, alloc: A) -> bool {
+    let Ok(mut replica) = Replica::new(alloc, 1) else {
+        return false;
+    };
+    let Ok(other) = Replica::new(alloc, 1) else {
+        return false;
+    };
+    let mut all = true;
+    for number in 1..71u8 {
+        let mut note = *b"OGD1\x00\x00\x00\x01\x00\x00\x00\x03\x00\x00\x00\x00\x03\x01n\x00";
+        note[15] = number;
+        all &= changes(heap, alloc, &mut replica, Change::Take(&note), &other);
     }
-}
-
-// Whether that is so beside an empty one.
-fn writes_notes_beside<A: Allocator + Copy>(heap: &Metered<Global>, alloc: A) -> bool {
-    match Replica::new(alloc, 1) {
-        Ok(other) => writes_notes(heap, alloc, &other),
-        Err(_) => false,
-    }
+    all && replica.len() == 70 && writes_pages(heap, alloc, &replica, SECOND_PAGE)
 }
 
 #[test]
-fn refused_pages_are_written_again(rt: HostRuntime) {
+fn refused_texts_are_written_again(rt: HostRuntime) {
     let heap = Metered::new(rt.alloc());
-    assert!(rt; writes_notes_beside(&heap, &heap));
+    assert!(rt; writes_states(&heap, &heap));
+    assert!(rt; writes_notes(&heap, &heap));
 }
 
 // Whether the replica answers as it should, where it holds the first block of Kayles.
@@ -494,77 +343,55 @@ fn answers<A: Allocator + Copy>(replica: &Replica<A>, code: Code, other: Code) -
         && !replica.is_empty()
 }
 
-// Whether it refuses each proper prefix of the delta.
-fn refuses<A: Allocator + Copy>(replica: &mut Replica<A>, delta: &[u8]) -> bool {
-    let mut all = true;
-    for end in 0..delta.len() {
-        all &= replica.take(&delta[..end]).is_err();
+const LAST_NUMBER: &[u8] = b"OGD1\x00\x00\x00\x01\x00\x00\x00\x07\xff\xff\xff\xff\x03\x01a\x00";
+
+// Whether the last number of its author is behind it, and it refuses each proper prefix of A.
+fn refuses<A: Allocator + Copy>(replica: &mut Replica<A>, note: Note<A>) -> bool {
+    let mut all = match replica.issue(Body::Note(note)) {
+        Ok(_) => false,
+        Err((refused, _)) => refused == IssueError::LastNumber,
+    };
+    for end in 0..47usize {
+        all &= replica.take(&A[..end]).is_err();
     }
     all
 }
 
-// Whether the last number of its author is behind it.
-fn is_at_the_end<A: Allocator + Copy>(replica: &mut Replica<A>, note: Note<A>) -> bool {
-    match replica.issue(Body::Note(note)) {
-        Ok(_) => false,
-        Err((refused, _)) => refused == IssueError::LastNumber,
-    }
-}
-
-const LAST_NUMBER: &[u8] = b"OGD1\x00\x00\x00\x01\x00\x00\x00\x07\xff\xff\xff\xff\x03\x01a\x00";
-
-// Whether its answers and its refusals take no memory.
-fn takes_no_memory<A: Allocator + Copy>(
-    heap: &Metered<Global>,
-    replica: &mut Replica<A>,
-    note: Note<A>,
-    code: Code,
-    other: Code,
-) -> bool {
+// Whether the answers and the refusals of a replica of author 7 take no memory.
+fn answers_freely<A: Allocator + Copy>(heap: &Metered<Global>, alloc: A) -> bool {
+    let Some((code, other)) = codes() else {
+        return false;
+    };
+    let Ok(mut replica) = Replica::new(alloc, 7) else {
+        return false;
+    };
+    let Ok(note) = Note::new(alloc, b"a", b"") else {
+        return false;
+    };
     let holds_one = replica.take(&A) == Ok(1);
     heap.arm(1_000);
-    let is_answered = answers(replica, code, other) && heap.left() == 1_000;
+    let is_answered = answers(&replica, code, other) && heap.left() == 1_000;
     let holds_last = replica.take(LAST_NUMBER) == Ok(1);
     heap.arm(1_000);
-    let is_refused = is_at_the_end(replica, note) && refuses(replica, &A) && heap.left() == 1_000;
+    let is_refused = refuses(&mut replica, note) && heap.left() == 1_000;
     holds_one && is_answered && holds_last && is_refused
-}
-
-// Whether that is so of a replica of author 7.
-fn answers_freely<A: Allocator + Copy>(
-    heap: &Metered<Global>,
-    alloc: A,
-    code: Code,
-    other: Code,
-) -> bool {
-    match Note::new(alloc, b"a", b"") {
-        Ok(note) => match Replica::new(alloc, 7) {
-            Ok(mut replica) => takes_no_memory(heap, &mut replica, note, code, other),
-            Err(_) => false,
-        },
-        Err(_) => false,
-    }
 }
 
 // Whether replicas are made and refused in the same way.
 fn is_made_freely<A: Allocator + Copy>(heap: &Metered<Global>, alloc: A) -> bool {
     heap.arm(1_000);
-    let is_made = match Replica::new(alloc, 1) {
-        Ok(replica) => replica.is_empty(),
+    match Replica::new(alloc, 1) {
+        Ok(replica) => {
+            replica.is_empty()
+                && matches!(Replica::new(alloc, 0), Err(AuthorError::Zero))
+                && heap.left() == 1_000
+        }
         Err(_) => false,
-    };
-    is_made && refuses_author(alloc) && heap.left() == 1_000
+    }
 }
 
 #[test]
 fn answers_take_no_memory(rt: HostRuntime) {
     let heap = Metered::new(rt.alloc());
-    assert!(rt;
-        match codes() {
-            Some((code, other)) => {
-                answers_freely(&heap, &heap, code, other) && is_made_freely(&heap, &heap)
-            }
-            None => false,
-        }
-    );
+    assert!(rt; answers_freely(&heap, &heap) && is_made_freely(&heap, &heap));
 }

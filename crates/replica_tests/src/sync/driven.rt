@@ -2,7 +2,8 @@
 
 use super::*;
 use std::io::{self, ErrorKind, Read, Write};
-use std::net::{Net, TcpListener, TcpStream};
+use std::net::{TcpListener, TcpStream};
+use std::test::Fail;
 
 // Whether the side, driven over the reader and the writer, then shows what it should.
 fn is_driven<A: Allocator + Copy, R: Read, W: Write>(
@@ -151,14 +152,6 @@ fn is_answered<A: Allocator + Copy>(alloc: A, side: &Side) -> bool {
     all
 }
 
-#[test]
-fn devices_may_be_slow_or_end_or_fail(rt: HostRuntime) {
-    let alloc = rt.alloc();
-    assert!(rt;
-        is_answered(alloc, &side_of(Role::Client)) && is_answered(alloc, &side_of(Role::Server))
-    );
-}
-
 // Whether a client whose reader fails after the server's delta has taken it in, and sent its clock alone.
 fn keeps_what_came<A: Allocator + Copy>(alloc: A, side: &Side) -> bool {
     let mut source = source_of(side);
@@ -177,7 +170,10 @@ fn keeps_what_came<A: Allocator + Copy>(alloc: A, side: &Side) -> bool {
 }
 
 #[test]
-fn what_came_before_a_failure_is_kept(rt: HostRuntime) {
+fn devices_may_be_slow_or_end_or_fail(rt: HostRuntime) {
+    for role in [Role::Client, Role::Server] {
+        assert!(rt; is_answered(rt.alloc(), &side_of(role)));
+    }
     assert!(rt; keeps_what_came(rt.alloc(), &side_of(Role::Client)));
 }
 
@@ -219,45 +215,32 @@ struct Ends {
 }
 
 // A connection over the loopback.
-fn connect<R: Net<Listener = TcpListener, Stream = TcpStream>>(rt: &R) -> io::Result<Ends> {
+fn connect(rt: &HostRuntime) -> io::Result<Ends> {
     let listener = TcpListener::bind(rt, "127.0.0.1:0")?;
     let near = TcpStream::connect(rt, listener.local_addr()?)?;
     let (far, _) = listener.accept()?;
     Ok(Ends { near, far })
 }
 
-// Whether what the side sends is read.
-fn reads_from(mut stream: &TcpStream, side: &Side) -> bool {
-    let mut came = [0; 128];
-    let came = &mut came[..side.sends.len().min(128)];
-    stream.read_exact(came).is_ok() && &*came == side.sends
-}
-
-// Whether the side, driven over the near end, answers what comes from the far one.
+// Whether the side, driven over the near end, takes what comes from the far one, where all that it sends is read.
 fn is_driven_between<A: Allocator + Copy>(alloc: A, ends: &Ends, side: &Side) -> bool {
     let mut far = &ends.far;
     let mut reader = &ends.near;
     let mut writer = &ends.near;
+    let mut came = [0; 128];
+    let came = &mut came[..side.sends.len().min(128)];
     far.write_all(side.comes).is_ok()
         && is_driven(alloc, side, &mut reader, &mut writer) == Ok(true)
-        && reads_from(far, side)
+        && far.read_exact(came).is_ok()
+        && &*came == side.sends
 }
 
-// Whether that is so of both sides over one connection.
-fn are_driven<A: Allocator + Copy, R: Net<Listener = TcpListener, Stream = TcpStream>>(
-    alloc: A,
-    rt: &R,
-) -> bool {
-    match connect(rt) {
-        Ok(ends) => {
-            is_driven_between(alloc, &ends, &side_of(Role::Client))
-                && is_driven_between(alloc, &ends, &side_of(Role::Server))
-        }
-        Err(_) => false,
-    }
-}
-
+// Both sides over one connection.
 #[test]
-fn sides_are_driven_over_the_loopback(rt: HostRuntime) {
-    assert!(rt; are_driven(rt.alloc(), &rt));
+fn sides_are_driven_over_the_loopback(rt: HostRuntime) -> Result<(), Fail> {
+    let ends = connect(&rt)?;
+    for role in [Role::Client, Role::Server] {
+        assert!(rt; is_driven_between(rt.alloc(), &ends, &side_of(role)));
+    }
+    Ok(())
 }

@@ -1,7 +1,12 @@
 use Rattle.std.proofs.Common.{◌∙◌}
-use Rattle.std.proofs.lemmas.Result.{IfErr-weaker, IfOk-weaker}
-use Rattle.census_core.proofs.Stepping.{then_with}
+use Rattle.std.proofs.lemmas.Result.{IfErr-weaker, IfOk-weaker, err_from_is_err_and}
+use Rattle.census_core.proofs.Stepping.{stopped, then_with}
 use Rattle.census_core.proofs.issuing.import.Goals as goal
+
+pub returns-in_err-block-clause-err : goal.returns-in_err-block-clause-err
+returns-in_err-block-clause-err c =
+    let p = err_from_is_err_and c.from_residual-in_err-block.result c.from_residual-in_err-block.ensures.1 in
+    rw (p.1, p.2) (λ other. then_with _ _ _ c.in_ok-replica.ensures.ok ∙ stopped _ _ _ (c.in_err-block.ensures.err other))
 
 pub returns-clause-ok : goal.returns-clause-ok
 returns-clause-ok c =

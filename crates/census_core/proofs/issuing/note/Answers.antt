@@ -1,7 +1,12 @@
 use Rattle.std.proofs.Common.{◌∙◌}
-use Rattle.std.proofs.lemmas.Result.{IfErr-weaker, IfOk-weaker}
-use Rattle.census_core.proofs.Stepping.{allowed, then_with}
+use Rattle.std.proofs.lemmas.Result.{IfErr-weaker, IfOk-weaker, err_from_is_err_and}
+use Rattle.census_core.proofs.Stepping.{allowed, not_noted, stopped, then_with}
 use Rattle.census_core.proofs.issuing.note.Goals as goal
+
+pub returns-in_err-note-clause-err : goal.returns-in_err-note-clause-err
+returns-in_err-note-clause-err c =
+    let p = err_from_is_err_and c.from_residual-in_err-note.result c.from_residual-in_err-note.ensures.1 in
+    rw (p.1, p.2) (λ other. then_with _ _ _ c.in_ok-replica.ensures.ok ∙ stopped _ _ _ (not_noted _ _ _ c.in_err-note.ensures.fault other))
 
 pub returns-clause-ok : goal.returns-clause-ok
 returns-clause-ok c =
