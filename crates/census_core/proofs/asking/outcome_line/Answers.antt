@@ -1,1 +1,6 @@
--- All is left to the tactic. Where a function has this file, a wrong body of it is refused without a second search.
+use Rattle.std.proofs.Common.{sym, ap}
+use Rattle.census_core.specs.Lines.{outcome_line}
+use Rattle.census_core.proofs.asking.outcome_line.Goals as goal
+
+pub returns-in-NextWins : goal.returns-in-NextWins
+returns-in-NextWins c = sym (ap outcome_line c.in-NextWins.is)

@@ -19,3 +19,8 @@ pub returns-in_default-2 : goal.returns-in_default-2
 returns-in_default-2 c = λ h.
     OkIff-at_err _ _ _ _ (parse_digits own 64 c.args.word.now c.parse.result c.parse.ensures.value.0 h.digits) c.in_default.is
     (h.filled, omega (arith, h.small, c.ranges.greatest.fits))
+
+pub returns-in_default : goal.returns-in_default
+returns-in_default c = λ h.
+    let parsed = OkIff-at_ok _ _ _ _ (parse_digits own 64 c.args.word.now c.parse.result c.parse.ensures.value.0 h.digits) c.in-Ok.is in
+    omega (arith, parsed.1, h.small, c.if-value-greatest.false)

@@ -1,1 +1,6 @@
--- All is left to the tactic. Where a function has this file, a wrong body of it is refused without a second search.
+use Rattle.std.proofs.Common.{sym, ap}
+use Rattle.census_core.specs.Statuses.{status_of}
+use Rattle.census_core.proofs.fault.Fault.status.Goals as goal
+
+pub returns-in-OutOfMemory : goal.returns-in-OutOfMemory
+returns-in-OutOfMemory c = sym (ap status_of c.in-OutOfMemory.is)
