@@ -1,5 +1,6 @@
 pub mod Accepted
 pub mod CodeLaws
 mod Parsed
+mod Reading
 mod Spelled
 mod Written

@@ -1,4 +1,5 @@
 pub mod Bounds
+pub mod Contents
 pub mod Lanes
 pub mod Marking
 pub mod Members

@@ -1,4 +1,5 @@
-use Rattle.std.proofs.Common.{◌-◌, slice_index, arith, ◌<◌, length, bit_xor}
+use Rattle.std.proofs.Common.{◌≡◌, ◌+◌, ◌-◌, ◌/◌, slice_index, arith, ◌<◌, length, bit_xor, subst}
+use Rattle.oct_mex.specs.Marks.{AddsMarks, IsPairValue}
 use Rattle.oct_mex.proofs.Marking.{pairs_more, xor_within}
 use Rattle.oct_mex.proofs.marks.mark_pairs.Goals as goal
 
@@ -14,3 +15,8 @@ mark-requires c =
     let b = c.args.rest - a in
     let inside : bit_xor (slice_index values a) (slice_index values b) < length c.args.marks.now = xor_within values (length c.args.marks.now) a b c.requires.table (omega arith) (omega arith) in
     omega (arith, c.loop-a.invariant.size, inside)
+
+pub returns : goal.returns
+returns c =
+    let end : c.loop-a.a ≡ c.args.rest / 2 + 1 = omega arith in
+    subst (λ e. AddsMarks c.args.marks.now c.loop-a.marks (IsPairValue (slice_index c.args.values.now) c.args.rest e)) end c.loop-a.invariant

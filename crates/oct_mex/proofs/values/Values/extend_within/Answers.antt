@@ -1,4 +1,4 @@
-use Rattle.std.proofs.Common.{◌≡◌, ◌+◌, ◌*◌, ◌/◌, length, slice_index, sym, ap, ◌∙◌, arith, subst, vec_len}
+use Rattle.std.proofs.Common.{◌≡◌, ◌+◌, ◌*◌, ◌/◌, length, max, slice_index, sym, ap, ◌∙◌, arith, subst, vec_len}
 use Rattle.std.proofs.lemmas.Nat.{mul-le}
 use Rattle.oct_code.specs.Code.{len}
 use Rattle.oct_mex.specs.Held.{Held}
@@ -6,6 +6,7 @@ use Rattle.oct_mex.specs.Marks.{IsTableFor}
 use Rattle.oct_mex.specs.Mex.{IsMex}
 use Rattle.oct_mex.specs.NimValues.{IsOptionValue, nim_values}
 use Rattle.oct_mex.proofs.Bounds.{options-le}
+use Rattle.oct_mex.proofs.Contents.{held_is}
 use Rattle.oct_mex.proofs.Marking.{table_grows, table_stays}
 use Rattle.oct_mex.proofs.NimValues.{nim_values-push}
 use Rattle.oct_mex.proofs.values.Values.extend_within.Goals as goal
@@ -67,3 +68,9 @@ loop-self-preserved g c =
       more = omega arith;
       most = omega arith;
     }
+
+pub returns : goal.returns
+returns g c =
+    let len : vec_len c.loop-self.self-inside.values ≡ max c.args.count c.args.self.now.len =
+    omega (arith, c.len.ensures, c.loop-self-test.false, c.loop-self.invariant.more, c.loop-self.invariant.most, ap (λ (k : Held). k.len) c.self.view_is) in
+    held_is (c.loop-self.invariant.code ∙ ap (λ (k : Held). k.code) c.self.view_is) len (c.loop-self.invariant.room ∙ ap (λ (k : Held). k.room) c.self.view_is)

@@ -1,4 +1,8 @@
+use Rattle.std.proofs.Common.{refl}
 use Rattle.oct_ops.proofs.op_list.OpList.of_rising.Goals as goal
 
+pub invariant_of-result : goal.invariant_of-result
+invariant_of-result g c = c.requires
+
 pub returns : goal.returns
-returns g c = cc
+returns g c = refl
