@@ -1,4 +1,4 @@
-use Rattle.std.proofs.Common.{Ok, Err, ◌++◌, cond, not, ap, sym, ◌∙◌}
+use Rattle.std.proofs.Common.{Ok, Err, ◌++◌, cond, ap, sym, ◌∙◌}
 use Rattle.oct_ops.specs.Operations.{listed}
 use Rattle.oct_pages.specs.Catalogue as catalogue
 use Rattle.census_core.specs.Replies.{said}

@@ -1,1 +1,1 @@
--- All is left to the tactic. Where a function has this file, a wrong body of it is refused without a second search.
+-- All is left to the tactic.

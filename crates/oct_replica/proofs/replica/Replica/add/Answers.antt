@@ -56,3 +56,8 @@ pub returns-then-contains-clause-added : goal.returns-then-contains-clause-added
 returns-then-contains-clause-added g c =
     let held = sym c.contains.ensures ∙ c.if-contains.true in
     sym (ap (λ (r : ReplicaContent). not (set.contains r.ops c.args.op.now)) (sym c.self.view_is) ∙ ap not held)
+
+pub returns-clause-added : goal.returns-clause-added
+returns-clause-added g c =
+    let held = sym c.contains.ensures ∙ c.if-contains.false in
+    sym (ap (λ (r : ReplicaContent). not (set.contains r.ops c.args.op.now)) (sym c.self.view_is) ∙ ap not held)

@@ -1,6 +1,7 @@
-use Rattle.std.proofs.Common.{arith}
-use Rattle.std.proofs.lemmas.Grind.{common_steps}
+use Rattle.std.proofs.Common.{ap, ◌∙◌, length}
+use Rattle.oct_ops.specs.Operations.{listed}
+use Rattle.oct_replica.specs.Content.{ReplicaContent}
 use Rattle.oct_replica.proofs.replica.Replica.len.Goals as goal
 
 pub returns : goal.returns
-returns g c = grind (arith, common_steps)
+returns g c = c.len.ensures ∙ ap (λ (r : ReplicaContent). length (listed r.ops)) c.self.view_is
