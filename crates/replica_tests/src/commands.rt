@@ -1,6 +1,6 @@
 //! Commands, each on the state that another one left.
 
-use crate::replica::long_block;
+use crate::replica::{FORKED, LAST, ONE, TWO, long_block};
 use census_core::{Fault, ImportError, Reply, Request, number, perform};
 use oct_code::CodeError;
 use oct_ops::{NoteError, PeriodError};
@@ -58,25 +58,17 @@ const H: &[u8] = b"OGD1\0\0\0\x01\0\0\0\x02\0\0\0\x01\x04\0\x01\0\0\0\x01\0\0\0\
 const WITH_REMOVAL: &[u8] =
     b"OGS1\0\0\0\x07OGD1\0\0\0\x04\0\0\0\x01\0\0\0\x01\x03\x06kayles\x05early\0\0\0\x01\0\0\0\x02\x03\x06kayles\x05later\0\0\0\x02\0\0\0\x01\x04\0\x01\0\0\0\x01\0\0\0\x01\0\0\0\x07\0\0\0\x01\x04\0\x01\0\0\0\x01\0\0\0\x02";
 
-/// The note 7.1 that was issued twice, the second time from an old state.
-const ONE: &[u8] = b"OGD1\0\0\0\x01\0\0\0\x07\0\0\0\x01\x03\x01a\x03one";
-
-const TWO: &[u8] = b"OGD1\0\0\0\x01\0\0\0\x07\0\0\0\x01\x03\x01a\x03two";
-
 /// A block of Dawson's Kayles.
 const DAWSON: &[u8] = br#"{"code":"0.07","start":0,"values":[0,0,1,1,2,0,3]}"#;
 
 const IMPORTED: &str =
     "census 2\ngame 0.07 known 7\nvalues 0 0 0 1 1 2 0 3\nblock 7.1 at 0 count 7 proved\nauthor 7 through 1 last 1\nend\n";
 
-const COMPUTED: &str =
+pub(crate) const COMPUTED: &str =
     "census 2\ngame 0.137 known 6\nvalues 0 0 1 1 2 0 3\nblock 7.1 at 1 count 5 proved\nauthor 7 through 1 last 1\nend\n";
 
 const REMOVED: &str =
     "census 2\nauthor 1 through 2 last 2\nauthor 2 through 1 last 1\nauthor 7 through 1 last 1\nend\n";
-
-const FORKED: &str =
-    "census 2\nnote a 7.1 one\nnote a 7.1 two\nfork 7.1 contents 2\nauthor 7 through 1 last 1\nend\n";
 
 // The command, with its words in memory.
 fn request_of(alloc: Global, ask: Ask) -> Result<Request, AllocError> {
@@ -377,10 +369,6 @@ fn long_kayles() -> [u8; 737] {
     );
     delta
 }
-
-// Kayles 1.4 at 167 count 1.
-const LAST: &[u8] =
-    b"OGD1\0\0\0\x01\0\0\0\x01\0\0\0\x04\x01\0\x02\x07\x07\0\0\0\xa7\0\x01\0\0\0\x07";
 
 // The claim gives values once its last value is there, and not before.
 #[test]

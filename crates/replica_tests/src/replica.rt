@@ -71,10 +71,10 @@ const FULL: &[u8] =
 const THIRD_OF_I: &[u8] = b"OGD1\x00\x00\x00\x01\x00\x00\x00\x05\x00\x00\x00\x03\x03\x01a\x00";
 
 // The texts of A and B, and of B alone.
-const BOTH: &str =
+pub(crate) const BOTH: &str =
     "census 2\ngame 0.77 known 8\nvalues 0 0 1 2 3 1 4 3 2\nblock 1.1 at 0 count 5 proved\nblock 2.1 at 5 count 3 proved\nauthor 1 through 1 last 1\nauthor 2 through 1 last 1\nend\n";
 
-const ALONE: &str =
+pub(crate) const ALONE: &str =
     "census 2\ngame 0.77 known 1\nvalues 0 0\nblock 2.1 at 5 count 3 pending\nauthor 2 through 1 last 1\nend\n";
 
 // That of A, SECOND and THIRD.
@@ -145,11 +145,13 @@ const THIRD: &[u8] =
     b"OGD1\x00\x00\x00\x01\x00\x00\x00\x01\x00\x00\x00\x03\x01\x00\x02\x07\x07\x00\x00\x00\x03\x00\x05\x00\x00\x00\x03\x00\x00\x00\x01\x00\x00\x00\x04\x00\x00\x00\x03\x00\x00\x00\x02";
 
 // The note 7.1 that was issued twice, the second time from an old state.
-const ONE: &[u8] = b"OGD1\x00\x00\x00\x01\x00\x00\x00\x07\x00\x00\x00\x01\x03\x01a\x03one";
+pub(crate) const ONE: &[u8] =
+    b"OGD1\x00\x00\x00\x01\x00\x00\x00\x07\x00\x00\x00\x01\x03\x01a\x03one";
 
-const TWO: &[u8] = b"OGD1\x00\x00\x00\x01\x00\x00\x00\x07\x00\x00\x00\x01\x03\x01a\x03two";
+pub(crate) const TWO: &[u8] =
+    b"OGD1\x00\x00\x00\x01\x00\x00\x00\x07\x00\x00\x00\x01\x03\x01a\x03two";
 
-const FORKED: &str =
+pub(crate) const FORKED: &str =
     "census 2\nnote a 7.1 one\nnote a 7.1 two\nfork 7.1 contents 2\nauthor 7 through 1 last 1\nend\n";
 
 // Byte strings of one operation each, and what a replica prints that takes them.
@@ -217,7 +219,7 @@ const RIGHT: &[u8] =
 const EARLY: &[u8] =
     b"OGD1\x00\x00\x00\x01\x00\x00\x00\x01\x00\x00\x00\x03\x02\x00\x02\x07\x07\x00\x00\x00\x46\x00\x00\x00\x0c";
 
-const LAST: &[u8] =
+pub(crate) const LAST: &[u8] =
     b"OGD1\x00\x00\x00\x01\x00\x00\x00\x01\x00\x00\x00\x04\x01\x00\x02\x07\x07\x00\x00\x00\xa7\x00\x01\x00\x00\x00\x07";
 
 // Whether the replica gives the values that follow from the claim, and none of the other code.

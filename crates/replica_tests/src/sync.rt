@@ -2,7 +2,7 @@
 
 mod driven;
 
-use crate::replica::shows;
+use crate::replica::{ALONE, BOTH, shows};
 use metered::Metered;
 use oct_replica::Replica;
 use oct_sync::{MAX_READS, Progress, Role, Session, SyncError, drive};
@@ -20,9 +20,6 @@ struct Side {
     first: usize,
     shows: &'static str,
 }
-
-const BOTH: &str =
-    "census 2\ngame 0.77 known 8\nvalues 0 0 1 2 3 1 4 3 2\nblock 1.1 at 0 count 5 proved\nblock 2.1 at 5 count 3 proved\nauthor 1 through 1 last 1\nauthor 2 through 1 last 1\nend\n";
 
 // The client with Kayles from place 5, by author 2, or the server with Kayles from place 0, by author 1.
 fn side_of(role: Role) -> Side {
@@ -69,9 +66,6 @@ fn empty_side_of(role: Role) -> Side {
     side
 }
 
-const PENDING: &str =
-    "census 2\ngame 0.77 known 1\nvalues 0 0\nblock 2.1 at 5 count 3 pending\nauthor 2 through 1 last 1\nend\n";
-
 const AT_THE_OLD_LIMIT: &str =
     "census 2\ngame 0.77 known 1\nvalues 0 0\nblock 1.1 at 4095 count 1 pending\nblock 1.2 at 4096 count 1 pending\nauthor 1 through 2 last 2\nend\n";
 
@@ -81,7 +75,7 @@ fn further_sides() -> [Side; 3] {
     let mut given_none = side_of(Role::Client);
     given_none.comes =
         b"\x00\x00\x00\x05\x01\x00\x00\x00\x00\x00\x00\x00\x09\x02OGD2\x00\x00\x00\x00\x00\x00\x00\x01\x03\x00\x00\x00\x01\x03";
-    given_none.shows = PENDING;
+    given_none.shows = ALONE;
     let mut limits = side_of(Role::Server);
     limits.holds =
         b"OGD2\x00\x00\x00\x02\x00\x00\x00\x01\x00\x00\x00\x01\x01\x00\x02\x07\x07\x00\x00\x0f\xff\x00\x01\x00\x00\x00\x00\x00\x00\x00\x01\x00\x00\x00\x02\x01\x00\x02\x07\x07\x00\x00\x10\x00\x00\x01\x00\x00\x00\x00";

@@ -1,6 +1,7 @@
 //! Calls whose requests for memory are refused one after the other: what each refusal leaves, and the answer in the end.
 
 use super::*;
+use crate::commands::COMPUTED;
 
 // The catalogue of Kayles up to heap 167, with its claims.
 const PERIODIC: &str = "\
@@ -24,10 +25,6 @@ period 1.3 from 70 by 12 refuted at 70
 author 1 through 4 last 4
 end
 ";
-
-// The catalogue of author 7 after five values of 0.137 were computed and issued.
-const COMPUTED: &str =
-    "census 2\ngame 0.137 known 6\nvalues 0 0 1 1 2 0 3\nblock 7.1 at 1 count 5 proved\nauthor 7 through 1 last 1\nend\n";
 
 // That of I with one more note, and that of F, G and H with one more removal.
 const ISSUED: &str =
