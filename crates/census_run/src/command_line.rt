@@ -25,159 +25,141 @@ fn bare<'a>(alloc: Global) -> Result<Command<'a>, AllocError> {
     )
 }
 
-// A command: its name, what is said of it, and its words in order.
+// A command: its name and its words, in the order in which they stand, and what is said of it.
 struct Form {
-    name: &'static str,
+    usage: &'static str,
     help: Help,
-    words: &'static [Word],
 }
 
 const FORMS: &[Form] = &[
     Form {
-        name: "fold",
+        usage: "fold",
         help: help::FOLD,
-        words: &[],
     },
     Form {
-        name: "init",
+        usage: "init STATE ID",
         help: help::INIT,
-        words: &[STATE, ID],
     },
     Form {
-        name: "import",
+        usage: "import STATE FILE",
         help: help::IMPORT,
-        words: &[STATE, FILE],
     },
     Form {
-        name: "compute",
+        usage: "compute STATE CODE COUNT",
         help: help::COMPUTE,
-        words: &[STATE, CODE, COUNT],
     },
     Form {
-        name: "period",
+        usage: "period STATE CODE E P",
         help: help::PERIOD,
-        words: &[STATE, CODE, E, P],
     },
     Form {
-        name: "note",
+        usage: "note STATE NAME TEXT",
         help: help::NOTE,
-        words: &[STATE, NAME, TEXT],
     },
     Form {
-        name: "unnote",
+        usage: "unnote STATE NAME",
         help: help::UNNOTE,
-        words: &[STATE, NAME],
     },
     Form {
-        name: "merge",
+        usage: "merge STATE DELTA",
         help: help::MERGE,
-        words: &[STATE, DELTA],
     },
     Form {
-        name: "delta",
+        usage: "delta STATE OUT",
         help: help::DELTA,
-        words: &[STATE, OUT],
     },
     Form {
-        name: "value",
+        usage: "value STATE CODE HEAP",
         help: help::VALUE,
-        words: &[STATE, CODE, HEAP],
     },
     Form {
-        name: "page",
+        usage: "page STATE NUMBER",
         help: help::PAGE,
-        words: &[STATE, NUMBER],
     },
     Form {
-        name: "show",
+        usage: "show STATE",
         help: help::SHOW,
-        words: &[STATE],
     },
     Form {
-        name: "serve",
+        usage: "serve STATE ADDR",
         help: help::SERVE,
-        words: &[STATE, ADDR],
     },
     Form {
-        name: "sync",
+        usage: "sync STATE ADDR",
         help: help::SYNC,
-        words: &[STATE, ADDR],
     },
 ];
 
-// A word of a command, its name and what it means: one that stands once, or one that stands any number of times.
-enum Word {
-    One(&'static str, &'static str),
-    Any(&'static str, &'static str),
-}
+// The word that stands any number of times. Each other one stands once.
+const HEAP: &str = "HEAP";
 
-const STATE: Word = Word::One("STATE", "The state file");
-
-const ID: Word = Word::One(
-    "ID",
-    "The author of what is issued there, 1 to 4294967295; no two people may have one",
-);
-
-const FILE: Word = Word::One(
-    "FILE",
-    "A JSON file such as {\"code\":\"0.07\",\"start\":0,\"values\":[0,0,1,1,2,0,3]}",
-);
-
-const DELTA: Word = Word::One("DELTA", "A delta file, as `census delta` writes it");
-
-const OUT: Word = Word::One(
-    "OUT",
-    "The file that is written, in place of what stands there",
-);
-
-const ADDR: Word = Word::One("ADDR", "An address such as 127.0.0.1:4000");
-
-const CODE: Word = Word::One(
-    "CODE",
-    "An octal code such as 0.77: head 0 or 4, a point, digits 0 to 7, at most 16 that count",
-);
-
-const COUNT: Word = Word::One(
-    "COUNT",
-    "How many values, 1 to 1024; fewer where heap 65535 comes first",
-);
-
-const E: Word = Word::One("E", "The heap from which on the values repeat, 1 to 65536");
-
-const P: Word = Word::One("P", "The period, 1 to 65536");
-
-const NAME: Word = Word::One("NAME", "The note's name, 1 to 32 bytes of a-z, 0-9 and -");
-
-const TEXT: Word = Word::One(
-    "TEXT",
-    "The note's text, at most 200 bytes from the space to the tilde",
-);
-
-const NUMBER: Word = Word::One("NUMBER", "The page's number, 0 and up; a page has 64 lines");
-
-const HEAP: Word = Word::Any(
-    "HEAP",
-    "The heaps of the position, each 0 to 18446744073709551615; none is the empty position",
-);
+// What the words mean.
+const MEANINGS: &[(&str, &str)] = &[
+    ("STATE", "The state file"),
+    (
+        "ID",
+        "The author of what is issued there, 1 to 4294967295; no two people may have one",
+    ),
+    (
+        "FILE",
+        "A JSON file such as {\"code\":\"0.07\",\"start\":0,\"values\":[0,0,1,1,2,0,3]}",
+    ),
+    ("DELTA", "A delta file, as `census delta` writes it"),
+    (
+        "OUT",
+        "The file that is written, in place of what stands there",
+    ),
+    ("ADDR", "An address such as 127.0.0.1:4000"),
+    (
+        "CODE",
+        "An octal code such as 0.77: head 0 or 4, a point, digits 0 to 7, at most 16 that count",
+    ),
+    (
+        "COUNT",
+        "How many values, 1 to 1024; fewer where heap 65535 comes first",
+    ),
+    ("E", "The heap from which on the values repeat, 1 to 65536"),
+    ("P", "The period, 1 to 65536"),
+    ("NAME", "The note's name, 1 to 32 bytes of a-z, 0-9 and -"),
+    (
+        "TEXT",
+        "The note's text, at most 200 bytes from the space to the tilde",
+    ),
+    ("NUMBER", "The page's number, 0 and up; a page has 64 lines"),
+    (
+        HEAP,
+        "The heaps of the position, each 0 to 18446744073709551615; none is the empty position",
+    ),
+];
 
 // The command of this form.
 fn command_of<'a>(alloc: Global, form: &Form) -> Result<Command<'a>, AllocError> {
-    let mut command = Command::new(alloc, form.name)
+    let mut words = form.usage.split(' ');
+    let mut command = Command::new(alloc, words.next().unwrap_or(""))
         .about(form.help.about)
         .after_help(form.help.after);
-    for word in form.words {
+    for word in words {
         command = command.arg(argument_of(alloc, word))?;
     }
     Ok(command)
 }
 
 // The argument that this word is.
-fn argument_of<'a>(alloc: Global, word: &Word) -> Arg<'a> {
-    match word {
-        Word::One(name, help) => Arg::new(alloc, name).help(help).required(true),
-        Word::Any(name, help) => Arg::new(alloc, name)
-            .help(help)
-            .action(ArgAction::Append)
-            .num_args(0..),
+fn argument_of<'a>(alloc: Global, word: &'static str) -> Arg<'a> {
+    let argument = Arg::new(alloc, word).help(meaning_of(word));
+    if word == HEAP {
+        argument.action(ArgAction::Append).num_args(0..)
+    } else {
+        argument.required(true)
     }
+}
+
+// What the word means.
+fn meaning_of(word: &str) -> &'static str {
+    for &(name, meaning) in MEANINGS {
+        if name == word {
+            return meaning;
+        }
+    }
+    ""
 }
