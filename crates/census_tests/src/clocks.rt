@@ -14,47 +14,69 @@ const OLD: &[(u32, u32)] = &[(2, 9), (3, 4)];
 
 const JOINED: &[(u32, u32)] = &[(1, 5), (2, 9), (3, 5), (4, 5), (5, 5)];
 
-// Raises the clock to these entries, and says whether that was done.
-fn raises<A: Allocator>(clock: &mut Clock<A>, entries: &[(u32, u32)]) -> bool {
+// Raises the clock to an entry where memory is refused at first, which changes nothing, and says whether that was done. An
+// empty clock needs memory for it. `heap` counts the requests of the clock.
+fn is_raised<A: Allocator>(
+    heap: &Metered<Global>,
+    clock: &mut Clock<A>,
+    author: u32,
+    number: u32,
+) -> bool {
+    if author == 0 {
+        return false;
+    }
+    let count = clock.entries().len();
+    heap.arm(0);
+    if clock.raise(author, number).is_ok() {
+        return count > 0;
+    }
+    let is_same = clock.entries().len() == count && clock.through(author) == 0;
+    heap.arm(1);
+    is_same && clock.raise(author, number).is_ok()
+}
+
+// The same of these entries.
+fn raises<A: Allocator>(
+    heap: &Metered<Global>,
+    clock: &mut Clock<A>,
+    entries: &[(u32, u32)],
+) -> bool {
     let mut all = true;
     for &(author, number) in entries {
-        all &= author >= 1 && clock.raise(author, number).is_ok();
+        all &= is_raised(heap, clock, author, number);
     }
     all
 }
 
 // Whether the greater numbers stay.
-fn keeps_greater_numbers<A: Allocator>(alloc: A) -> bool {
+fn keeps_greater_numbers<A: Allocator>(heap: &Metered<Global>, alloc: A) -> bool {
     let mut clock = Clock::new(alloc);
-    raises(&mut clock, &[(7, 4), (2, 9), (7, 3), (5, 0)])
+    raises(heap, &mut clock, &[(7, 4), (2, 9), (7, 3), (5, 0)])
         && clock.entries() == [(2, 9), (7, 4)].as_slice()
-        && raises(&mut clock, &[(7, u32::MAX)])
+        && raises(heap, &mut clock, &[(7, u32::MAX)])
         && clock.through(7) == u32::MAX
         && clock.through(5) == 0
 }
 
 #[test]
 fn greater_numbers_stay(rt: HostRuntime) {
-    assert!(rt; keeps_greater_numbers(rt.alloc()));
+    let heap = Metered::new(rt.alloc());
+    assert!(rt; keeps_greater_numbers(&heap, &heap));
 }
 
-// Whether the clock covers the author's operation of this number.
-fn covers<A: Allocator>(clock: &Clock<A>, author: u32, number: u32) -> bool {
-    match Dot::new(author, number) {
-        Ok(dot) => clock.covers(&dot),
-        Err(_) => false,
-    }
-}
+// Authors and numbers, and whether a clock covers them that knows the first two operations of author 5, and no other.
+const COVERED: &[(u32, u32, bool)] = &[(5, 1, true), (5, 2, true), (5, 3, false), (6, 1, false)];
 
-// Whether the clock knows the first two operations of author 5, and no other.
+// Whether the clock is such a one.
 fn knows_two<A: Allocator>(clock: &Clock<A>) -> bool {
-    covers(clock, 5, 1)
-        && covers(clock, 5, 2)
-        && !covers(clock, 5, 3)
-        && !covers(clock, 6, 1)
-        && clock.through(5) == 2
-        && clock.through(6) == 0
-        && clock.entries() == [(5, 2)].as_slice()
+    let mut all = clock.entries() == [(5, 2)].as_slice();
+    for &(author, number, wanted) in COVERED {
+        all &= match Dot::new(author, number) {
+            Ok(dot) => clock.covers(&dot) == wanted,
+            Err(_) => false,
+        };
+    }
+    all && clock.through(5) == 2 && clock.through(6) == 0
 }
 
 // Whether a clock is made and read without a request for memory.
@@ -85,74 +107,76 @@ fn is_below(entries: &[(u32, u32)], others: &[(u32, u32)]) -> bool {
     all
 }
 
-// Whether the empty clock gets the five authors where memory is refused to each at first, which changes nothing.
-fn is_raised<A: Allocator>(heap: &Metered<Global>, clock: &mut Clock<A>) -> bool {
-    let mut is_refused = false;
-    let mut all = true;
-    for author in 1..6u32 {
-        heap.arm(0);
-        let count = clock.entries().len();
-        if clock.raise(author, 5).is_err() {
-            is_refused = true;
-            all &= clock.entries().len() == count && clock.through(author) == 0;
-            heap.arm(1);
-            all &= clock.raise(author, 5).is_ok();
-        }
-    }
-    is_refused && all && clock.entries() == FIVE
-}
-
-// Whether the other is joined where each request for memory is refused in turn, with a content between before.
-fn joins<A: Allocator>(heap: &Metered<Global>, clock: &mut Clock<A>, other: &Clock<A>) -> bool {
-    for grants in 0..10u64 {
-        heap.arm(grants);
-        if clock.join(other).is_ok() {
-            return grants > 0 && clock.entries() == JOINED;
-        }
-        if !is_below(OLD, clock.entries()) || !is_below(clock.entries(), JOINED) {
-            return false;
-        }
-    }
-    false
-}
-
-// Whether the old clock is joined with that of the five, once that is raised.
-fn joins_both<A: Allocator + Copy>(heap: &Metered<Global>, alloc: A) -> bool {
-    let mut clock = Clock::new(alloc);
-    let mut other = Clock::new(alloc);
-    raises(&mut clock, OLD) && is_raised(heap, &mut other) && joins(heap, &mut clock, &other)
-}
-
-// Whether the others are gathered into the empty clock in the same way.
-fn gathers<A: Allocator>(
+// Whether the others are joined, or gathered where they are not one alone, where each request for memory is refused in turn,
+// with a content between before.
+fn grows<A: Allocator>(
     heap: &Metered<Global>,
     clock: &mut Clock<A>,
     others: &[Clock<A>],
+    held: &[(u32, u32)],
     wanted: &[(u32, u32)],
 ) -> bool {
     for grants in 0..10u64 {
         heap.arm(grants);
-        if gather(clock, others).is_ok() {
+        let grown = match others {
+            [other] => clock.join(other),
+            _ => gather(clock, others),
+        };
+        if grown.is_ok() {
             return grants > 0 && clock.entries() == wanted;
         }
-        if !is_below(clock.entries(), wanted) {
+        if !is_below(held, clock.entries()) || !is_below(clock.entries(), wanted) {
             return false;
         }
     }
     false
 }
 
-// Whether {1 at 1} and these entries are gathered so.
-fn gathers_both(heap: &Metered<Global>, entries: &[(u32, u32)]) -> bool {
+// Adds a clock with exactly these entries, and says whether that was done.
+fn adds<A: Allocator + Copy>(
+    heap: &Metered<Global>,
+    alloc: A,
+    clocks: &mut Vec<Clock<A>, A>,
+    entries: &[(u32, u32)],
+) -> bool {
+    let mut clock = Clock::new(alloc);
+    let is_raised = raises(heap, &mut clock, entries) && clock.entries() == entries;
     heap.arm(u64::MAX);
-    let mut one = Clock::new(heap);
-    let mut other = Clock::new(heap);
-    let is_raised = raises(&mut one, &[(1, 1)]) && raises(&mut other, entries);
-    is_raised && gathers(heap, &mut Clock::new(heap), &[one, other], entries)
+    clocks.push(clock).is_ok() && is_raised
+}
+
+/// What a clock holds, what the others hold that it takes in, and what it holds then.
+type Case = (
+    &'static [(u32, u32)],
+    &'static [&'static [(u32, u32)]],
+    &'static [(u32, u32)],
+);
+
+// The old clock is joined with that of the five; {1 at 1} and others are gathered into the empty clock.
+const CASES: &[Case] = &[
+    (OLD, &[FIVE], JOINED),
+    (&[], &[&[(1, 1)], TWO], TWO),
+    (&[], &[&[(1, 1)], FIVE], FIVE),
+];
+
+// Whether a case comes out so.
+fn comes_out<A: Allocator + Copy>(heap: &Metered<Global>, alloc: A, case: &Case) -> bool {
+    let (held, others, wanted) = *case;
+    let mut clock = Clock::new(alloc);
+    let mut clocks = Vec::new(alloc);
+    let mut all = raises(heap, &mut clock, held);
+    for entries in others {
+        all &= adds(heap, alloc, &mut clocks, entries);
+    }
+    all && grows(heap, &mut clock, &clocks, held, wanted)
 }
 
 #[test]
 fn refused_clocks_grow_in_the_end(rt: HostRuntime) {
     let heap = Metered::new(rt.alloc());
-    assert!(rt; joins_both(&heap, &heap) && gathers_both(&heap, TWO) && gathers_both(&heap, FIVE));
+    let mut all = true;
+    for case in CASES {
+        all &= comes_out(&heap, &heap, case);
+    }
+    assert!(rt; all);
 }

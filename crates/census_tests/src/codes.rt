@@ -4,14 +4,51 @@ use metered::Metered;
 use oct_code::{Code, CodeError, DigitsError};
 use std::alloc::{Allocator, Global};
 
+// Whether the code is written after the bytes that are there where each request for memory is refused in turn, and nothing is
+// written before.
+fn is_appended<A: Allocator>(
+    heap: &Metered<Global>,
+    out: &mut Vec<u8, A>,
+    code: Code,
+    before: &[u8],
+    after: &[u8],
+) -> bool {
+    for grants in 0..10u64 {
+        heap.arm(grants);
+        if code.append_text(out).is_ok() {
+            return grants > 0 && out.as_slice() == after;
+        }
+        if out.as_slice() != before {
+            return false;
+        }
+    }
+    false
+}
+
 // Whether the text is that of a code which is written so.
-fn is_written<A: Allocator>(alloc: A, text: &[u8], written: &[u8]) -> bool {
-    let mut out = Vec::new(alloc);
-    match Code::parse(text) {
-        Ok(code) => code.append_text(&mut out).is_ok() && out.as_slice() == written,
-        Err(_) => false,
+fn is_written<A: Allocator>(
+    heap: &Metered<Global>,
+    alloc: A,
+    text: &[u8],
+    before: &[u8],
+    after: &[u8],
+) -> bool {
+    heap.arm(u64::MAX);
+    match (Code::parse(text), Vec::from_slice(alloc, before)) {
+        (Ok(code), Ok(mut out)) => is_appended(heap, &mut out, code, before, after),
+        _ => false,
     }
 }
+
+// Texts, what is there already, and what it is once the code of the text is written.
+const WRITTEN: &[(&[u8], &[u8], &[u8])] = &[
+    (b"0.77", b"", b"0.77"),
+    (b"0.77", b"x", b"x0.77"),
+    (b".770", b"", b"0.77"),
+    (b".0", b"", b"0.0"),
+    (b"4.000", b"", b"4.0"),
+    (b"0.77777777777777770", b"", b"0.7777777777777777"),
+];
 
 // Texts that are no code, and their faults.
 const REFUSED: &[(&[u8], CodeError)] = &[
@@ -28,16 +65,10 @@ const REFUSED: &[(&[u8], CodeError)] = &[
 
 #[test]
 fn texts_are_refused_or_read_and_written(rt: HostRuntime) {
-    let rows: [(&[u8], &[u8]); 5] = [
-        (b"0.77", b"0.77"),
-        (b".770", b"0.77"),
-        (b".0", b"0.0"),
-        (b"4.000", b"4.0"),
-        (b"0.77777777777777770", b"0.7777777777777777"),
-    ];
+    let heap = Metered::new(rt.alloc());
     let mut all = true;
-    for (text, written) in rows {
-        all &= is_written(rt.alloc(), text, written);
+    for &(text, before, after) in WRITTEN {
+        all &= is_written(&heap, &heap, text, before, after);
     }
     for (text, fault) in REFUSED {
         all &= Code::parse(text) == Err(*fault);
@@ -63,67 +94,36 @@ fn are_read() -> bool {
     }
 }
 
-// Whether the digits are refused by this fault.
-fn are_refused(head: u8, digits: &[u8], fault: DigitsError) -> bool {
-    match Code::from_digits(head, digits) {
-        Ok(_) => false,
-        Err(error) => error == fault,
-    }
-}
+// Digits that are no code, and their faults.
+const REFUSED_DIGITS: &[(u8, &[u8], DigitsError)] = &[
+    (0, &[7, 0], DigitsError::Trailing),
+    (0, &[8], DigitsError::Digit),
+    (0, &[8; 17], DigitsError::Long),
+    (1, &[8; 17], DigitsError::Head),
+];
 
 #[test]
 fn digits_are_read_or_refused(rt: HostRuntime) {
-    assert!(rt;
-        are_read()
-            && are_refused(0, &[7, 0], DigitsError::Trailing)
-            && are_refused(0, &[8], DigitsError::Digit)
-            && are_refused(0, &[8; 17], DigitsError::Long)
-            && are_refused(1, &[8; 17], DigitsError::Head)
-    );
-}
-
-// Whether the first text's code is below the second's, and not the other way round.
-fn is_below(text: &[u8], other: &[u8]) -> bool {
-    match (Code::parse(text), Code::parse(other)) {
-        (Ok(code), Ok(other)) => code < other && other > code && code != other,
-        _ => false,
-    }
-}
-
-#[test]
-fn codes_are_ordered(rt: HostRuntime) {
-    let rising: [&[u8]; 8] = [
-        b"0.0", b"0.3", b"0.7", b"0.07", b"0.77", b"0.137", b"4.0", b"4.3",
-    ];
-    let mut all = true;
-    for at in 1..rising.len() {
-        all &= is_below(rising[at - 1], rising[at]);
+    let mut all = are_read();
+    for (head, digits, fault) in REFUSED_DIGITS {
+        all &= Code::from_digits(*head, digits) == Err(*fault);
     }
     assert!(rt; all);
 }
 
-// Whether the code of Kayles is written after another byte where each request for memory is refused in turn, and
-// nothing is written before.
-fn is_appended<A: Allocator>(heap: &Metered<Global>, out: &mut Vec<u8, A>, code: Code) -> bool {
-    for grants in 0..10u64 {
-        heap.arm(grants);
-        if code.append_text(out).is_ok() {
-            return grants > 0 && out.as_slice() == b"x0.77".as_slice();
-        }
-        if out.as_slice() != b"x".as_slice() {
-            return false;
-        }
-    }
-    false
-}
+// Codes, each of which is below the next one, and not the other way round.
+const RISING: &[&[u8]] = &[
+    b"0.0", b"0.3", b"0.7", b"0.07", b"0.77", b"0.137", b"4.0", b"4.3",
+];
 
 #[test]
-fn refused_texts_are_written_again(rt: HostRuntime) {
-    let heap = Metered::new(rt.alloc());
-    assert!(rt;
-        match (Code::parse(b"0.77"), Vec::from_slice(&heap, b"x")) {
-            (Ok(code), Ok(mut out)) => is_appended(&heap, &mut out, code),
+fn codes_are_ordered(rt: HostRuntime) {
+    let mut all = true;
+    for at in 1..RISING.len() {
+        all &= match (Code::parse(RISING[at - 1]), Code::parse(RISING[at])) {
+            (Ok(code), Ok(other)) => code < other && other > code && code != other,
             _ => false,
-        }
-    );
+        };
+    }
+    assert!(rt; all);
 }

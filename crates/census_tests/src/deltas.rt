@@ -1,6 +1,6 @@
 //! Deltas and clocks as bytes: worked texts, what else is read, and what a call leaves where memory is refused.
 
-use crate::vectors::{A, B, C, D, E, F, G, H, I, LAST, long_block, many_notes};
+use crate::vectors::{A, B, C, D, E, F, G, H, I, LAST, SOME, long_block, many_notes};
 use metered::Metered;
 use oct_code::Code;
 use oct_delta::{
@@ -24,6 +24,9 @@ const LATER: &[u8] = b"OGD2\x00\x00\x00\x01\
 const LATER_IN_OLD: &[u8] = b"OGD1\x00\x00\x00\x01\
       \x00\x00\x00\x01\x00\x00\x00\x01\x01\x00\x02\x07\x07\x00\x00\x0f\xff\x00\x02\
       \x00\x00\x00\x00\x00\x00\x00\x00";
+
+// What is written as it was read.
+const WORKED: &[&[u8]] = &[A, B, C, D, E, F, G, H, I, LATER, LAST];
 
 // Two values from the last place on.
 const PAST_LAST: &[u8] = b"OGD2\x00\x00\x00\x01\
@@ -78,7 +81,7 @@ fn worked_texts_of_both_formats_are_read_and_written_back(rt: HostRuntime) {
         && writes(alloc, RENAMED, A)
         && is_refused(alloc, LATER_IN_OLD, DeltaError::Refused)
         && is_refused(alloc, PAST_LAST, DeltaError::Refused);
-    for text in &[A, B, C, D, E, F, G, H, I, LATER, LAST] {
+    for text in WORKED {
         all &= writes(alloc, text, text);
     }
     assert!(rt; all);
@@ -143,9 +146,7 @@ fn reads_again<A: Allocator + Copy>(
 ) -> bool {
     for grants in 0..100u64 {
         heap.arm(grants);
-        let read = decode(alloc, text);
-        heap.arm(u64::MAX);
-        match read {
+        match decode(alloc, text) {
             Ok(list) => return grants > 0 && list.as_slice() == ops,
             Err(DeltaError::OutOfMemory) => {}
             Err(_) => return false,
@@ -170,14 +171,13 @@ fn writes_again<A: Allocator + Copy>(
     text: &[u8],
 ) -> bool {
     for grants in 0..100u64 {
+        heap.arm(u64::MAX);
         let mut out = Vec::new(alloc);
         if out.push(7).is_err() {
             return false;
         }
         heap.arm(grants);
-        let written = encode(list, &mut out);
-        heap.arm(u64::MAX);
-        if written.is_ok() {
+        if encode(list, &mut out).is_ok() {
             return grants > 0 && is_seven_and(&out, text);
         }
         if !is_seven_and(&out, &[]) {
@@ -192,6 +192,7 @@ fn reads_and_writes_again<A: Allocator + Copy>(
     alloc: A,
     text: &[u8],
 ) -> bool {
+    heap.arm(u64::MAX);
     match decode(alloc, text) {
         Ok(list) => {
             reads_again(heap, alloc, text, list.as_slice())
@@ -204,8 +205,9 @@ fn reads_and_writes_again<A: Allocator + Copy>(
 #[test]
 fn refused_texts_are_read_and_written_again(rt: HostRuntime) {
     let heap = Metered::new(rt.alloc());
-    let mut all = true;
-    for text in &[A, B, D, F, G, H, I, &long_block(), &many_notes()] {
+    let mut all = reads_and_writes_again(&heap, &heap, &long_block())
+        && reads_and_writes_again(&heap, &heap, &many_notes());
+    for text in SOME {
         all &= reads_and_writes_again(&heap, &heap, text);
     }
     assert!(rt; all);
@@ -228,9 +230,7 @@ fn reads_clock_again<A: Allocator + Copy>(
 ) -> bool {
     for grants in 0..20u64 {
         heap.arm(grants);
-        let read = decode_clock(alloc, text);
-        heap.arm(u64::MAX);
-        match read {
+        match decode_clock(alloc, text) {
             Ok(clock) => return grants > 0 && clock.entries() == entries,
             Err(ClockError::OutOfMemory) => {}
             Err(ClockError::Refused) => return false,
@@ -247,14 +247,13 @@ fn writes_clock_again<A: Allocator + Copy>(
     text: &[u8],
 ) -> bool {
     for grants in 0..20u64 {
+        heap.arm(u64::MAX);
         let mut out = Vec::new(alloc);
         if out.push(7).is_err() {
             return false;
         }
         heap.arm(grants);
-        let written = encode_clock(clock, &mut out);
-        heap.arm(u64::MAX);
-        if written.is_ok() {
+        if encode_clock(clock, &mut out).is_ok() {
             return grants > 0 && is_seven_and(&out, text);
         }
         if !is_seven_and(&out, &[]) {
@@ -270,6 +269,7 @@ fn reads_and_writes_clock_again<A: Allocator + Copy>(
     text: &[u8],
     entries: &[(u32, u32)],
 ) -> bool {
+    heap.arm(u64::MAX);
     match decode_clock(alloc, text) {
         Ok(clock) => {
             reads_clock_again(heap, alloc, text, entries)
@@ -298,9 +298,9 @@ fn refuses_clock(alloc: Global, text: &[u8]) -> bool {
 #[test]
 fn changed_clocks_are_refused(rt: HostRuntime) {
     let mut all = true;
-    for (place, byte) in [(3usize, 0), (3, 2), (7, 0), (11, 0)] {
+    for (place, byte) in &[(3usize, 0), (3, 2), (7, 0), (11, 0)] {
         let mut text = CLOCK;
-        text[place] = byte;
+        text[*place] = *byte;
         all &= refuses_clock(rt.alloc(), &text);
     }
     assert!(rt; all);

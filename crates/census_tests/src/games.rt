@@ -1,6 +1,9 @@
 //! Games with period claims: what is said of blocks, claims and positions in every order, without memory and after each
 //! refusal of memory.
 
+ghost use Rattle.std.specs.Prelude.{◌≡◌};
+
+use crate::ledgers::block;
 use metered::Metered;
 use oct_code::Code;
 use oct_ops::{Block, Dot, Period};
@@ -212,9 +215,26 @@ const LONGER: &[Case] = &[
 // The places 0, 1, 2 and 3, one after the other, as the digits of a number to the base of 4.
 const IN_ORDER: usize = 4 + 2 * 16 + 3 * 64;
 
-// The status of a block of author 1, which is added if it is not there; none where memory is refused. The block and its
-// copy take two requests.
+// The status of a block, which is added if it is not there; none where memory is refused.
 #[tactic(auto, using(oct_verify::proofs::Filings::filed_itself))]
+fn status_of<A: Allocator + Copy>(
+    alloc: A,
+    game: &mut Game<A>,
+    dot: Dot,
+    block: Block<A>,
+) -> Option<Status>
+    requires { block.code ≡ game.old.code }
+{
+    match block.copy(alloc) {
+        Ok(again) => match game.add_block(dot, block) {
+            Ok(()) => Some(game.block_status(&dot, &again)),
+            Err(_) => None,
+        },
+        Err(_) => None,
+    }
+}
+
+// The same of a block of author 1. The block and its copy take two requests.
 fn block_status<A: Allocator + Copy>(
     alloc: A,
     game: &mut Game<A>,
@@ -225,18 +245,25 @@ fn block_status<A: Allocator + Copy>(
     let Ok(dot) = Dot::new(1, number) else {
         return None;
     };
-    let Ok(values) = Vec::from_slice(alloc, values) else {
-        return None;
-    };
-    let Ok(block) = Block::new(game.code(), start, values) else {
-        return None;
-    };
-    let Ok(again) = block.copy(alloc) else {
-        return None;
-    };
-    match game.add_block(dot, block) {
-        Ok(()) => Some(game.block_status(&dot, &again)),
-        Err(_) => None,
+    match block(alloc, game.code(), start, values) {
+        Some(block) => status_of(alloc, game, dot, block),
+        None => None,
+    }
+}
+
+// The same of a claim.
+fn claim_status<A: Allocator + Copy>(
+    game: &mut Game<A>,
+    number: u32,
+    start: u32,
+    length: u32,
+) -> Option<PeriodStatus> {
+    match (Dot::new(1, number), Period::new(game.code(), start, length)) {
+        (Ok(dot), Ok(period)) => match game.add_period(dot, period) {
+            Ok(()) => Some(period_status(game.ledger(), &period)),
+            Err(_) => None,
+        },
+        _ => None,
     }
 }
 
@@ -244,20 +271,10 @@ fn block_status<A: Allocator + Copy>(
 fn is_said<A: Allocator + Copy>(alloc: A, game: &mut Game<A>, item: Item) -> Option<bool> {
     match item {
         Item::Block(number, start, values, said) => {
-            let status = block_status(alloc, game, number, start, values)?;
-            Some(status == said)
+            Some(block_status(alloc, game, number, start, values)? == said)
         }
         Item::Claim(number, start, length, said) => {
-            let (Ok(dot), Ok(period)) = (
-                Dot::new(1, number),
-                Period::new(game.code(), start, length),
-            ) else {
-                return None;
-            };
-            match game.add_period(dot, period) {
-                Ok(()) => Some(period_status(game.ledger(), &period) == said),
-                Err(_) => None,
-            }
+            Some(claim_status(game, number, start, length)? == said)
         }
     }
 }
@@ -408,13 +425,12 @@ fn answers_by<A: Allocator + Copy>(
     period: u32,
     answer: &Answer,
 ) -> bool {
-    let Ok(dot) = Dot::new(1, 1) else {
-        return false;
-    };
-    let Ok(wrong) = Period::new(ledger.code(), 2, 1) else {
-        return false;
-    };
-    let Ok(period) = Period::new(ledger.code(), start, period) else {
+    let code = ledger.code();
+    let (Ok(dot), Ok(wrong), Ok(period)) = (
+        Dot::new(1, 1),
+        Period::new(code, 2, 1),
+        Period::new(code, start, period),
+    ) else {
         return false;
     };
     let claims = [

@@ -1,5 +1,7 @@
 //! Ledgers of Kayles: what is said of blocks in whatever order they come, without memory and after each refusal of memory.
 
+ghost use Rattle.std.specs.Prelude.{◌≡◌, IfSome};
+
 use metered::Metered;
 use oct_code::Code;
 use oct_ops::{Block, Dot};
@@ -8,7 +10,7 @@ use oct_verify::{Ledger, Status};
 use std::alloc::{Allocator, Global};
 
 /// The nim-values of Kayles.
-const KAYLES: [u32; 12] = [0, 1, 2, 3, 1, 4, 3, 2, 1, 4, 2, 6];
+const KAYLES: &[u32] = &[0, 1, 2, 3, 1, 4, 3, 2, 1, 4, 2, 6];
 
 /// A block of author 1: its number, its first heap and its values.
 type Row = (u32, u32, &'static [u32]);
@@ -36,7 +38,7 @@ const BEFORE: Row = (1, 1, &[1, 2, 3, 1]);
 const AFTER: Row = (2, 5, &[4, 3, 2]);
 
 // Blocks that come one after the other.
-const CASES: [&[Step]; 11] = [
+const CASES: &[&[Step]] = &[
     &[
         (FAR, Pending, 1, 0),
         (NEXT, Pending, 1, 0),
@@ -77,7 +79,7 @@ const CASES: [&[Step]; 11] = [
     &[
         (LAST, Pending, 1, 0),
         (INNER, Pending, 1, 0),
-        ((1, 0, &KAYLES), Proved, 12, 3),
+        ((1, 0, KAYLES), Proved, 12, 3),
     ],
     &[
         (AFTER, Pending, 1, 0),
@@ -97,26 +99,52 @@ const CASES: [&[Step]; 11] = [
     &[((1, 4_095, &[0]), Pending, 1, 0)],
 ];
 
-// The status of a block, which is added if it is not there; none where memory is refused. The block and its copy take two
-// requests.
+/// The block of the code with these values, where there is memory.
+pub(crate) fn block<A: Allocator>(
+    alloc: A,
+    code: Code,
+    start: u32,
+    values: &[u32],
+) -> Option<Block<A>>
+    ensures { IfSome result (λ block. block.code ≡ code) }
+{
+    let Ok(values) = Vec::from_slice(alloc, values) else {
+        return None;
+    };
+    match Block::new(code, start, values) {
+        Ok(block) => Some(block),
+        Err(_) => None,
+    }
+}
+
+// The status of a block, which is added if it is not there; none where memory is refused.
 #[tactic(auto, using(oct_verify::proofs::Filings::filed_itself))]
+fn status_of<A: Allocator + Copy>(
+    alloc: A,
+    ledger: &mut Ledger<A>,
+    dot: Dot,
+    block: Block<A>,
+) -> Option<Status>
+    requires { block.code ≡ ledger.old.code }
+{
+    match block.copy(alloc) {
+        Ok(again) => match ledger.add(dot, block) {
+            Ok(()) => Some(ledger.status(&dot, &again)),
+            Err(_) => None,
+        },
+        Err(_) => None,
+    }
+}
+
+// The same of the block of a row. The block and its copy take two requests.
 fn status<A: Allocator + Copy>(alloc: A, ledger: &mut Ledger<A>, row: Row) -> Option<Status> {
     let (number, start, values) = row;
     let Ok(dot) = Dot::new(1, number) else {
         return None;
     };
-    let Ok(values) = Vec::from_slice(alloc, values) else {
-        return None;
-    };
-    let Ok(block) = Block::new(ledger.code(), start, values) else {
-        return None;
-    };
-    let Ok(again) = block.copy(alloc) else {
-        return None;
-    };
-    match ledger.add(dot, block) {
-        Ok(()) => Some(ledger.status(&dot, &again)),
-        Err(_) => None,
+    match block(alloc, ledger.code(), start, values) {
+        Some(block) => status_of(alloc, ledger, dot, block),
+        None => None,
     }
 }
 
@@ -145,6 +173,23 @@ fn goes_on<A: Allocator + Copy>(heap: &Metered<Global>, ledger: &Ledger<A>) -> b
     false
 }
 
+// Whether a step is made where there is memory, and what is said then is right and takes none.
+fn is_made<A: Allocator + Copy>(
+    heap: &Metered<Global>,
+    alloc: A,
+    ledger: &mut Ledger<A>,
+    step: &Step,
+) -> bool {
+    let (row, said, known, checks) = *step;
+    heap.arm(u64::MAX);
+    status(alloc, ledger, row);
+    heap.arm(1_002);
+    status(alloc, ledger, row) == Some(said)
+        && knows(ledger, known, checks)
+        && heap.left() == 1_000
+        && goes_on(heap, ledger)
+}
+
 // Makes a step, at first with so many requests granted by the heap, in which `alloc` asks for memory. Says whether these were
 // too few; none where a refusal changes anything, or what is said in the end is wrong or takes memory.
 fn makes<A: Allocator + Copy>(
@@ -154,24 +199,32 @@ fn makes<A: Allocator + Copy>(
     step: &Step,
     grants: u64,
 ) -> Option<bool> {
-    let (row, said, known, checks) = *step;
-    let (before, compared) = (ledger.known(), ledger.checks());
+    let (known, checks) = (ledger.known(), ledger.checks());
     heap.arm(grants);
-    let refused = status(alloc, ledger, row).is_none();
-    if refused && !knows(ledger, before, compared) {
-        return None;
-    }
-    heap.arm(u64::MAX);
-    status(alloc, ledger, row);
-    heap.arm(1_002);
-    let right = status(alloc, ledger, row) == Some(said)
-        && knows(ledger, known, checks)
-        && heap.left() == 1_000
-        && goes_on(heap, ledger);
+    let refused = status(alloc, ledger, step.0).is_none();
+    let right = (!refused || knows(ledger, known, checks)) && is_made(heap, alloc, ledger, step);
     if right { Some(refused) } else { None }
 }
 
-// The same of a new ledger and of all the steps.
+// The same of all the steps, from the beginning, which took no memory.
+fn makes_all<A: Allocator + Copy>(
+    heap: &Metered<Global>,
+    alloc: A,
+    ledger: &mut Ledger<A>,
+    steps: &[Step],
+    grants: u64,
+) -> Option<bool> {
+    let mut refused = false;
+    if !knows(ledger, 1, 0) || heap.left() != 1_000 {
+        return None;
+    }
+    for step in steps {
+        refused |= makes(heap, alloc, ledger, step, grants)?;
+    }
+    Some(refused)
+}
+
+// The same of a new ledger.
 fn follows<A: Allocator + Copy>(
     heap: &Metered<Global>,
     alloc: A,
@@ -181,32 +234,20 @@ fn follows<A: Allocator + Copy>(
 ) -> Option<bool> {
     heap.arm(1_000);
     let mut ledger = Ledger::new(alloc, code);
-    let mut right = ledger.code() == code && knows(&ledger, 1, 0) && heap.left() == 1_000;
-    let mut refused = false;
-    for step in steps {
-        match makes(heap, alloc, &mut ledger, step, grants) {
-            Some(again) => refused |= again,
-            None => right = false,
-        }
-    }
-    if right { Some(refused) } else { None }
+    let refused = makes_all(heap, alloc, &mut ledger, steps, grants);
+    if ledger.code() == code { refused } else { None }
 }
 
-// Whether all cases come out right where each request for memory is refused in turn.
-fn are_right(heap: &Metered<Global>) -> bool {
+// Whether the steps come out right where each request for memory is refused in turn, three of them at least.
+fn are_right(heap: &Metered<Global>, steps: &[Step]) -> bool {
     let Ok(code) = Code::parse(b"0.77") else {
         return false;
     };
     for grants in 0..64u64 {
-        let mut refused = false;
-        for steps in &CASES {
-            match follows(heap, heap, code, steps, grants) {
-                Some(again) => refused |= again,
-                None => return false,
-            }
-        }
-        if !refused {
-            return grants > 2;
+        match follows(heap, heap, code, steps, grants) {
+            Some(true) => {}
+            Some(false) => return grants > 2,
+            None => return false,
         }
     }
     false
@@ -215,5 +256,9 @@ fn are_right(heap: &Metered<Global>) -> bool {
 #[test]
 fn blocks_settle_in_every_order(rt: HostRuntime) {
     let heap = Metered::new(rt.alloc());
-    assert!(rt; are_right(&heap));
+    let mut all = true;
+    for steps in CASES {
+        all &= are_right(&heap, steps);
+    }
+    assert!(rt; all);
 }

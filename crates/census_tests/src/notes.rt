@@ -1,9 +1,10 @@
 //! Notes and removals: which notes are live, in whatever order they come, without memory and after each refusal of memory.
 
+use crate::operations::{note, removal};
 use metered::Metered;
 use oct_join::Join;
 use oct_notes::Notes;
-use oct_ops::{Body, Dot, Note, Op, Removal};
+use oct_ops::{Body, Dot, Op};
 use std::alloc::{Allocator, Global};
 
 /// A note: its author, its number, its name and its text.
@@ -38,17 +39,9 @@ fn operation<A: Allocator + Copy>(alloc: A, letter: u8) -> Option<Op<A>> {
         return None;
     };
     if letter.is_ascii_lowercase() {
-        return match Note::new(alloc, name, text) {
-            Ok(note) => Some(Op::new(dot, Body::Note(note))),
-            Err(_) => None,
-        };
-    }
-    let Ok(dots) = Vec::from_slice(alloc, &[dot]) else {
-        return None;
-    };
-    match Removal::new(dots) {
-        Ok(removal) => Some(Op::new(own, Body::Removal(removal))),
-        Err(_) => None,
+        note(alloc, dot, name, text)
+    } else {
+        removal(alloc, own, &[dot])
     }
 }
 
@@ -82,25 +75,34 @@ fn adds<A: Allocator + Copy>(
     }
 }
 
-// Adds an operation, takes it back, and adds it again, with so many requests granted as in `adds`. Where it is there, it is
-// found and can be taken back, and none of this takes memory.
-fn comes_back<A: Allocator + Copy>(
-    heap: &Metered<Global>,
-    notes: &mut Notes<A>,
-    op: &Op<A>,
-    grants: u64,
-) -> Option<bool> {
-    let refused = adds(heap, notes, op, grants)?;
+// Whether an operation that is there is found and taken back, and none of this takes memory.
+fn goes<A: Allocator + Copy>(heap: &Metered<Global>, notes: &mut Notes<A>, op: &Op<A>) -> bool {
     let before = notes.len();
     heap.arm(1_000);
     let was_there = is_added(notes, op) && notes.contains(op) && !notes.is_empty();
     notes.take_back(op);
-    let is_gone = !notes.contains(op)
+    was_there
+        && !notes.contains(op)
         && notes.len().saturating_add(1) == before
         && notes.is_empty() == (before == 1)
-        && heap.left() == 1_000;
-    adds(heap, notes, op, grants)?;
-    if was_there && is_gone {
+        && heap.left() == 1_000
+}
+
+// Adds an operation, takes it back as in `goes`, and adds it again, with so many requests granted as in `adds`. Or takes it
+// back for good.
+fn comes_back<A: Allocator + Copy>(
+    heap: &Metered<Global>,
+    notes: &mut Notes<A>,
+    op: &Op<A>,
+    for_good: bool,
+    grants: u64,
+) -> Option<bool> {
+    if for_good {
+        notes.take_back(op);
+        return Some(false);
+    }
+    let refused = adds(heap, notes, op, grants)?;
+    if goes(heap, notes, op) && adds(heap, notes, op, grants).is_some() {
         Some(refused)
     } else {
         None
@@ -117,14 +119,7 @@ fn adds_letter<A: Allocator + Copy>(
 ) -> Option<bool> {
     heap.arm(u64::MAX);
     match operation(alloc, letter) {
-        Some(op) => {
-            if letter == b'-' {
-                notes.take_back(&op);
-                Some(false)
-            } else {
-                comes_back(heap, notes, &op, grants)
-            }
-        }
+        Some(op) => comes_back(heap, notes, &op, letter == b'-', grants),
         None => None,
     }
 }
@@ -144,15 +139,18 @@ fn adds_word<A: Allocator + Copy>(
     Some(refused)
 }
 
+// Whether this is the dot of the note of the letter.
+fn is_dot(dot: Dot, letter: u8) -> bool {
+    let (author, number, _, _) = row(letter);
+    dot.author() == author && dot.number() == number
+}
+
 // Whether this is the note of the letter.
 fn is_note<A: Allocator>(op: &Op<A>, letter: u8) -> bool {
-    let (author, number, name, text) = row(letter);
+    let (_, _, name, text) = row(letter);
     match op.body() {
         Body::Note(note) => {
-            op.dot().author() == author
-                && op.dot().number() == number
-                && note.name() == name
-                && note.text() == text
+            is_dot(op.dot(), letter) && note.name() == name && note.text() == text
         }
         _ => false,
     }
@@ -177,8 +175,7 @@ fn are_dots(dots: &[Dot], word: &[u8]) -> bool {
     }
     let mut right = true;
     for place in 0..word.len() {
-        let (author, number, _, _) = row(word[place]);
-        right &= dots[place].author() == author && dots[place].number() == number;
+        right &= is_dot(dots[place], word[place]);
     }
     right
 }
@@ -191,20 +188,25 @@ fn lives<A: Allocator + Copy>(notes: &Notes<A>, word: &[u8]) -> Option<bool> {
     }
 }
 
-// Whether the dots of the live notes of the name are those of the word, in its order; none where memory is refused.
-fn finds<A: Allocator + Copy>(notes: &Notes<A>, name: &[u8], word: &[u8]) -> Option<bool> {
+// Whether the dots of the live notes that have the name of the first letter are those of the word, in its order; none where
+// memory is refused. No note has the name dawson.
+fn finds<A: Allocator + Copy>(notes: &Notes<A>, letters: &[u8], word: &[u8]) -> Option<bool> {
+    let name = match letters {
+        [letter, ..] => row(*letter).2,
+        [] => b"dawson",
+    };
     match notes.live_dots(name) {
         Ok(dots) => Some(are_dots(&dots, word)),
         Err(_) => None,
     }
 }
 
-// Whether these are the live notes, and these the dots of those with the name, where each request for memory is refused in
-// turn. No note has the name dawson.
+// Whether these are the live notes, and these the dots of those with the name of the first letter, where each request for
+// memory is refused in turn.
 fn reads<A: Allocator + Copy>(
     heap: &Metered<Global>,
     notes: &Notes<A>,
-    name: &[u8],
+    letters: &[u8],
     live: &[u8],
     dots: &[u8],
 ) -> bool {
@@ -212,10 +214,10 @@ fn reads<A: Allocator + Copy>(
         heap.arm(grants);
         let read = lives(notes, live);
         heap.arm(grants);
-        match (read, finds(notes, name, dots)) {
+        match (read, finds(notes, letters, dots)) {
             (Some(true), Some(true)) => {
                 heap.arm(u64::MAX);
-                return finds(notes, b"dawson", b"") == Some(true);
+                return finds(notes, b"", b"") == Some(true);
             }
             (Some(false), _) | (_, Some(false)) => return false,
             _ => {}
@@ -263,11 +265,7 @@ fn unites<A: Allocator + Copy>(
     let mut refused = adds_word(heap, alloc, one, held, grants)?;
     refused |= adds_word(heap, alloc, other, came, grants)?;
     refused |= joins(heap, one, other, grants)?;
-    let name = match came {
-        [letter, ..] => row(*letter).2,
-        [] => b"dawson",
-    };
-    if reads(heap, one, name, live, dots) {
+    if reads(heap, one, came, live, dots) {
         Some(refused)
     } else {
         None

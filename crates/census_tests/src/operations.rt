@@ -1,5 +1,6 @@
 //! Dots, blocks, period claims, notes, removals, operations and lists: made, refused, read, copied and compared.
 
+use crate::ledgers;
 use metered::Metered;
 use oct_code::Code;
 use oct_ops::{
@@ -19,6 +20,14 @@ fn given() -> Option<(Code, Dot, Dot)> {
     }
 }
 
+// The starts and periods of claims, and the faults of those that are refused.
+const CLAIMS: &[(u32, u32, Option<PeriodError>)] = &[
+    (0, 1, Some(PeriodError::Zero)),
+    (65_537, 0, Some(PeriodError::Zero)),
+    (65_537, 1, Some(PeriodError::PastLimit)),
+    (4_097, 1, None),
+];
+
 // Whether dots and claims are made and read, or refused by their faults.
 fn numbers_are_told(code: Code) -> bool {
     let mut all = Dot::new(0, 1) == Err(DotError::Zero) && Dot::new(1, 0) == Err(DotError::Zero);
@@ -26,12 +35,7 @@ fn numbers_are_told(code: Code) -> bool {
         Ok(dot) => (dot.author(), dot.number()) == (7, u32::MAX),
         Err(_) => false,
     };
-    for (start, period, fault) in [
-        (0, 1, Some(PeriodError::Zero)),
-        (65_537, 0, Some(PeriodError::Zero)),
-        (65_537, 1, Some(PeriodError::PastLimit)),
-        (4_097, 1, None),
-    ] {
+    for &(start, period, fault) in CLAIMS {
         all &= match Period::new(code, start, period) {
             Ok(claim) => {
                 fault.is_none()
@@ -130,29 +134,36 @@ fn what_breaks_a_rule_is_refused(rt: HostRuntime) {
     assert!(rt; rises(&[1u32, 2, 4]) && !rises(&[1u32, 2, 2]));
 }
 
+// Whether the note of Kayles is read without a request for memory.
+fn is_early<A: Allocator>(heap: &Metered<Global>, note: &Note<A>) -> bool {
+    heap.arm(1_000);
+    note.name() == b"kayles".as_slice()
+        && note.text() == b"early".as_slice()
+        && heap.left() == 1_000
+}
+
 // Whether a note is made where each request for memory is refused in turn, and then read without one.
 fn note_is_made<A: Allocator + Copy>(heap: &Metered<Global>, alloc: A) -> bool {
     for grants in 0..10u64 {
         heap.arm(grants);
         match Note::new(alloc, b"kayles", b"early") {
-            Ok(note) => {
-                heap.arm(1_000);
-                return grants > 0
-                    && note.name() == b"kayles".as_slice()
-                    && note.text() == b"early".as_slice()
-                    && heap.left() == 1_000;
-            }
-            Err(error) => {
-                if error != NoteError::OutOfMemory {
-                    return false;
-                }
-            }
+            Ok(note) => return grants > 0 && is_early(heap, &note),
+            Err(NoteError::OutOfMemory) => {}
+            Err(_) => return false,
         }
     }
     false
 }
 
-// Whether the value 4 of heap 65,535 is a block, made and read without a request for memory.
+// Whether this is the block of the value 4 of heap 65,535.
+fn is_last<A: Allocator>(block: &Block<A>, code: Code) -> bool {
+    block.code() == code
+        && block.start() == 65_535
+        && block.end() == 65_536
+        && block.values() == [4].as_slice()
+}
+
+// Whether that block is made and read without a request for memory.
 fn block_takes_no_memory<A: Allocator>(heap: &Metered<Global>, alloc: A, code: Code) -> bool {
     heap.arm(u64::MAX);
     let Ok(values) = Vec::from_slice(alloc, &[4]) else {
@@ -160,13 +171,7 @@ fn block_takes_no_memory<A: Allocator>(heap: &Metered<Global>, alloc: A, code: C
     };
     heap.arm(1_000);
     match Block::new(code, 65_535, values) {
-        Ok(block) => {
-            block.code() == code
-                && block.start() == 65_535
-                && block.end() == 65_536
-                && block.values() == [4].as_slice()
-                && heap.left() == 1_000
-        }
+        Ok(block) => is_last(&block, code) && heap.left() == 1_000,
         Err(_) => false,
     }
 }
@@ -184,11 +189,13 @@ fn removal_takes_no_memory<A: Allocator>(heap: &Metered<Global>, alloc: A, wante
     }
 }
 
-// Whether the two operations are the claims from 4,096 and from 4,097 on, the first one under the dot.
-fn are_claims<A: Allocator>(ops: &[Op<A>], dot: Dot) -> bool {
-    match ops {
+// Whether the list has two operations, the claims from 4,096 and from 4,097 on, the first one under the dot.
+fn are_claims<A: Allocator>(list: &OpList<A>, dot: Dot) -> bool {
+    match list.as_slice() {
         [one, other] => {
-            *one < *other
+            list.len() == 2
+                && !list.is_empty()
+                && *one < *other
                 && one.dot() == dot
                 && one.body().kind() == 2
                 && one.keeps_old_limits()
@@ -213,34 +220,34 @@ fn list_takes_no_memory<A: Allocator>(
     heap.arm(1_000);
     match OpList::from_rising(ops) {
         Ok(list) => {
-            is_made
-                && list.len() == 2
-                && !list.is_empty()
-                && are_claims(list.as_slice(), first)
-                && OpList::of_rising(list.into_vec()).len() == 2
-                && heap.left() == 1_000
+            let is_read = is_made && are_claims(&list, first);
+            let again = OpList::of_rising(list.into_vec());
+            is_read && again.len() == 2 && heap.left() == 1_000
         }
         Err(_) => false,
+    }
+}
+
+// Whether the answers of these all take no memory.
+fn take_no_memory<A: Allocator + Copy>(heap: &Metered<Global>, alloc: A) -> bool {
+    match given() {
+        Some((code, first, second)) => {
+            note_is_made(heap, alloc)
+                && block_takes_no_memory(heap, alloc, code)
+                && removal_takes_no_memory(heap, alloc, &[first, second])
+                && list_takes_no_memory(heap, alloc, code, first, second)
+        }
+        None => false,
     }
 }
 
 #[test]
 fn answers_take_no_memory(rt: HostRuntime) {
     let heap = Metered::new(rt.alloc());
-    assert!(rt;
-        match given() {
-            Some((code, first, second)) => {
-                note_is_made(&heap, &heap)
-                    && block_takes_no_memory(&heap, &heap, code)
-                    && removal_takes_no_memory(&heap, &heap, &[first, second])
-                    && list_takes_no_memory(&heap, &heap, code, first, second)
-            }
-            None => false,
-        }
-    );
+    assert!(rt; take_no_memory(&heap, &heap));
 }
 
-// Operations with a block of Kayles, a note and a removal, where there is memory.
+// An operation with a block, where there is memory.
 fn block<A: Allocator>(
     alloc: A,
     code: Code,
@@ -248,23 +255,27 @@ fn block<A: Allocator>(
     start: u32,
     values: &[u32],
 ) -> Option<Op<A>> {
-    let Ok(values) = Vec::from_slice(alloc, values) else {
-        return None;
-    };
-    match Block::new(code, start, values) {
-        Ok(block) => Some(Op::new(dot, Body::Block(block))),
-        Err(_) => None,
+    match ledgers::block(alloc, code, start, values) {
+        Some(block) => Some(Op::new(dot, Body::Block(block))),
+        None => None,
     }
 }
 
-fn note<A: Allocator + Copy>(alloc: A, dot: Dot) -> Option<Op<A>> {
-    match Note::new(alloc, b"kayles", b"early") {
+/// An operation with a note, where there is memory.
+pub(crate) fn note<A: Allocator + Copy>(
+    alloc: A,
+    dot: Dot,
+    name: &[u8],
+    text: &[u8],
+) -> Option<Op<A>> {
+    match Note::new(alloc, name, text) {
         Ok(note) => Some(Op::new(dot, Body::Note(note))),
         Err(_) => None,
     }
 }
 
-fn removal<A: Allocator>(alloc: A, dot: Dot, dots: &[Dot]) -> Option<Op<A>> {
+/// An operation with a removal, where there is memory.
+pub(crate) fn removal<A: Allocator>(alloc: A, dot: Dot, dots: &[Dot]) -> Option<Op<A>> {
     let Ok(dots) = Vec::from_slice(alloc, dots) else {
         return None;
     };
@@ -307,7 +318,7 @@ fn are_copied<A: Allocator + Copy>(
     second: Dot,
 ) -> bool {
     is_there_and_copied(heap, alloc, block(alloc, code, first, 0, &[0, 1, 2, 3, 1]))
-        && is_there_and_copied(heap, alloc, note(alloc, first))
+        && is_there_and_copied(heap, alloc, note(alloc, first, b"kayles", b"early"))
         && is_there_and_copied(heap, alloc, removal(alloc, first, &[first, second]))
 }
 

@@ -1,7 +1,7 @@
 //! Deltas that come in pieces, and bytes that are no delta: they are refused at once and in pieces.
 
 use crate::deltas::is_refused;
-use crate::vectors::{A, B, C, D, E, F, G, H, I, LAST, long_block, many_notes};
+use crate::vectors::{A, ALL, D, F, H, SOME, long_block, many_notes};
 use metered::Metered;
 use oct_delta::{DeltaError, Reader, decode};
 use oct_ops::Op;
@@ -27,15 +27,18 @@ fn ends_as<A: Allocator + Copy>(reader: Reader<A>, ops: &[Op<A>]) -> bool {
     }
 }
 
+// By which error the reader ends.
+fn fault<A: Allocator + Copy>(reader: Reader<A>) -> Option<DeltaError> {
+    match reader.finish() {
+        Ok(_) => None,
+        Err(refused) => Some(refused),
+    }
+}
+
 // Whether the reader has failed for good.
 fn has_failed<A: Allocator + Copy>(mut reader: Reader<A>) -> bool {
-    if !reader.items().is_empty() || reader.feed(&[]) != Err(DeltaError::Failed) {
-        return false;
-    }
-    match reader.finish() {
-        Ok(_) => false,
-        Err(refused) => refused == DeltaError::Failed,
-    }
+    let is_shut = reader.items().is_empty() && reader.feed(&[]) == Err(DeltaError::Failed);
+    fault(reader) == Some(DeltaError::Failed) && is_shut
 }
 
 // Whether these are the operations of the text, fed in pieces of so many bytes, after readers that were refused each request
@@ -53,9 +56,9 @@ fn reads_again<A: Allocator + Copy>(
         let fed = feed_pieces(&mut reader, text, size);
         heap.arm(u64::MAX);
         match fed {
-            Ok(()) => return grants > 0 && ends_as(reader, ops),
+            Ok(()) => return ends_as(reader, ops) && grants > 0,
             Err(refused) => {
-                if refused != DeltaError::OutOfMemory || !has_failed(reader) {
+                if !has_failed(reader) || refused != DeltaError::OutOfMemory {
                     return false;
                 }
             }
@@ -79,11 +82,12 @@ fn reads_after_refusals<A: Allocator + Copy>(
 #[test]
 fn refused_texts_are_read_again_in_pieces(rt: HostRuntime) {
     let heap = Metered::new(rt.alloc());
-    let mut all = true;
-    for text in &[A, B, C, D, E, F, G, H, I, LAST] {
+    let mut all = reads_after_refusals(&heap, &heap, &long_block(), 16)
+        && reads_after_refusals(&heap, &heap, &many_notes(), 16);
+    for text in ALL {
         all &= reads_after_refusals(&heap, &heap, text, 1);
     }
-    for text in &[A, B, D, F, G, H, I, &long_block(), &many_notes()] {
+    for text in SOME {
         all &= reads_after_refusals(&heap, &heap, text, 16);
     }
     assert!(rt; all);
@@ -121,14 +125,13 @@ const UNKNOWN: &[u8] = b"OGD9\x00\x00\x00\x01\
 // Whether the bytes are refused so, at once and byte by byte.
 fn is_refused_twice<A: Allocator + Copy>(alloc: A, bytes: &[u8], error: DeltaError) -> bool {
     let mut reader = Reader::new(alloc);
-    let refused = match feed_pieces(&mut reader, bytes, 1) {
-        Ok(()) => match reader.finish() {
-            Ok(_) => return false,
-            Err(refused) => refused,
-        },
-        Err(refused) => refused,
+    let fed = feed_pieces(&mut reader, bytes, 1);
+    let ended = fault(reader);
+    let refused = match fed {
+        Ok(()) => ended,
+        Err(refused) => Some(refused),
     };
-    refused == error && is_refused(alloc, bytes, error)
+    refused == Some(error) && is_refused(alloc, bytes, error)
 }
 
 #[test]
@@ -150,23 +153,33 @@ fn other_bytes_and_proper_prefixes_are_refused(rt: HostRuntime) {
     assert!(rt; all);
 }
 
-// Whether a reader of D, cut at two places, has after each piece the operations that are whole.
+// Whether a reader has, after the bytes of D from one place to another, the operations that are whole.
+fn reads_on<A: Allocator + Copy>(
+    reader: &mut Reader<A>,
+    ops: &[Op<A>],
+    start: usize,
+    end: usize,
+) -> bool {
+    let whole = match end {
+        0..=53 => 0,
+        54..=73 => 1,
+        _ => 2,
+    };
+    reader.feed(D.get(start..end).unwrap_or(&[])).is_ok()
+        && reader.items().len() == whole
+        && ops.starts_with(reader.items())
+}
+
+// Whether a reader of D, cut at two places, does so after each piece.
 fn reads_cut<A: Allocator + Copy>(alloc: A, ops: &[Op<A>], first: usize, second: usize) -> bool {
     let mut reader = Reader::new(alloc);
     let mut all = true;
     let mut start = 0;
     for end in [first, second, D.len()] {
-        let whole = match end {
-            0..=53 => 0,
-            54..=73 => 1,
-            _ => 2,
-        };
-        all &= reader.feed(D.get(start..end).unwrap_or(&[])).is_ok()
-            && reader.items().len() == whole
-            && ops.starts_with(reader.items());
+        all &= reads_on(&mut reader, ops, start, end);
         start = end;
     }
-    all && ends_as(reader, ops)
+    ends_as(reader, ops) && all
 }
 
 // Whether that holds at each pair of places.
@@ -186,10 +199,10 @@ fn reads_every_cut<A: Allocator + Copy>(alloc: A) -> bool {
 // Whether a reader that has an operation refuses what follows, and has failed then.
 fn fails_for_good<A: Allocator + Copy>(alloc: A) -> bool {
     let mut reader = Reader::new(alloc);
-    reader.feed(&D[..60]).is_ok()
+    let is_refused = reader.feed(&D[..60]).is_ok()
         && reader.items().len() == 1
-        && reader.feed(&[9; 20]) == Err(DeltaError::Refused)
-        && has_failed(reader)
+        && reader.feed(&[9; 20]) == Err(DeltaError::Refused);
+    has_failed(reader) && is_refused
 }
 
 #[test]

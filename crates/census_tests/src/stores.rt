@@ -7,7 +7,7 @@ use oct_code::Code;
 use oct_delta::{DeltaError, Reader, decode, decode_clock, op_size};
 use oct_join::{Clock, Join};
 use oct_ops::Op;
-use oct_store::{Author, Store};
+use oct_store::{Author, Fork, Store};
 use std::alloc::{Allocator, Global};
 
 // The operations of A, C, B and I in order: two blocks of one dot, another block, and the notes 5.1 and 5.3.
@@ -25,26 +25,17 @@ const ALL: &[u8] = b"OGD1\x00\x00\x00\x05\
 const CLOCK: &[u8] = b"\x00\x00\x00\x03\x00\x00\x00\x01\
       \x00\x00\x00\x01\x00\x00\x00\x02\x00\x00\x00\x01\x00\x00\x00\x05\x00\x00\x00\x01";
 
-// Inserts a copy of the operation where so many requests for memory are granted, and says whether it is new. After a
-// refusal the operation comes back, and there is no answer. `heap` counts the requests of `alloc`, here and below.
-fn puts_with<A: Allocator + Copy>(
-    heap: &Metered<Global>,
-    store: &mut Store<A>,
-    op: &Op<A>,
-    copy: Op<A>,
-    grants: u64,
-) -> Option<bool> {
-    heap.arm(grants);
-    let inserted = store.insert(copy);
-    heap.arm(u64::MAX);
-    match inserted {
+// Inserts a copy of the operation, and says whether it is new. Where memory is refused the operation comes back, and there is
+// no answer.
+fn puts_with<A: Allocator + Copy>(store: &mut Store<A>, op: &Op<A>, copy: Op<A>) -> Option<bool> {
+    match store.insert(copy) {
         Ok(added) => Some(added),
         Err((_, back)) => if back == *op { None } else { Some(false) },
     }
 }
 
 // Whether the operation is new to the store, after each request for memory was refused in turn and left it out. There is
-// one at least where the store was empty.
+// one at least where the store was empty. `heap` counts the requests of `alloc`, here and below.
 fn puts<A: Allocator + Copy>(
     heap: &Metered<Global>,
     alloc: A,
@@ -55,7 +46,10 @@ fn puts<A: Allocator + Copy>(
         let Ok(copy) = op.copy(alloc) else {
             return false;
         };
-        if let Some(added) = puts_with(heap, store, op, copy, grants) {
+        heap.arm(grants);
+        let answer = puts_with(store, op, copy);
+        heap.arm(u64::MAX);
+        if let Some(added) = answer {
             return added && store.contains(op) && (grants > 0 || store.len() > 1);
         }
         if store.contains(op) {
@@ -93,10 +87,10 @@ fn takes<A: Allocator + Copy>(
 
 // Whether the store has the first of the operations, perhaps some more of them, and no other.
 fn has_some<A: Allocator + Copy>(store: &Store<A>, ops: &[Op<A>]) -> bool {
-    let [first, ..] = ops else {
-        return false;
+    let mut all = match ops {
+        [first, ..] => store.contains(first),
+        [] => false,
     };
-    let mut all = store.contains(first);
     for op in store.iter() {
         all &= ops.contains(op);
     }
@@ -107,12 +101,30 @@ fn has_all<A: Allocator + Copy>(store: &Store<A>, ops: &[Op<A>]) -> bool {
     store.len() == ops.len() && has_some(store, ops)
 }
 
-// An author of whom the first operation is there, and this is the last.
-fn row(author: u32, last: u32) -> Author {
+// The authors of all these operations, of each of whom the first one is there.
+const AUTHORS: &[Author] = &[
     Author {
-        author,
+        author: 1,
         through: 1,
-        last,
+        last: 1,
+    },
+    Author {
+        author: 2,
+        through: 1,
+        last: 1,
+    },
+    Author {
+        author: 5,
+        through: 1,
+        last: 3,
+    },
+];
+
+// Whether the one fork is that of the two blocks 1.1.
+fn are_forks(forks: &[Fork]) -> bool {
+    match forks {
+        [fork] => fork.contents == 2 && fork.dot.author() == 1 && fork.dot.number() == 1,
+        _ => false,
     }
 }
 
@@ -136,18 +148,11 @@ fn sums_up<A: Allocator + Copy>(
             Err(_) => None,
         },
         Summary::Authors => match store.authors() {
-            Ok(authors) => {
-                Some(authors.as_slice() == [row(1, 1), row(2, 1), row(5, 3)].as_slice())
-            }
+            Ok(authors) => Some(authors.as_slice() == AUTHORS),
             Err(_) => None,
         },
         Summary::Forks => match store.forks() {
-            Ok(forks) => match forks.as_slice() {
-                [fork] => Some(
-                    fork.contents == 2 && fork.dot.author() == 1 && fork.dot.number() == 1,
-                ),
-                _ => Some(false),
-            },
+            Ok(forks) => Some(are_forks(&forks)),
             Err(_) => None,
         },
     }
@@ -240,17 +245,10 @@ fn shows_ops<A: Allocator + Copy>(
     all && has_all(&store, ops) && answers(heap, &store, ops, clock)
 }
 
-fn shows_all<A: Allocator + Copy>(heap: &Metered<Global>, alloc: A, ops: &[Op<A>]) -> bool {
-    match decode_clock(alloc, CLOCK) {
-        Ok(clock) => shows_ops(heap, alloc, ops, &clock),
-        Err(_) => false,
-    }
-}
-
 fn shows<A: Allocator + Copy>(heap: &Metered<Global>, alloc: A) -> bool {
-    match decode(alloc, ALL) {
-        Ok(list) => shows_all(heap, alloc, list.as_slice()),
-        Err(_) => false,
+    match (decode(alloc, ALL), decode_clock(alloc, CLOCK)) {
+        (Ok(list), Ok(clock)) => shows_ops(heap, alloc, list.as_slice(), &clock),
+        _ => false,
     }
 }
 
@@ -260,15 +258,13 @@ fn stores_show_what_they_hold(rt: HostRuntime) {
     assert!(rt; shows(&heap, &heap));
 }
 
-// Whether a store that takes in the operations has them, and no other.
-fn holds_ops<A: Allocator + Copy>(heap: &Metered<Global>, alloc: A, ops: &[Op<A>]) -> bool {
-    let mut store = Store::new(alloc);
-    takes_ops(heap, alloc, &mut store, ops) && has_all(&store, ops)
-}
-
+// Whether a store that takes in the operations of a delta has them, and no other.
 fn holds<A: Allocator + Copy>(heap: &Metered<Global>, alloc: A, delta: &[u8]) -> bool {
+    let mut store = Store::new(alloc);
     match decode(alloc, delta) {
-        Ok(list) => holds_ops(heap, alloc, list.as_slice()),
+        Ok(list) => {
+            takes_ops(heap, alloc, &mut store, list.as_slice()) && has_all(&store, list.as_slice())
+        }
         Err(_) => false,
     }
 }
@@ -321,14 +317,11 @@ fn refused_insertions_and_joins_are_made_again(rt: HostRuntime) {
     assert!(rt; holds(&heap, &heap, &many_notes()) && joins(&heap, &heap));
 }
 
-fn new_reader_is_empty<A: Allocator + Copy>(alloc: A) -> bool {
+// Whether a new reader and a new store have nothing.
+fn new_ones_are_empty<A: Allocator + Copy>(alloc: A) -> bool {
     let reader = Reader::new(alloc);
-    reader.items().is_empty()
-}
-
-fn new_store_is_empty<A: Allocator + Copy>(alloc: A) -> bool {
     let store = Store::new(alloc);
-    store.is_empty() && store.len() == 0 && store.last(1) == 0
+    reader.items().is_empty() && store.is_empty() && store.len() == 0 && store.last(1) == 0
 }
 
 // Whether a store of two operations, of which the second is removed, answers as it should.
@@ -356,8 +349,7 @@ fn makes_no_request<A: Allocator + Copy>(
         && is_refused(alloc, &D[..60], DeltaError::Refused)
         && op_size(block) == 46
         && op_size(claim) == 20
-        && new_reader_is_empty(alloc)
-        && new_store_is_empty(alloc)
+        && new_ones_are_empty(alloc)
         && removes(store, block, claim)
         && heap.left() == 1_000
 }

@@ -6,7 +6,7 @@ use oct_mex::{Values, first_difference};
 use std::alloc::{Allocator, Global};
 
 // The heaps 0 to 83 of Kayles, a line for each twelve.
-const KAYLES: [u32; 84] = [
+const KAYLES: &[u32] = &[
     0, 1, 2, 3, 1, 4, 3, 2, 1, 4, 2, 6, //
     4, 1, 2, 7, 1, 4, 3, 2, 1, 4, 6, 7, //
     4, 1, 2, 8, 5, 4, 7, 2, 1, 8, 6, 7, //
@@ -34,62 +34,55 @@ fn are_first<A: Allocator + Copy>(alloc: A, text: &[u8], wanted: &[u32]) -> bool
         && values.get(count).is_none()
 }
 
+// Games and their first nim-values.
+const GAMES: &[(&[u8], &[u32])] = &[
+    (b"0.77", KAYLES),
+    (b"0.07", &[0, 0, 1, 1, 2, 0, 3]),
+    (b"0.137", &[0, 1, 1, 2, 0, 3]),
+    (b"0.3", &[0, 1, 0, 1, 0, 1, 0, 1, 0, 1]),
+    (b"4.0", &[0, 0, 1, 0, 1, 0, 1, 0, 1, 0]),
+];
+
 #[test]
 fn known_games_have_their_values(rt: HostRuntime) {
-    let games: [(&[u8], &[u32]); 5] = [
-        (b"0.77", &KAYLES),
-        (b"0.07", &[0, 0, 1, 1, 2, 0, 3]),
-        (b"0.137", &[0, 1, 1, 2, 0, 3]),
-        (b"0.3", &[0, 1, 0, 1, 0, 1, 0, 1, 0, 1]),
-        (b"4.0", &[0, 0, 1, 0, 1, 0, 1, 0, 1, 0]),
-    ];
     let mut all = true;
-    for (text, wanted) in games {
+    for (text, wanted) in GAMES {
         all &= are_first(rt.alloc(), text, wanted);
     }
     assert!(rt; all);
 }
 
-// Whether a copy of the first eight values of Kayles becomes 84.
-fn copy_grows<A: Allocator + Copy>(alloc: A, values: &Values<A>) -> bool {
-    match values.copy(alloc) {
-        Ok(mut copy) => {
-            copy.as_slice() == EIGHT
-                && copy.extend_to(84).is_ok()
-                && copy.as_slice() == KAYLES.as_slice()
-        }
-        Err(_) => false,
-    }
+// Whether the first eight values of Kayles become 84.
+fn become_kayles<A: Allocator + Copy>(values: &mut Values<A>) -> bool {
+    values.as_slice() == EIGHT && values.extend_to(84).is_ok() && values.as_slice() == KAYLES
 }
 
-// Whether it does so on its own.
+// Whether a copy of them does so on its own.
 fn copies_grow<A: Allocator + Copy>(alloc: A, code: Code) -> bool {
     let mut values = Values::new(alloc, code);
-    values.extend_to(8).is_ok() && copy_grows(alloc, &values) && values.as_slice() == EIGHT
+    let is_made = values.extend_to(8).is_ok();
+    let is_grown = match values.copy(alloc) {
+        Ok(mut copy) => become_kayles(&mut copy),
+        Err(_) => false,
+    };
+    is_made && is_grown && values.as_slice() == EIGHT
 }
 
-// Whether room for eight values is made where each request for memory is refused in turn, and two values stay.
-fn get_room<A: Allocator + Copy>(heap: &Metered<Global>, values: &mut Values<A>) -> bool {
+// Whether two values get room for eight, or become 84, where each request for memory is refused in turn, and two values stay
+// before.
+fn grow<A: Allocator + Copy>(heap: &Metered<Global>, values: &mut Values<A>, room: bool) -> bool {
+    let wanted = if room { TWO } else { KAYLES };
     for grants in 0..10u64 {
         heap.arm(grants);
-        if values.room_to(8).is_ok() {
-            return grants > 0 && values.as_slice() == TWO;
+        let grown = if room {
+            values.room_to(8)
+        } else {
+            values.extend_to(84)
+        };
+        if grown.is_ok() {
+            return grants > 0 && values.as_slice() == wanted;
         }
-        if values.as_slice() != TWO || values.room() != 2 {
-            return false;
-        }
-    }
-    false
-}
-
-// Whether two values become 84 in the same way.
-fn grow<A: Allocator + Copy>(heap: &Metered<Global>, values: &mut Values<A>) -> bool {
-    for grants in 0..10u64 {
-        heap.arm(grants);
-        if values.extend_to(84).is_ok() {
-            return grants > 0 && values.as_slice() == KAYLES.as_slice();
-        }
-        if values.as_slice() != TWO {
+        if values.as_slice() != TWO || (room && values.room() != 2) {
             return false;
         }
     }
@@ -100,7 +93,7 @@ fn grow<A: Allocator + Copy>(heap: &Metered<Global>, values: &mut Values<A>) -> 
 fn grow_after_refusals<A: Allocator + Copy>(heap: &Metered<Global>, alloc: A, code: Code) -> bool {
     heap.arm(u64::MAX);
     let mut values = Values::new(alloc, code);
-    values.extend_to(2).is_ok() && get_room(heap, &mut values) && grow(heap, &mut values)
+    values.extend_to(2).is_ok() && grow(heap, &mut values, true) && grow(heap, &mut values, false)
 }
 
 // Whether these are the first eight values of Kayles.

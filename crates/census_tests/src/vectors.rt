@@ -45,6 +45,12 @@ pub const I: &[u8] = b"OGD1\x00\x00\x00\x02\
 pub const LAST: &[u8] = b"OGD2\x00\x00\x00\x01\
       \x00\x00\x00\x01\x00\x00\x00\x01\x01\x00\x02\x07\x07\x00\x00\xff\xff\x00\x01\x00\x00\x00\x00";
 
+/// Some of them, of each kind.
+pub const SOME: &[&[u8]] = &[A, B, D, F, G, H, I];
+
+/// All of them, but for the long ones.
+pub const ALL: &[&[u8]] = &[A, B, C, D, E, F, G, H, I, LAST];
+
 // The nim-values of Kayles for the heaps below 167.
 const KAYLES: [u8; 167] = [
     0, 1, 2, 3, 1, 4, 3, 2, 1, 4, 2, 6, 4, 1, 2, 7, 1, 4, 3, 2, 1, 4, 6, 7, 4, 1, 2, 8, 5, 4, 7, 2,
