@@ -518,15 +518,24 @@ fn loads<A: Allocator + Copy>(alloc: A, bytes: &[u8]) -> bool {
     replica.author() == 7 && replica.save(&mut text).is_ok() && text.as_slice() == bytes
 }
 
+// Whether the bytes are no state, for this reason.
+fn refuses_state<A: Allocator + Copy>(alloc: A, bytes: &[u8], why: LoadError) -> bool {
+    match Replica::load(alloc, bytes) {
+        Ok(_) => false,
+        Err(refused) => refused == why,
+    }
+}
+
 // Whether each proper prefix of J is refused, and a delta.
 fn refuses_states<A: Allocator + Copy>(alloc: A) -> bool {
-    let mut all = matches!(Replica::load(alloc, &A), Err(LoadError::Version));
+    let mut all = refuses_state(alloc, &A, LoadError::Version);
     for end in 0..16usize {
-        all &= match Replica::load(alloc, &J[..end]) {
-            Ok(_) => false,
-            Err(LoadError::Version) => end < 4,
-            Err(refused) => end >= 4 && refused == LoadError::Refused,
+        let wanted = if end < 4 {
+            LoadError::Version
+        } else {
+            LoadError::Refused
         };
+        all &= refuses_state(alloc, &J[..end], wanted);
     }
     all
 }

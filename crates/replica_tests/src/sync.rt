@@ -315,11 +315,15 @@ fn each_request_for_memory_may_be_refused(rt: HostRuntime) {
     assert!(rt; keeps_its_promise(&heap, &heap, &side_of(Role::Server)));
 }
 
-// A server stands, and says how many bytes it wants, without a request for memory.
+// Whether a server stands, and says how many bytes it wants, without a request for memory.
+fn stands_freely<A: Allocator + Copy>(heap: &Metered<Global>, alloc: A) -> bool {
+    heap.arm(1_000);
+    let session = Session::server(alloc);
+    session.wanted() == 5 && heap.left() == 1_000
+}
+
 #[test]
 fn answers_take_no_memory(rt: HostRuntime) {
     let heap = Metered::new(rt.alloc());
-    heap.arm(1_000);
-    let session = Session::server(&heap);
-    assert!(rt; session.wanted() == 5 && heap.left() == 1_000);
+    assert!(rt; stands_freely(&heap, &heap));
 }

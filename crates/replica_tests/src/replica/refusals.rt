@@ -216,35 +216,54 @@ const CASES: &[Case<'static>] = &[
     (3, &[&F, &G, &H], &[Change::Remove], REMOVED),
 ];
 
-// Whether the replica makes each of the changes in spite of refusals, where the other one holds A and B, and then prints
-// the text, whole and as its first page.
-fn makes_after_refusals<A: Allocator + Copy>(heap: &Metered<Global>, alloc: A, case: Case) -> bool {
-    let (author, held, made, wanted) = case;
-    let Ok(mut replica) = Replica::new(alloc, author) else {
-        return false;
-    };
-    let Ok(mut other) = Replica::new(alloc, 1) else {
-        return false;
-    };
-    let mut all = takes(&mut other, &[&A, &B], 1);
+// Whether the replica takes what it holds, makes each of the changes in spite of refusals, and then prints the text, whole
+// and as its first page.
+fn makes_beside<A: Allocator + Copy>(
+    heap: &Metered<Global>,
+    alloc: A,
+    replica: &mut Replica<A>,
+    other: &Replica<A>,
+    case: Case,
+) -> bool {
+    let (_, held, made, wanted) = case;
+    let mut all = true;
     for delta in held {
         all &= replica.take(delta).is_ok();
     }
     for change in made {
-        all &= changes(heap, alloc, &mut replica, *change, &other);
+        all &= changes(heap, alloc, replica, *change, other);
     }
     for writing in [Writing::Catalogue, Writing::Page(0)] {
-        all &= writes(heap, alloc, &replica, writing, wanted.as_bytes());
+        all &= writes(heap, alloc, replica, writing, wanted.as_bytes());
     }
     all
 }
 
-#[test]
-fn refused_changes_are_made_again(rt: HostRuntime) {
-    let heap = Metered::new(rt.alloc());
-    for &case in CASES {
-        assert!(rt; makes_after_refusals(&heap, &heap, case));
+// Whether a replica beside the other one does so.
+fn makes_case<A: Allocator + Copy>(
+    heap: &Metered<Global>,
+    alloc: A,
+    other: &Replica<A>,
+    case: Case,
+) -> bool {
+    match Replica::new(alloc, case.0) {
+        Ok(mut replica) => makes_beside(heap, alloc, &mut replica, other, case),
+        Err(_) => false,
     }
+}
+
+// Whether that is so where the other one holds A and B.
+fn makes_after_refusals<A: Allocator + Copy>(heap: &Metered<Global>, alloc: A, case: Case) -> bool {
+    match Replica::new(alloc, 1) {
+        Ok(mut other) => {
+            takes(&mut other, &[&A, &B], 1) && makes_case(heap, alloc, &other, case)
+        }
+        Err(_) => false,
+    }
+}
+
+// Whether that is so of each of the cases, and of the long block of Kayles with its claims.
+fn makes_all<A: Allocator + Copy>(heap: &Metered<Global>, alloc: A) -> bool {
     let long = long_block();
     let claims = [
         Change::Take(&long),
@@ -252,19 +271,44 @@ fn refused_changes_are_made_again(rt: HostRuntime) {
         Change::Take(EARLY),
         Change::Take(LAST),
     ];
-    assert!(rt; makes_after_refusals(&heap, &heap, (1, &[], &claims, PERIODIC)));
+    let mut all = makes_after_refusals(heap, alloc, (1, &[], &claims, PERIODIC));
+    for &case in CASES {
+        all &= makes_after_refusals(heap, alloc, case);
+    }
+    all
 }
 
-// Whether the states and the delta of I are written, and the states are loaded.
+#[test]
+fn refused_changes_are_made_again(rt: HostRuntime) {
+    let heap = Metered::new(rt.alloc());
+    assert!(rt; makes_all(&heap, &heap));
+}
+
+// What is written of a replica of author 7 with I.
+const WRITTEN: &[(Writing, &[u8])] = &[
+    (Writing::Save, FULL),
+    (Writing::Load, FULL),
+    (Writing::Delta, THIRD_OF_I),
+];
+
+// Whether the state without operations is written, and then, with I, the state and the delta, and the state is loaded.
+fn writes_with_notes<A: Allocator + Copy>(
+    heap: &Metered<Global>,
+    alloc: A,
+    replica: &mut Replica<A>,
+) -> bool {
+    let mut all = writes(heap, alloc, replica, Writing::Save, &J);
+    all &= replica.take(&I) == Ok(2);
+    for &(writing, wanted) in WRITTEN {
+        all &= writes(heap, alloc, replica, writing, wanted);
+    }
+    all
+}
+
+// Whether a replica of author 7 does so.
 fn writes_states<A: Allocator + Copy>(heap: &Metered<Global>, alloc: A) -> bool {
     match Replica::new(alloc, 7) {
-        Ok(mut replica) => {
-            writes(heap, alloc, &replica, Writing::Save, &J)
-                && replica.take(&I) == Ok(2)
-                && writes(heap, alloc, &replica, Writing::Save, FULL)
-                && writes(heap, alloc, &replica, Writing::Load, FULL)
-                && writes(heap, alloc, &replica, Writing::Delta, THIRD_OF_I)
-        }
+        Ok(mut replica) => writes_with_notes(heap, alloc, &mut replica),
         Err(_) => false,
     }
 }
@@ -281,43 +325,69 @@ note n 3.70 \n\
 author 3 through 70 last 70\n\
 end\n";
 
-// Whether the replica's catalogue has 73 lines on two pages, of which this is the second, and is written after refusals.
+// Whether the text has 73 lines, of which the second page is the end, and is written after refusals, whole and by pages.
+fn writes_text<A: Allocator + Copy>(
+    heap: &Metered<Global>,
+    alloc: A,
+    replica: &Replica<A>,
+    text: &[u8],
+) -> bool {
+    let mut lines = 0u32;
+    for byte in text {
+        lines = lines.saturating_add(u32::from(*byte == b'\n'));
+    }
+    let end = text.len().saturating_sub(SECOND_PAGE.len());
+    let mut all = lines == 73 && text.ends_with(SECOND_PAGE);
+    for (writing, wanted) in [
+        (Writing::Catalogue, text),
+        (Writing::Page(0), &text[..end]),
+        (Writing::Page(1), SECOND_PAGE),
+    ] {
+        all &= writes(heap, alloc, replica, writing, wanted);
+    }
+    all
+}
+
+// Whether that is so of the replica's catalogue, and there is no third page.
 fn writes_pages<A: Allocator + Copy>(
     heap: &Metered<Global>,
     alloc: A,
     replica: &Replica<A>,
-    second: &[u8],
 ) -> bool {
     let mut text = Vec::new(alloc);
-    let is_whole = replica.catalogue(&mut text).is_ok() && text.ends_with(second);
-    let mut lines = 0u32;
-    for byte in &text {
-        lines = lines.saturating_add(u32::from(*byte == b'\n'));
-    }
-    let end = text.len().saturating_sub(second.len());
-    is_whole
-        && lines == 73
-        && writes(heap, alloc, replica, Writing::Catalogue, &text)
-        && writes(heap, alloc, replica, Writing::Page(0), &text[..end])
-        && writes(heap, alloc, replica, Writing::Page(1), second)
+    replica.catalogue(&mut text).is_ok()
+        && writes_text(heap, alloc, replica, &text)
         && replica.page(2, &mut text) == Ok(false)
 }
 
-// Whether a replica takes 70 notes of author 3, each in spite of refusals, and writes those pages.
-fn writes_notes<A: Allocator + Copy>(heap: &Metered<Global>, alloc: A) -> bool {
-    let Ok(mut replica) = Replica::new(alloc, 1) else {
-        return false;
-    };
-    let Ok(other) = Replica::new(alloc, 1) else {
-        return false;
-    };
+// Whether the replica takes 70 notes of author 3, each in spite of refusals.
+fn takes_notes<A: Allocator + Copy>(
+    heap: &Metered<Global>,
+    alloc: A,
+    replica: &mut Replica<A>,
+    other: &Replica<A>,
+) -> bool {
     let mut all = true;
     for number in 1..71u8 {
         let mut note = *b"OGD1\x00\x00\x00\x01\x00\x00\x00\x03\x00\x00\x00\x00\x03\x01n\x00";
         note[15] = number;
-        all &= changes(heap, alloc, &mut replica, Change::Take(&note), &other);
+        all &= changes(heap, alloc, replica, Change::Take(&note), other);
     }
-    all && replica.len() == 70 && writes_pages(heap, alloc, &replica, SECOND_PAGE)
+    all && replica.len() == 70
+}
+
+// Whether a replica does so, and writes those pages.
+fn writes_notes<A: Allocator + Copy>(heap: &Metered<Global>, alloc: A) -> bool {
+    match Replica::new(alloc, 1) {
+        Ok(mut replica) => match Replica::new(alloc, 1) {
+            Ok(other) => {
+                takes_notes(heap, alloc, &mut replica, &other)
+                    && writes_pages(heap, alloc, &replica)
+            }
+            Err(_) => false,
+        },
+        Err(_) => false,
+    }
 }
 
 #[test]

@@ -5,24 +5,34 @@ use std::io::{self, ErrorKind, Read, Write};
 use std::net::{TcpListener, TcpStream};
 use std::test::Fail;
 
-// Whether the side, driven over the reader and the writer, then shows what it should.
-fn is_driven<A: Allocator + Copy, R: Read, W: Write>(
+/// The answer of a session, and whether its replica then shows what the side should.
+type Answer = (Result<(), SyncError>, bool);
+
+// The answer of the replica's session over the reader and the writer.
+fn drives_on<A: Allocator + Copy, R: Read, W: Write>(
+    alloc: A,
+    side: &Side,
+    replica: &mut Replica<A>,
+    reader: &mut R,
+    writer: &mut W,
+) -> Answer {
+    if replica.take(side.holds).is_err() {
+        return (Err(SyncError::Failed), false);
+    }
+    let answer = drive(alloc, side.role, replica, reader, writer);
+    (answer, shows(alloc, replica, side.shows))
+}
+
+// That of a replica of the side.
+fn drives<A: Allocator + Copy, R: Read, W: Write>(
     alloc: A,
     side: &Side,
     reader: &mut R,
     writer: &mut W,
-) -> Result<bool, SyncError> {
+) -> Answer {
     match Replica::new(alloc, side.author) {
-        Ok(mut replica) => {
-            if replica.take(side.holds).is_err() {
-                return Err(SyncError::Failed);
-            }
-            match drive(alloc, side.role, &mut replica, reader, writer) {
-                Ok(()) => Ok(shows(alloc, &replica, side.shows)),
-                Err(fault) => Err(fault),
-            }
-        }
-        Err(_) => Err(SyncError::Failed),
+        Ok(mut replica) => drives_on(alloc, side, &mut replica, reader, writer),
+        Err(_) => (Err(SyncError::Failed), false),
     }
 }
 
@@ -101,7 +111,7 @@ fn sink_of(side: &Side) -> Sink<'static> {
 }
 
 /// A source, a sink, and what a side is answered over them.
-type Case = (Source<'static>, Sink<'static>, Result<bool, SyncError>);
+type Case = (Source<'static>, Sink<'static>, Result<(), SyncError>);
 
 // The case of this number: slow devices, reads and writes that fail or take no byte, and inputs that end early. A client
 // reads six heads and payloads and a server five, since an end has no payload; both write twice.
@@ -116,12 +126,12 @@ fn case_of(side: &Side, number: u32) -> Case {
         0 => {
             source.most = 1;
             sink.most = 1;
-            Ok(true)
+            Ok(())
         }
         1 => {
             source.left = reads;
             sink.left = 2;
-            Ok(true)
+            Ok(())
         }
         2..=5 => {
             sink.left = number % 2;
@@ -141,13 +151,15 @@ fn case_of(side: &Side, number: u32) -> Case {
     (source, sink, answer)
 }
 
-// Whether the side is answered as it should be over each of the cases, and all is read and written where it is done.
+// Whether the side is answered as it should be over each of the cases, and where it is done, it shows what it should and
+// all is read and written.
 fn is_answered<A: Allocator + Copy>(alloc: A, side: &Side) -> bool {
     let mut all = true;
     for number in 0..92u32 {
         let (mut source, mut sink, answer) = case_of(side, number);
-        all &= is_driven(alloc, side, &mut source, &mut sink) == answer;
-        all &= answer.is_err() || source.bytes.is_empty() && sink.expected.is_empty();
+        let (given, is_shown) = drives(alloc, side, &mut source, &mut sink);
+        let is_all = is_shown && source.bytes.is_empty() && sink.expected.is_empty();
+        all &= given == answer && (answer.is_err() || is_all);
     }
     all
 }
@@ -157,16 +169,8 @@ fn keeps_what_came<A: Allocator + Copy>(alloc: A, side: &Side) -> bool {
     let mut source = source_of(side);
     let mut sink = sink_of(side);
     source.left = 4;
-    match Replica::new(alloc, side.author) {
-        Ok(mut replica) => {
-            replica.take(side.holds).is_ok()
-                && drive(alloc, side.role, &mut replica, &mut source, &mut sink)
-                    == Err(SyncError::Read)
-                && sink.expected.len() == side.sends.len().saturating_sub(side.first)
-                && shows(alloc, &replica, side.shows)
-        }
-        Err(_) => false,
-    }
+    drives(alloc, side, &mut source, &mut sink) == (Err(SyncError::Read), true)
+        && sink.expected.len() == side.sends.len().saturating_sub(side.first)
 }
 
 #[test]
@@ -203,7 +207,7 @@ fn too_many_reads_are_refused(rt: HostRuntime) {
     let side = side_of(Role::Server);
     let mut reader = Trickle { given: 0 };
     let mut sink = sink_of(&side);
-    let answer = is_driven(rt.alloc(), &side, &mut reader, &mut sink);
+    let (answer, _) = drives(rt.alloc(), &side, &mut reader, &mut sink);
     assert!(rt; answer == Err(SyncError::Turns) && reader.given == u64::from(MAX_READS));
 }
 
@@ -230,7 +234,7 @@ fn is_driven_between<A: Allocator + Copy>(alloc: A, ends: &Ends, side: &Side) ->
     let mut came = [0; 128];
     let came = &mut came[..side.sends.len().min(128)];
     far.write_all(side.comes).is_ok()
-        && is_driven(alloc, side, &mut reader, &mut writer) == Ok(true)
+        && drives(alloc, side, &mut reader, &mut writer) == (Ok(()), true)
         && far.read_exact(came).is_ok()
         && &*came == side.sends
 }
