@@ -43,19 +43,46 @@ pub fn drive<A: Allocator + Copy, P: Peer<A>, R: Read, W: Write>(
     ensures err { IfErr result (λ e. e ≢ SyncError.OutOfMemory → Breaks role e (R.remaining reader.old) (R.remaining reader.new) (W.contents writer.old) (W.contents writer.new) (P.held peer.old) (P.held peer.new)) }
     ensures author { P.author peer.new ≡ P.author peer.old }
 {
+    let mut buffer = zeros(alloc, MAX_READ)?;
     let mut owed = Vec::new(alloc);
     let mut session = begin(alloc, role, peer, &mut owed)?;
-    let mut buffer = zeros(alloc, MAX_READ)?;
+    take_turns(
+        role,
+        &mut session,
+        peer,
+        reader,
+        writer,
+        &mut buffer,
+        &mut owed,
+    )
+}
+
+// Writes all that is owed and reads what the session wants, by turns, until it is done.
+fn take_turns<A: Allocator + Copy, P: Peer<A>, R: Read, W: Write>(
+    role: Role,
+    session: &mut Session<A>,
+    peer: &mut P,
+    reader: &mut R,
+    writer: &mut W,
+    buffer: &mut [u8],
+    owed: &mut Vec<u8, A>,
+) -> Result<(), SyncError>
+    requires at { session.now ≡ Some (at_start role) }
+    requires owed { owed.now.items ≡ (begun role (P.held peer.now)).sent }
+    ensures ok { OnOk result (Completes role (R.remaining reader.old) (R.remaining reader.new) (W.contents writer.old) (W.contents writer.new) (P.held peer.old) (P.held peer.new)) }
+    ensures err { IfErr result (λ e. e ≢ SyncError.OutOfMemory → Breaks role e (R.remaining reader.old) (R.remaining reader.new) (W.contents writer.old) (W.contents writer.new) (P.held peer.old) (P.held peer.new)) }
+    ensures author { P.author peer.new ≡ P.author peer.old }
+{
     let mut progress = Progress::More;
     for _ in 0..MAX_READS {
-        send(writer, &mut owed)?;
+        send(writer, owed)?;
         if let Progress::Done = progress {
             return Ok(());
         }
-        let piece = receive(reader, &mut buffer, session.wanted())?;
-        progress = session.feed(peer, piece, &mut owed)?;
+        let piece = receive(reader, buffer, session.wanted())?;
+        progress = session.feed(peer, piece, owed)?;
     }
-    send(writer, &mut owed)?;
+    send(writer, owed)?;
     match progress {
         Progress::Done => Ok(()),
         Progress::More => Err(SyncError::Turns),

@@ -1,4 +1,5 @@
 use Rattle.std.proofs.Common.{rules, arith, ap, sym, ◌∙◌}
+use Rattle.std.proofs.lemmas.Grind.{common_steps}
 use Rattle.std.specs.Prelude.{is_some}
 use Rattle.oct_ops.specs.Operations.{listed}
 use Rattle.oct_delta.specs.Taken.{operations_of}
@@ -17,3 +18,9 @@ returns-in-Err-Version g c =
       spelled = ap is_some (sym none);
       kind = search rules;
     }
+
+pub returns-in-Ok-clause-taken : goal.returns-in-Ok-clause-taken
+returns-in-Ok-clause-taken g c = grind (arith, common_steps)
+
+pub returns-in-Ok-clause-spelled : goal.returns-in-Ok-clause-spelled
+returns-in-Ok-clause-spelled g c = grind (arith, common_steps)

@@ -1,4 +1,5 @@
-use Rattle.std.proofs.Common.{rules, ◌≡◌, None}
+use Rattle.std.proofs.Common.{rules, arith, ◌≡◌, None}
+use Rattle.std.proofs.lemmas.Grind.{common_steps}
 use Rattle.census_core.specs.Folded.{operations_of_line}
 use Rattle.census_core.proofs.Taking.{refused_once, untaken}
 use Rattle.census_core.proofs.taken.take_line.Goals as goal
@@ -11,3 +12,6 @@ returns-in-Err g c =
       counted = refused_once c.args.line.now c.args.lines.now.refused none;
       kind = search rules;
     }
+
+pub returns-clause-counted : goal.returns-clause-counted
+returns-clause-counted g c = grind (arith, common_steps)

@@ -12,3 +12,9 @@ loop-written-preserved g c =
       within = omega (arith, bound, length-drop c.loop-written.written c.args.bytes.now);
       appended = rw take-add (Appends-trans _ _ _ _ _ c.loop-written.invariant.appended bytes);
     }
+
+pub returns-in-Ok-eq0-clause-ok : goal.returns-in-Ok-eq0-clause-ok
+returns-in-Ok-eq0-clause-ok g c = tt
+
+pub returns-in-Ok-eq0-2-clause-ok : goal.returns-in-Ok-eq0-2-clause-ok
+returns-in-Ok-eq0-2-clause-ok g c = tt

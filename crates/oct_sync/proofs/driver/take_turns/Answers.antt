@@ -1,20 +1,20 @@
-use Rattle.std.proofs.Common.{refl, sym, ap, ◌∙◌}
+use Rattle.std.proofs.Common.{[], refl, sym, ap, ◌∙◌}
 use Rattle.std.proofs.KnownBytes.{Keeps-refl}
 use Rattle.std.proofs.lemmas.Result.{err_from_is_err_and}
 use Rattle.oct_sync.specs.Standing.{progress_of}
 use Rattle.oct_sync.proofs.Running.{IsRunning-begun, IsRunning-sent, IsRunning-fed, Breaks-sending, Breaks-reading, Breaks-feeding, completed}
-use Rattle.oct_sync.proofs.driver.drive.Goals as goal
+use Rattle.oct_sync.proofs.driver.take_turns.Goals as goal
 
 pub loop-init : goal.loop-init
 loop-init g c = record {
-  running = IsRunning-begun c.args.role _ _ (g.P.Peer.held c.args.peer.now) c.in_ok-session.session c.new-owed.result.items c.begin.new.owed.items c.in_ok-session.ensures.at c.new-owed.ensures.items c.in_ok-session.ensures.owed;
+  running = IsRunning-begun c.args.role _ _ (g.P.Peer.held c.args.peer.now) c.args.session.now [] c.args.owed.now.items c.requires.at refl c.requires.owed;
   author = refl;
-  progress = sym (ap progress_of c.in_ok-session.ensures.at);
+  progress = sym (ap progress_of c.requires.at);
 }
 
 pub returns-in_err-send-clause-err : goal.returns-in_err-send-clause-err
 returns-in_err-send-clause-err g c =
-    let p = err_from_is_err_and c.from_residual-in_err-send.result c.from_residual-in_err-send.ensures.1 in
+    let p = err_from_is_err_and c.from_residual.result c.from_residual.ensures.1 in
     rw (p.1, p.2) (λ _. Breaks-sending _ _ _ _ _ _ _ _ _ c.loop.invariant.running _ c.in_err-send.ensures.err)
 
 pub returns-in-Done-clause-ok : goal.returns-in-Done-clause-ok
@@ -49,6 +49,6 @@ pub returns-in-Done-progress-clause-ok : goal.returns-in-Done-progress-clause-ok
 returns-in-Done-progress-clause-ok g c =
     completed _ _ _ _ _ _ _ _ _ (IsRunning-sent _ _ _ _ _ _ _ _ _ c.loop.invariant.running _ c.in_ok-send-2.ensures.ok) refl (sym c.loop.invariant.progress ∙ c.in-Done-progress.is)
 
-pub returns-clause-err : goal.returns-clause-err
-returns-clause-err g c _ =
+pub returns-in-More-clause-err : goal.returns-in-More-clause-err
+returns-in-More-clause-err g c _ =
     Breaks-reading _ _ _ _ _ _ _ _ _ (IsRunning-sent _ _ _ _ _ _ _ _ _ c.loop.invariant.running _ c.in_ok-send-2.ensures.ok) _ tt _ (Keeps-refl _)

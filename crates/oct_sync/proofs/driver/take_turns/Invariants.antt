@@ -1,7 +1,7 @@
 use Rattle.std.proofs.Common.{◌≡◌}
 use Rattle.oct_sync.specs.Standing.{progress_of}
 use Rattle.oct_sync.proofs.Running.{IsRunning}
-use Rattle.oct_sync.proofs.driver.drive.Given as goal
+use Rattle.oct_sync.proofs.driver.take_turns.Given as goal
 
 abbrev pub invariant-loop : goal.invariant-loop
 invariant-loop g l = record {
