@@ -48,14 +48,17 @@ fn raises<A: Allocator>(
     all
 }
 
-// Whether the greater numbers stay.
-fn keeps_greater_numbers<A: Allocator>(heap: &Metered<Global>, alloc: A) -> bool {
-    let mut clock = Clock::new(alloc);
-    raises(heap, &mut clock, &[(7, 4), (2, 9), (7, 3), (5, 0)])
+// Whether the greater numbers stay, in a clock that is empty at first.
+fn grows_alone<A: Allocator>(heap: &Metered<Global>, clock: &mut Clock<A>) -> bool {
+    raises(heap, clock, &[(7, 4), (2, 9), (7, 3), (5, 0)])
         && clock.entries() == [(2, 9), (7, 4)].as_slice()
-        && raises(heap, &mut clock, &[(7, u32::MAX)])
+        && raises(heap, clock, &[(7, u32::MAX)])
         && clock.through(7) == u32::MAX
         && clock.through(5) == 0
+}
+
+fn keeps_greater_numbers<A: Allocator>(heap: &Metered<Global>, alloc: A) -> bool {
+    grows_alone(heap, &mut Clock::new(alloc))
 }
 
 #[test]

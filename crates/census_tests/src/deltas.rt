@@ -163,7 +163,30 @@ fn is_seven_and(bytes: &[u8], text: &[u8]) -> bool {
     }
 }
 
-// Whether the text is written after a byte that was there, which stays alone where a request for memory is refused.
+// Whether the text is written after a byte that is put there first, with so many requests granted; none where memory is
+// refused, and the byte stays alone.
+fn writes_after_seven<A: Allocator + Copy>(
+    heap: &Metered<Global>,
+    list: &OpList<A>,
+    out: &mut Vec<u8, A>,
+    text: &[u8],
+    grants: u64,
+) -> Option<bool> {
+    if out.push(7).is_err() {
+        return Some(false);
+    }
+    heap.arm(grants);
+    if encode(list, out).is_ok() {
+        return Some(is_seven_and(out, text));
+    }
+    if is_seven_and(out, &[]) {
+        None
+    } else {
+        Some(false)
+    }
+}
+
+// Whether that is so after each request for memory was refused in turn.
 fn writes_again<A: Allocator + Copy>(
     heap: &Metered<Global>,
     alloc: A,
@@ -172,16 +195,8 @@ fn writes_again<A: Allocator + Copy>(
 ) -> bool {
     for grants in 0..100u64 {
         heap.arm(u64::MAX);
-        let mut out = Vec::new(alloc);
-        if out.push(7).is_err() {
-            return false;
-        }
-        heap.arm(grants);
-        if encode(list, &mut out).is_ok() {
-            return grants > 0 && is_seven_and(&out, text);
-        }
-        if !is_seven_and(&out, &[]) {
-            return false;
+        if let Some(right) = writes_after_seven(heap, list, &mut Vec::new(alloc), text, grants) {
+            return right && grants > 0;
         }
     }
     false
@@ -239,7 +254,29 @@ fn reads_clock_again<A: Allocator + Copy>(
     false
 }
 
-// Whether the clock is written after a byte that was there, which stays alone where a request for memory is refused.
+// Whether the clock is written as in `writes_after_seven`.
+fn writes_clock<A: Allocator + Copy>(
+    heap: &Metered<Global>,
+    clock: &Clock<A>,
+    out: &mut Vec<u8, A>,
+    text: &[u8],
+    grants: u64,
+) -> Option<bool> {
+    if out.push(7).is_err() {
+        return Some(false);
+    }
+    heap.arm(grants);
+    if encode_clock(clock, out).is_ok() {
+        return Some(is_seven_and(out, text));
+    }
+    if is_seven_and(out, &[]) {
+        None
+    } else {
+        Some(false)
+    }
+}
+
+// Whether that is so after each request for memory was refused in turn.
 fn writes_clock_again<A: Allocator + Copy>(
     heap: &Metered<Global>,
     alloc: A,
@@ -248,16 +285,8 @@ fn writes_clock_again<A: Allocator + Copy>(
 ) -> bool {
     for grants in 0..20u64 {
         heap.arm(u64::MAX);
-        let mut out = Vec::new(alloc);
-        if out.push(7).is_err() {
-            return false;
-        }
-        heap.arm(grants);
-        if encode_clock(clock, &mut out).is_ok() {
-            return grants > 0 && is_seven_and(&out, text);
-        }
-        if !is_seven_and(&out, &[]) {
-            return false;
+        if let Some(right) = writes_clock(heap, clock, &mut Vec::new(alloc), text, grants) {
+            return right && grants > 0;
         }
     }
     false
@@ -307,11 +336,10 @@ fn changed_clocks_are_refused(rt: HostRuntime) {
 }
 
 // Whether bytes, a number and two authors are appended.
-fn fields_are_appended<A: Allocator>(alloc: A, wanted: &[u8]) -> bool {
-    let mut out = Vec::new(alloc);
-    put_bytes(&mut out, b"OGS1").is_ok()
-        && put_u32(&mut out, 258).is_ok()
-        && put_entries(&mut out, &[(1, 3), (2, 65_536)]).is_ok()
+fn fields_are_appended<A: Allocator>(out: &mut Vec<u8, A>, wanted: &[u8]) -> bool {
+    put_bytes(out, b"OGS1").is_ok()
+        && put_u32(out, 258).is_ok()
+        && put_entries(out, &[(1, 3), (2, 65_536)]).is_ok()
         && out.as_slice() == wanted
 }
 
@@ -321,5 +349,5 @@ fn fields_are_spelled(rt: HostRuntime) {
         b'O', b'G', b'S', b'1', 0, 0, 1, 2, 0, 0, 0, 2, 0, 0, 0, 1, 0, 0, 0, 3, 0, 0, 0, 2, 0, 1,
         0, 0,
     ];
-    assert!(rt; fields_are_appended(rt.alloc(), &wanted));
+    assert!(rt; fields_are_appended(&mut Vec::new(rt.alloc()), &wanted));
 }

@@ -215,8 +215,24 @@ const LONGER: &[Case] = &[
 // The places 0, 1, 2 and 3, one after the other, as the digits of a number to the base of 4.
 const IN_ORDER: usize = 4 + 2 * 16 + 3 * 64;
 
-// The status of a block, which is added if it is not there; none where memory is refused.
+// The status of a block, which is added if it is not there; none where memory is refused. `again` is a copy of it.
 #[tactic(auto, using(oct_verify::proofs::Filings::filed_itself))]
+fn status_beside<A: Allocator + Copy>(
+    game: &mut Game<A>,
+    dot: Dot,
+    block: Block<A>,
+    again: &Block<A>,
+) -> Option<Status>
+    requires code { block.code ≡ game.old.code }
+    requires copy { again.now ≡ block }
+{
+    match game.add_block(dot, block) {
+        Ok(()) => Some(game.block_status(&dot, again)),
+        Err(_) => None,
+    }
+}
+
+// The same where its copy is made first.
 fn status_of<A: Allocator + Copy>(
     alloc: A,
     game: &mut Game<A>,
@@ -226,10 +242,7 @@ fn status_of<A: Allocator + Copy>(
     requires { block.code ≡ game.old.code }
 {
     match block.copy(alloc) {
-        Ok(again) => match game.add_block(dot, block) {
-            Ok(()) => Some(game.block_status(&dot, &again)),
-            Err(_) => None,
-        },
+        Ok(again) => status_beside(game, dot, block, &again),
         Err(_) => None,
     }
 }

@@ -117,8 +117,24 @@ pub(crate) fn block<A: Allocator>(
     }
 }
 
-// The status of a block, which is added if it is not there; none where memory is refused.
+// The status of a block, which is added if it is not there; none where memory is refused. `again` is a copy of it.
 #[tactic(auto, using(oct_verify::proofs::Filings::filed_itself))]
+fn status_beside<A: Allocator + Copy>(
+    ledger: &mut Ledger<A>,
+    dot: Dot,
+    block: Block<A>,
+    again: &Block<A>,
+) -> Option<Status>
+    requires code { block.code ≡ ledger.old.code }
+    requires copy { again.now ≡ block }
+{
+    match ledger.add(dot, block) {
+        Ok(()) => Some(ledger.status(&dot, again)),
+        Err(_) => None,
+    }
+}
+
+// The same where its copy is made first.
 fn status_of<A: Allocator + Copy>(
     alloc: A,
     ledger: &mut Ledger<A>,
@@ -128,10 +144,7 @@ fn status_of<A: Allocator + Copy>(
     requires { block.code ≡ ledger.old.code }
 {
     match block.copy(alloc) {
-        Ok(again) => match ledger.add(dot, block) {
-            Ok(()) => Some(ledger.status(&dot, &again)),
-            Err(_) => None,
-        },
+        Ok(again) => status_beside(ledger, dot, block, &again),
         Err(_) => None,
     }
 }

@@ -285,13 +285,21 @@ pub(crate) fn removal<A: Allocator>(alloc: A, dot: Dot, dots: &[Dot]) -> Option<
     }
 }
 
+// Whether a copy equals the operation; none where memory is refused.
+fn copies<A: Allocator + Copy>(alloc: A, operation: &Op<A>) -> Option<bool> {
+    match operation.copy(alloc) {
+        Ok(copy) => Some(copy == *operation),
+        Err(_) => None,
+    }
+}
+
 // Whether the operation is copied where each request for memory is refused in turn, and the copy equals it.
 fn is_copied<A: Allocator + Copy>(heap: &Metered<Global>, alloc: A, operation: &Op<A>) -> bool {
     for grants in 0..10u64 {
         heap.arm(grants);
-        if let Ok(copy) = operation.copy(alloc) {
+        if let Some(right) = copies(alloc, operation) {
             heap.arm(u64::MAX);
-            return grants > 0 && copy == *operation;
+            return right && grants > 0;
         }
     }
     false

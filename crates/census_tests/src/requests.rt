@@ -5,15 +5,17 @@ use std::alloc::{Allocator, Global};
 
 const ONE: &[u64] = &[1];
 
-// Whether the heap, in which `alloc` asks for memory, counts the requests of a list that grows, and refuses them.
-fn counts<A: Allocator>(heap: &Metered<Global>, alloc: A) -> bool {
-    let is_new = heap.left() == u64::MAX;
-    let mut numbers = Vec::new(alloc);
+// Whether the heap counts the requests of a list that grows, and refuses them.
+fn counts_of<A: Allocator>(heap: &Metered<Global>, numbers: &mut Vec<u64, A>) -> bool {
     heap.arm(0);
-    let is_refused = numbers.push(1u64).is_err() && numbers.is_empty();
+    let is_refused = numbers.push(1).is_err() && numbers.is_empty();
     heap.arm(2);
-    let is_granted = numbers.push(1).is_ok() && heap.left() == 1;
-    is_new && is_refused && is_granted && numbers.as_slice() == ONE
+    is_refused && numbers.push(1).is_ok() && heap.left() == 1 && numbers.as_slice() == ONE
+}
+
+// Whether that is so of a new list, which asks for memory by `alloc`.
+fn counts<A: Allocator>(heap: &Metered<Global>, alloc: A) -> bool {
+    heap.left() == u64::MAX && counts_of(heap, &mut Vec::new(alloc))
 }
 
 #[test]

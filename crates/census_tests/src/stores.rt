@@ -317,23 +317,30 @@ fn refused_insertions_and_joins_are_made_again(rt: HostRuntime) {
     assert!(rt; holds(&heap, &heap, &many_notes()) && joins(&heap, &heap));
 }
 
-// Whether a new reader and a new store have nothing.
-fn new_ones_are_empty<A: Allocator + Copy>(alloc: A) -> bool {
+// Whether a new reader has nothing.
+fn new_reader_is_empty<A: Allocator + Copy>(alloc: A) -> bool {
     let reader = Reader::new(alloc);
+    reader.items().is_empty()
+}
+
+// Whether a new store has nothing.
+fn new_store_is_empty<A: Allocator + Copy>(alloc: A) -> bool {
     let store = Store::new(alloc);
-    reader.items().is_empty() && store.is_empty() && store.len() == 0 && store.last(1) == 0
+    store.is_empty() && store.len() == 0 && store.last(1) == 0
 }
 
 // Whether a store of two operations, of which the second is removed, answers as it should.
 fn removes<A: Allocator + Copy>(store: &mut Store<A>, block: &Op<A>, claim: &Op<A>) -> bool {
-    let before = store.contains(claim) && store.last(1) == 2 && store.len() == 2;
-    let removed = store.remove(claim) && !store.remove(claim);
-    let after = store.contains(block)
+    store.contains(claim)
+        && store.last(1) == 2
+        && store.len() == 2
+        && store.remove(claim)
+        && !store.remove(claim)
+        && store.contains(block)
         && !store.contains(claim)
         && store.last(1) == 1
         && store.len() == 1
-        && !store.is_empty();
-    before && removed && after
+        && !store.is_empty()
 }
 
 // Whether these calls make no request for memory, and answer as they should for the operations of D.
@@ -349,7 +356,8 @@ fn makes_no_request<A: Allocator + Copy>(
         && is_refused(alloc, &D[..60], DeltaError::Refused)
         && op_size(block) == 46
         && op_size(claim) == 20
-        && new_ones_are_empty(alloc)
+        && new_reader_is_empty(alloc)
+        && new_store_is_empty(alloc)
         && removes(store, block, claim)
         && heap.left() == 1_000
 }

@@ -21,17 +21,21 @@ const TWO: &[u32] = &[0, 1];
 
 const EIGHT: &[u32] = &[0, 1, 2, 3, 1, 4, 3, 2];
 
-// Whether these are the first nim-values of the game, and no more of them are computed.
-fn are_first<A: Allocator + Copy>(alloc: A, text: &[u8], wanted: &[u32]) -> bool {
-    let Ok(code) = Code::parse(text) else {
-        return false;
-    };
+// Whether the values become these, and no more of them are computed.
+fn come_to<A: Allocator + Copy>(values: &mut Values<A>, wanted: &[u32]) -> bool {
     let count = wanted.len();
-    let mut values = Values::new(alloc, code);
     count <= LIMIT
         && values.extend_to(count).is_ok()
         && values.as_slice() == wanted
         && values.get(count).is_none()
+}
+
+// Whether these are the first nim-values of the game.
+fn are_first<A: Allocator + Copy>(alloc: A, text: &[u8], wanted: &[u32]) -> bool {
+    match Code::parse(text) {
+        Ok(code) => come_to(&mut Values::new(alloc, code), wanted),
+        Err(_) => false,
+    }
 }
 
 // Games and their first nim-values.
@@ -58,14 +62,16 @@ fn become_kayles<A: Allocator + Copy>(values: &mut Values<A>) -> bool {
 }
 
 // Whether a copy of them does so on its own.
+fn copy_becomes_kayles<A: Allocator + Copy>(alloc: A, values: &Values<A>) -> bool {
+    match values.copy(alloc) {
+        Ok(mut copy) => become_kayles(&mut copy) && values.as_slice() == EIGHT,
+        Err(_) => false,
+    }
+}
+
 fn copies_grow<A: Allocator + Copy>(alloc: A, code: Code) -> bool {
     let mut values = Values::new(alloc, code);
-    let is_made = values.extend_to(8).is_ok();
-    let is_grown = match values.copy(alloc) {
-        Ok(mut copy) => become_kayles(&mut copy),
-        Err(_) => false,
-    };
-    is_made && is_grown && values.as_slice() == EIGHT
+    values.extend_to(8).is_ok() && copy_becomes_kayles(alloc, &values)
 }
 
 // Whether two values get room for eight, or become 84, where each request for memory is refused in turn, and two values stay
