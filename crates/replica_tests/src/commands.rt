@@ -7,7 +7,6 @@ use oct_ops::{NoteError, PeriodError};
 use oct_replica::{ComputeError, IssueError, LoadError, RemovalError, TakeError};
 use oct_sync::SyncError;
 use std::alloc::{AllocError, Global};
-use std::test::Fail;
 
 /// What is asked of a state, with the file that a command reads or should write. A claim has the period 1, and a note the
 /// name a.
@@ -108,46 +107,90 @@ fn request_of(alloc: Global, ask: Ask) -> Result<Request, AllocError> {
     })
 }
 
-// Whether the command is answered so. Where it writes a state, that becomes the state.
-fn answers(alloc: Global, state: &mut Vec<u8>, ask: Ask, answer: Result<&str, Fault>) -> bool {
-    let Ok(request) = request_of(alloc, ask) else {
-        return false;
-    };
+// Whether the reply is this text, with the file that is wanted. Where it has a state, that becomes the state.
+fn is_reply(reply: Reply, state: &mut Vec<u8>, wanted: Option<&[u8]>, text: &str) -> bool {
+    let Reply {
+        state: new,
+        file,
+        text: told,
+    } = reply;
+    if let Some(new) = new {
+        *state = new;
+    }
+    file.as_deref() == wanted && told.as_slice() == text.as_bytes()
+}
+
+// Whether the request is answered so.
+fn is_answered(
+    alloc: Global,
+    state: &mut Vec<u8>,
+    request: &Request,
+    ask: Ask,
+    answer: Result<&str, Fault>,
+) -> bool {
     let (read, wanted) = match ask {
         Ask::Import(file) | Ask::Merge(file) => (file, None),
         Ask::Delta(file) => (&b""[..], Some(file)),
         _ => (&b""[..], None),
     };
-    match perform(alloc, &request, state, read) {
-        Ok(reply) => {
-            let Reply {
-                state: new,
-                file,
-                text,
-            } = reply;
-            if let Some(new) = new {
-                *state = new;
-            }
-            file.as_deref() == wanted && answer.map(str::as_bytes) == Ok(&text[..])
-        }
+    match perform(alloc, request, state, read) {
+        Ok(reply) => match answer {
+            Ok(text) => is_reply(reply, state, wanted, text),
+            Err(_) => false,
+        },
         Err(fault) => answer == Err(fault),
     }
 }
 
-// Whether each command of the script is answered so, and leaves the state that is told.
-fn follows(alloc: Global, script: Script) -> bool {
-    let (start, steps, end) = script;
-    let Ok(mut state) = Vec::from_slice(alloc, start) else {
-        return false;
-    };
-    let mut all = true;
-    for &(ask, answer) in steps {
-        all &= answers(alloc, &mut state, ask, answer);
+// Whether the command is answered so. Where it writes a state, that becomes the state.
+fn answers(alloc: Global, state: &mut Vec<u8>, ask: Ask, answer: Result<&str, Fault>) -> bool {
+    match request_of(alloc, ask) {
+        Ok(request) => is_answered(alloc, state, &request, ask, answer),
+        Err(_) => false,
     }
-    all && (end.is_empty() || state.as_slice() == end)
 }
 
-const SCRIPTS: &[Script<'static>] = &[
+// Whether each command is answered so.
+fn answer_all(alloc: Global, state: &mut Vec<u8>, steps: &[Step]) -> bool {
+    let mut all = true;
+    for &(ask, answer) in steps {
+        all &= answers(alloc, state, ask, answer);
+    }
+    all
+}
+
+// Whether the commands of the script are answered so, and leave the state that is told.
+fn follows(alloc: Global, script: Script) -> bool {
+    let (start, steps, end) = script;
+    match Vec::from_slice(alloc, start) {
+        Ok(mut state) => {
+            answer_all(alloc, &mut state, steps) && (end.is_empty() || state.as_slice() == end)
+        }
+        Err(_) => false,
+    }
+}
+
+// Whether that is so of each of the scripts.
+fn follow_all(alloc: Global, scripts: &[Script]) -> bool {
+    let mut all = true;
+    for &script in scripts {
+        all &= follows(alloc, script);
+    }
+    all
+}
+
+// Whether a delta is merged into the state of author 7, and the commands are answered so then.
+fn follow_delta(alloc: Global, delta: &[u8], merged: &str, steps: &[Step]) -> bool {
+    match Vec::from_slice(alloc, J) {
+        Ok(mut state) => {
+            answers(alloc, &mut state, Ask::Merge(delta), Ok(merged))
+                && answer_all(alloc, &mut state, steps)
+        }
+        Err(_) => false,
+    }
+}
+
+const STATES: &[Script<'static>] = &[
     // A state of author 7 is made, and none of author 0; what is no state is refused.
     (b"", &[(Ask::Init(7), Ok("author 7\n"))], J),
     (b"", &[(Ask::Init(0), Err(Fault::Zero))], b""),
@@ -174,6 +217,26 @@ const SCRIPTS: &[Script<'static>] = &[
         ],
         WITH_A,
     ),
+    // Positions of Kayles have the values that A tells.
+    (
+        WITH_A,
+        &[
+            (
+                Ask::Value("0.77", &[1, 2, 3]),
+                Ok("value 0\nnext player loses\n"),
+            ),
+            (
+                Ask::Value("0.77", &[1, 2]),
+                Ok("value 3\nnext player wins\n"),
+            ),
+            (Ask::Value("0.77", &[5]), Ok("unknown at 0\n")),
+            (Ask::Value("0.77", &[]), Ok("value 0\nnext player loses\n")),
+        ],
+        b"",
+    ),
+];
+
+const ISSUES: &[Script<'static>] = &[
     // A file that is no block is refused, and a block is imported.
     (J, REFUSED_FILES, J),
     (
@@ -215,6 +278,9 @@ const SCRIPTS: &[Script<'static>] = &[
         ],
         b"",
     ),
+];
+
+const NOTES: &[Script<'static>] = &[
     // The live note is removed.
     (
         J,
@@ -268,23 +334,6 @@ const SCRIPTS: &[Script<'static>] = &[
         ],
         b"",
     ),
-    // Positions of Kayles have the values that A tells.
-    (
-        WITH_A,
-        &[
-            (
-                Ask::Value("0.77", &[1, 2, 3]),
-                Ok("value 0\nnext player loses\n"),
-            ),
-            (
-                Ask::Value("0.77", &[1, 2]),
-                Ok("value 3\nnext player wins\n"),
-            ),
-            (Ask::Value("0.77", &[5]), Ok("unknown at 0\n")),
-            (Ask::Value("0.77", &[]), Ok("value 0\nnext player loses\n")),
-        ],
-        b"",
-    ),
 ];
 
 const REFUSED_FILES: &[Step<'static>] = &[
@@ -309,11 +358,22 @@ const REFUSED_FILES: &[Step<'static>] = &[
     (Ask::Import(b""), Err(Fault::Json)),
 ];
 
+fn states_follow(alloc: Global) -> bool {
+    follow_all(alloc, STATES)
+}
+
+fn issues_follow(alloc: Global) -> bool {
+    follow_all(alloc, ISSUES)
+}
+
+fn notes_follow(alloc: Global) -> bool {
+    follow_all(alloc, NOTES)
+}
+
 #[test]
 fn commands_follow_each_other(rt: HostRuntime) {
-    for &script in SCRIPTS {
-        assert!(rt; follows(rt.alloc(), script));
-    }
+    let alloc = rt.alloc();
+    assert!(rt; states_follow(alloc) && issues_follow(alloc) && notes_follow(alloc));
 }
 
 // The delta of the notes 3.1 to 3.70 of the name n, without text.
@@ -347,16 +407,21 @@ fn many_blocks() -> [u8; 1_548] {
 const BLOCK_PAGE: &str =
     "block 3.62 at 0 count 1 proved\nblock 3.63 at 0 count 1 proved\nblock 3.64 at 0 count 1 proved\nblock 3.65 at 0 count 1 proved\nblock 3.66 at 0 count 1 proved\nblock 3.67 at 0 count 1 proved\nblock 3.68 at 0 count 1 proved\nblock 3.69 at 0 count 1 proved\nblock 3.70 at 0 count 1 proved\nauthor 3 through 70 last 70\nend\n";
 
+// What is shown of the second page, and of none after it.
+const NOTE_PAGES: &[Step<'static>] = &[
+    (Ask::Page(1), Ok(PAGE)),
+    (Ask::Page(2), Err(Fault::NoPage)),
+];
+
+const BLOCK_PAGES: &[Step<'static>] = &[
+    (Ask::Page(1), Ok(BLOCK_PAGE)),
+    (Ask::Page(2), Err(Fault::NoPage)),
+];
+
 #[test]
 fn pages_are_shown(rt: HostRuntime) {
-    for (delta, page) in [(&many_notes()[..], PAGE), (&many_blocks(), BLOCK_PAGE)] {
-        let steps = [
-            (Ask::Merge(delta), Ok("new 70\n")),
-            (Ask::Page(1), Ok(page)),
-            (Ask::Page(2), Err(Fault::NoPage)),
-        ];
-        assert!(rt; follows(rt.alloc(), (J, &steps, b"")));
-    }
+    assert!(rt; follow_delta(rt.alloc(), &many_notes(), "new 70\n", NOTE_PAGES));
+    assert!(rt; follow_delta(rt.alloc(), &many_blocks(), "new 70\n", BLOCK_PAGES));
 }
 
 // The delta of Kayles 1.1 at 0 count 167, 1.2 from 71 by 12, and 1.3 from 70 by 12.
@@ -371,28 +436,28 @@ fn long_kayles() -> [u8; 737] {
 }
 
 // The claim gives values once its last value is there, and not before.
+const CLAIMED: &[Step<'static>] = &[
+    (
+        Ask::Value("0.77", &[5, 1_000_000_000]),
+        Ok("unknown at 1\n"),
+    ),
+    (Ask::Merge(LAST), Ok("new 1\n")),
+    (
+        Ask::Value("0.77", &[1_000_000_000]),
+        Ok("value 1\nnext player wins\n"),
+    ),
+    (
+        Ask::Value("0.77", &[5, 6]),
+        Ok("value 7\nnext player wins\n"),
+    ),
+    (Ask::Value("0.77", &[]), Ok("value 0\nnext player loses\n")),
+    (Ask::Value("0.77", &[0]), Ok("value 0\nnext player loses\n")),
+    (Ask::Value("0.07", &[1]), Ok("unknown at 0\n")),
+];
+
 #[test]
 fn claims_give_values(rt: HostRuntime) {
-    let steps = [
-        (Ask::Merge(&long_kayles()), Ok("new 3\n")),
-        (
-            Ask::Value("0.77", &[5, 1_000_000_000]),
-            Ok("unknown at 1\n"),
-        ),
-        (Ask::Merge(LAST), Ok("new 1\n")),
-        (
-            Ask::Value("0.77", &[1_000_000_000]),
-            Ok("value 1\nnext player wins\n"),
-        ),
-        (
-            Ask::Value("0.77", &[5, 6]),
-            Ok("value 7\nnext player wins\n"),
-        ),
-        (Ask::Value("0.77", &[]), Ok("value 0\nnext player loses\n")),
-        (Ask::Value("0.77", &[0]), Ok("value 0\nnext player loses\n")),
-        (Ask::Value("0.07", &[1]), Ok("unknown at 0\n")),
-    ];
-    assert!(rt; follows(rt.alloc(), (J, &steps, b"")));
+    assert!(rt; follow_delta(rt.alloc(), &long_kayles(), "new 3\n", CLAIMED));
 }
 
 #[test]
@@ -424,11 +489,24 @@ const FAULTS: &[(Fault, &str, u8)] = &[
     (Fault::OutOfMemory, "OutOfMemory", 4),
 ];
 
-#[test]
-fn faults_are_named(rt: HostRuntime) -> Result<(), Fail> {
-    for &(fault, text, status) in FAULTS {
-        let shown = format!(in rt.alloc(); "{fault}")?;
-        assert!(rt; shown.as_str() == text && fault.status() == status);
+// Whether the fault has this text and this status.
+fn is_named(alloc: Global, fault: Fault, text: &str, status: u8) -> bool {
+    match format!(in alloc; "{fault}") {
+        Ok(shown) => shown.as_str() == text && fault.status() == status,
+        Err(_) => false,
     }
-    Ok(())
+}
+
+// Whether that is so of each of the faults.
+fn are_named(alloc: Global, faults: &[(Fault, &str, u8)]) -> bool {
+    let mut all = true;
+    for &(fault, text, status) in faults {
+        all &= is_named(alloc, fault, text, status);
+    }
+    all
+}
+
+#[test]
+fn faults_are_named(rt: HostRuntime) {
+    assert!(rt; are_named(rt.alloc(), FAULTS));
 }

@@ -154,37 +154,64 @@ const IN_EVERY_ORDER: &[([&str; 3], &str)] = &[
     ([EARLY, LATER, REMOVAL], LATER_SHOWN),
 ];
 
-// Whether the lines, each with a line feed, give this catalogue and so many refusals.
-fn folds<A: Allocator + Copy>(alloc: A, lines: &[&str], shown: &str, refused: u64) -> bool {
-    let mut input = Vec::new(alloc);
+// Whether the lines, each with a line feed, are put after what is there.
+fn fits<A: Allocator>(input: &mut Vec<u8, A>, lines: &[&str]) -> bool {
     let mut fits = true;
     for line in lines {
         fits &= input.extend_from_slice(line.as_bytes()).is_ok() && input.push(b'\n').is_ok();
     }
+    fits
+}
+
+// Whether the bytes give this catalogue and so many refusals.
+fn gives<A: Allocator + Copy>(alloc: A, mut input: &[u8], shown: &str, refused: u64) -> bool {
     let mut out = Vec::new(alloc);
-    fits && fold_lines(alloc, &mut &input[..], &mut out) == Ok(refused)
-        && out.as_slice() == shown.as_bytes()
+    fold_lines(alloc, &mut input, &mut out) == Ok(refused) && out.as_slice() == shown.as_bytes()
+}
+
+// Whether the lines do so.
+fn folds<A: Allocator + Copy>(alloc: A, lines: &[&str], shown: &str, refused: u64) -> bool {
+    let mut input = Vec::new(alloc);
+    fits(&mut input, lines) && gives(alloc, &input, shown, refused)
+}
+
+// Whether that is so of each of the cases.
+fn folds_cases<A: Allocator + Copy>(alloc: A, cases: &[Case]) -> bool {
+    let mut all = true;
+    for &(lines, shown, refused) in cases {
+        all &= folds(alloc, lines, shown, refused);
+    }
+    all
 }
 
 // Whether three lines give this catalogue in each of their six orders.
 fn folds_orders<A: Allocator + Copy>(alloc: A, lines: [&str; 3], shown: &str) -> bool {
-    let [one, two, three] = lines;
-    folds(alloc, &[one, two, three], shown, 0)
-        && folds(alloc, &[one, three, two], shown, 0)
-        && folds(alloc, &[two, one, three], shown, 0)
-        && folds(alloc, &[two, three, one], shown, 0)
-        && folds(alloc, &[three, one, two], shown, 0)
-        && folds(alloc, &[three, two, one], shown, 0)
+    let mut all = true;
+    let [mut one, mut two, mut three] = lines;
+    for _ in 0..3 {
+        all &= folds(alloc, &[one, two, three], shown, 0);
+        all &= folds(alloc, &[one, three, two], shown, 0);
+        (one, two, three) = (two, three, one);
+    }
+    all
+}
+
+// Whether that is so of each of these three lines.
+fn folds_each_order<A: Allocator + Copy>(alloc: A, cases: &[([&str; 3], &str)]) -> bool {
+    let mut all = true;
+    for &(lines, shown) in cases {
+        all &= folds_orders(alloc, lines, shown);
+    }
+    all
+}
+
+fn folds_all<A: Allocator + Copy>(alloc: A) -> bool {
+    folds_cases(alloc, CASES) && folds_each_order(alloc, IN_EVERY_ORDER)
 }
 
 #[test]
 fn lines_are_folded(rt: HostRuntime) {
-    for &(lines, shown, refused) in CASES {
-        assert!(rt; folds(rt.alloc(), lines, shown, refused));
-    }
-    for &(lines, shown) in IN_EVERY_ORDER {
-        assert!(rt; folds_orders(rt.alloc(), lines, shown));
-    }
+    assert!(rt; folds_all(rt.alloc()));
 }
 
 // Whether a reader and a writer of this number give this to the fold of FIRST without a line feed: they end well, the

@@ -111,30 +111,36 @@ fn takes<A: Allocator + Copy>(replica: &mut Replica<A>, deltas: &[&[u8]], new: u
     all
 }
 
-// Whether a replica that takes these byte strings, of one operation each, prints the text.
-fn prints<A: Allocator + Copy>(alloc: A, deltas: &[&[u8]], wanted: &str) -> bool {
-    match Replica::new(alloc, 1) {
-        Ok(mut replica) => takes(&mut replica, deltas, 1) && shows(alloc, &replica, wanted),
-        Err(_) => false,
-    }
-}
-
-// Whether a replica of author 7 that takes a delta of one operation and is joined with one that took another prints the
-// text, and holds both operations.
-fn joins<A: Allocator + Copy>(alloc: A, ours: &[u8], theirs: &[u8], wanted: &str) -> bool {
-    let Ok(mut replica) = Replica::new(alloc, 7) else {
-        return false;
-    };
-    let Ok(mut other) = Replica::new(alloc, 1) else {
-        return false;
-    };
-    takes(&mut replica, &[ours], 1)
-        && takes(&mut other, &[theirs], 1)
-        && replica.join(&other).is_ok()
-        && shows(alloc, &replica, wanted)
+// Whether a replica that took a delta and is joined with another one prints the text, and holds both operations.
+fn holds_both<A: Allocator + Copy>(
+    alloc: A,
+    replica: &mut Replica<A>,
+    other: &Replica<A>,
+    wanted: &str,
+) -> bool {
+    replica.join(other).is_ok()
+        && shows(alloc, replica, wanted)
         && replica.author() == 7
         && replica.len() == 2
         && !replica.is_empty()
+}
+
+// Whether a replica of author 7 that takes a delta of one operation and is joined with one that took another does so.
+fn joins<A: Allocator + Copy>(
+    alloc: A,
+    replica: &mut Replica<A>,
+    ours: &[u8],
+    theirs: &[u8],
+    wanted: &str,
+) -> bool {
+    match Replica::new(alloc, 1) {
+        Ok(mut other) => {
+            takes(replica, &[ours], 1)
+                && takes(&mut other, &[theirs], 1)
+                && holds_both(alloc, replica, &other, wanted)
+        }
+        Err(_) => false,
+    }
 }
 
 // Kayles by author 1: two values from place 2, five from place 3.
@@ -154,42 +160,88 @@ pub(crate) const TWO: &[u8] =
 pub(crate) const FORKED: &str =
     "census 2\nnote a 7.1 one\nnote a 7.1 two\nfork 7.1 contents 2\nauthor 7 through 1 last 1\nend\n";
 
-// Byte strings of one operation each, and what a replica prints that takes them.
-const PRINTED: &[(&[&[u8]], &str)] = &[
-    (&[&A, &B], BOTH),
-    (&[&B, &A], BOTH),
-    (&[&B], ALONE),
-    (&[&A, SECOND, THIRD], OVERLAPPING),
-    (&[ONE, TWO], FORKED),
-    (&[TWO, ONE], FORKED),
-    (&[&F, &G, &H], LATER),
-    (&[&F, &H, &G], LATER),
-    (&[&G, &F, &H], LATER),
-    (&[&G, &H, &F], LATER),
-    (&[&H, &F, &G], LATER),
-    (&[&H, &G, &F], LATER),
+/// What a new replica does.
+#[derive(Clone, Copy)]
+enum Trial<'a> {
+    /// Takes these byte strings, of one operation each, and prints the text.
+    Print(&'a [&'a [u8]], &'a str),
+    PrintList,
+    /// Takes a byte string, is joined with a replica that takes the other one, and prints the text.
+    Join(&'a [u8], &'a [u8], &'a str),
+    FollowClaims,
+    IssueAfterTheLast,
+    ComputeFirst,
+    ComputeAll,
+    RemoveByName,
+    StayEmpty,
+    /// Refuses these bytes and stays empty, or takes them in and sends the other ones.
+    RefuseOrSend(&'a [u8], &'a [u8]),
+}
+
+// Whether the replica does so.
+fn does<A: Allocator + Copy>(alloc: A, replica: &mut Replica<A>, trial: Trial) -> bool {
+    match trial {
+        Trial::Print(deltas, wanted) => takes(replica, deltas, 1) && shows(alloc, replica, wanted),
+        Trial::PrintList => prints_list(alloc, replica),
+        Trial::Join(ours, theirs, wanted) => joins(alloc, replica, ours, theirs, wanted),
+        Trial::FollowClaims => follows_claims(alloc, replica),
+        Trial::IssueAfterTheLast => issues_after_the_last(alloc, replica),
+        Trial::ComputeFirst => computes_first(replica),
+        Trial::ComputeAll => computes_all(replica),
+        Trial::RemoveByName => removes_by_name(replica),
+        Trial::StayEmpty => stays_empty(alloc, replica),
+        Trial::RefuseOrSend(bytes, old) => is_refused_or_sent(alloc, replica, bytes, old),
+    }
+}
+
+// Whether a new replica of the author does so.
+fn new_one_does<A: Allocator + Copy>(alloc: A, author: u32, trial: Trial) -> bool {
+    match Replica::new(alloc, author) {
+        Ok(mut replica) => does(alloc, &mut replica, trial),
+        Err(_) => false,
+    }
+}
+
+// Whether that is so of each of these authors.
+fn new_ones_do<A: Allocator + Copy>(alloc: A, trials: &[(u32, Trial)]) -> bool {
+    let mut all = true;
+    for &(author, trial) in trials {
+        all &= new_one_does(alloc, author, trial);
+    }
+    all
+}
+
+const PRINTED: &[(u32, Trial<'static>)] = &[
+    (1, Trial::Print(&[&A, &B], BOTH)),
+    (1, Trial::Print(&[&B, &A], BOTH)),
+    (1, Trial::Print(&[&B], ALONE)),
+    (1, Trial::Print(&[&A, SECOND, THIRD], OVERLAPPING)),
+    (1, Trial::Print(&[ONE, TWO], FORKED)),
+    (1, Trial::Print(&[TWO, ONE], FORKED)),
+    (1, Trial::Print(&[&F, &G, &H], LATER)),
+    (1, Trial::Print(&[&F, &H, &G], LATER)),
+    (1, Trial::Print(&[&G, &F, &H], LATER)),
+    (1, Trial::Print(&[&G, &H, &F], LATER)),
+    (1, Trial::Print(&[&H, &F, &G], LATER)),
+    (1, Trial::Print(&[&H, &G, &F], LATER)),
+    (7, Trial::Join(&A, &B, BOTH)),
+    (7, Trial::Join(TWO, ONE, FORKED)),
+    (1, Trial::PrintList),
 ];
 
 // Whether a replica that takes the list of D prints its text.
-fn prints_list<A: Allocator + Copy>(alloc: A) -> bool {
-    let Ok(mut replica) = Replica::new(alloc, 1) else {
-        return false;
-    };
-    let Ok(list) = decode(alloc, &D) else {
-        return false;
-    };
-    list.len() == 2 && replica.take_list(list) == Ok(2) && shows(alloc, &replica, TURNS)
+fn prints_list<A: Allocator + Copy>(alloc: A, replica: &mut Replica<A>) -> bool {
+    match decode(alloc, &D) {
+        Ok(list) => {
+            list.len() == 2 && replica.take_list(list) == Ok(2) && shows(alloc, replica, TURNS)
+        }
+        Err(_) => false,
+    }
 }
 
 #[test]
 fn operations_come_in_any_order(rt: HostRuntime) {
-    let alloc = rt.alloc();
-    for &(deltas, wanted) in PRINTED {
-        assert!(rt; prints(alloc, deltas, wanted));
-    }
-    assert!(rt; joins(alloc, &A, &B, BOTH));
-    assert!(rt; joins(alloc, TWO, ONE, FORKED));
-    assert!(rt; prints_list(alloc));
+    assert!(rt; new_ones_do(rt.alloc(), PRINTED));
 }
 
 /// The nim-values of Kayles for the heaps below 84, of which the last twelve repeat.
@@ -233,22 +285,24 @@ fn has_values<A: Allocator + Copy>(replica: &Replica<A>, code: Code, other: Code
         && replica.outcome(other, &[]) == Outcome::NextLoses
 }
 
+// Whether the catalogue has one page.
+fn has_one_page<A: Allocator + Copy>(alloc: A, replica: &Replica<A>) -> bool {
+    let mut text = Vec::new(alloc);
+    replica.page(0, &mut text) == Ok(true)
+        && text.starts_with(b"census 2\ngame 0.77 known 168\n")
+        && replica.page(1, &mut text) == Ok(false)
+}
+
 // Whether the claim gives values once its last value is there, and not before, and the catalogue has then one page.
-fn follows_claims<A: Allocator + Copy>(alloc: A) -> bool {
+fn follows_claims<A: Allocator + Copy>(alloc: A, replica: &mut Replica<A>) -> bool {
     let Some((code, other)) = codes() else {
         return false;
     };
-    let Ok(mut replica) = Replica::new(alloc, 1) else {
-        return false;
-    };
-    let mut text = Vec::new(alloc);
-    takes(&mut replica, &[&long_block(), RIGHT, EARLY], 1)
+    takes(replica, &[&long_block(), RIGHT, EARLY], 1)
         && replica.value(code, &[5, 1_000_000_000]) == Err(Unknown { index: 1 })
-        && takes(&mut replica, &[LAST], 1)
-        && has_values(&replica, code, other)
-        && replica.page(0, &mut text) == Ok(true)
-        && text.starts_with(b"census 2\ngame 0.77 known 168\n")
-        && replica.page(1, &mut text) == Ok(false)
+        && takes(replica, &[LAST], 1)
+        && has_values(replica, code, other)
+        && has_one_page(alloc, replica)
 }
 
 // The codes of Kayles and of Dawson's Kayles.
@@ -267,7 +321,7 @@ fn issued<A: Allocator + Copy>(
     match Note::new(alloc, b"a", b"") {
         Ok(note) => match replica.issue(Body::Note(note)) {
             Ok(dot) => Ok((dot.author(), dot.number())),
-            Err((refused, _)) => Err(refused),
+            Err(refused) => Err(refused.0),
         },
         Err(_) => Err(IssueError::OutOfMemory),
     }
@@ -299,19 +353,14 @@ fn sends<A: Allocator + Copy>(alloc: A, replica: &Replica<A>, wanted: &[u8]) -> 
 const LAST_OF_5: &[u8] = b"OGD1\x00\x00\x00\x01\x00\x00\x00\x05\xff\xff\xff\xff\x03\x01a\x00";
 
 // Whether a replica of author 5 issues 5.4 after I, and nothing after the greatest number.
-fn issues_after_the_last<A: Allocator + Copy>(alloc: A) -> bool {
-    match Replica::new(alloc, 5) {
-        Ok(mut replica) => {
-            takes(&mut replica, &[&I], 2)
-                && shows(alloc, &replica, UNTOLD)
-                && sends(alloc, &replica, THIRD_OF_I)
-                && issued(alloc, &mut replica) == Ok((5, 4))
-                && takes(&mut replica, &[LAST_OF_5], 1)
-                && issued(alloc, &mut replica) == Err(IssueError::LastNumber)
-                && replica.len() == 4
-        }
-        Err(_) => false,
-    }
+fn issues_after_the_last<A: Allocator + Copy>(alloc: A, replica: &mut Replica<A>) -> bool {
+    takes(replica, &[&I], 2)
+        && shows(alloc, replica, UNTOLD)
+        && sends(alloc, replica, THIRD_OF_I)
+        && issued(alloc, replica) == Ok((5, 4))
+        && takes(replica, &[LAST_OF_5], 1)
+        && issued(alloc, replica) == Err(IssueError::LastNumber)
+        && replica.len() == 4
 }
 
 // Whether the next values of the game are not computed, for this reason.
@@ -336,84 +385,91 @@ fn computes_five<A: Allocator + Copy>(replica: &Replica<A>, code: Code, values: 
 }
 
 // Whether an empty replica computes five values of 0.137, neither none nor too many, and stays empty.
-fn computes_first<A: Allocator + Copy>(alloc: A) -> bool {
+fn computes_first<A: Allocator + Copy>(replica: &Replica<A>) -> bool {
     let Ok(code) = Code::parse(b"0.137") else {
         return false;
     };
-    match Replica::new(alloc, 7) {
-        Ok(replica) => {
-            computes_five(&replica, code, &[1, 1, 2, 0, 3])
-                && computes_none(&replica, code, 0, ComputeError::Zero)
-                && computes_none(&replica, code, 1_025, ComputeError::TooMany)
-                && replica.len() == 0
-        }
-        Err(_) => false,
-    }
+    computes_five(replica, code, &[1, 1, 2, 0, 3])
+        && computes_none(replica, code, 0, ComputeError::Zero)
+        && computes_none(replica, code, 1_025, ComputeError::TooMany)
+        && replica.len() == 0
 }
 
-// Whether the block of the next values of 0.3 has so many from the start on, in turn 0 and 1. It is issued.
-fn goes_on<A: Allocator + Copy>(
-    replica: &mut Replica<A>,
-    code: Code,
-    start: u32,
-    count: usize,
-) -> bool {
-    let Ok(block) = replica.compute(code, 1_024) else {
-        return false;
-    };
+// Whether the block has so many values from the start on, in turn 0 and 1.
+fn takes_turns<A: Allocator + Copy>(block: &Block<A>, start: u32, count: usize) -> bool {
     let mut right = block.start() == start && block.values().len() == count;
     let mut value = start % 2;
     for claimed in block.values() {
         right &= *claimed == value;
         value ^= 1;
     }
-    replica.issue(Body::Block(block)).is_ok() && right
+    right
+}
+
+// Whether the block of the next values of 0.3 is such a one. It is issued.
+fn goes_on<A: Allocator + Copy>(
+    replica: &mut Replica<A>,
+    code: Code,
+    start: u32,
+    count: usize,
+) -> bool {
+    match replica.compute(code, 1_024) {
+        Ok(block) => {
+            let right = takes_turns(&block, start, count);
+            replica.issue(Body::Block(block)).is_ok() && right
+        }
+        Err(_) => false,
+    }
 }
 
 // Whether the values of 0.3 are computed up to the limit, and none beyond it.
-fn computes_all<A: Allocator + Copy>(alloc: A) -> bool {
+fn computes_all<A: Allocator + Copy>(replica: &mut Replica<A>) -> bool {
     let Ok(code) = Code::parse(b"0.3") else {
-        return false;
-    };
-    let Ok(mut replica) = Replica::new(alloc, 7) else {
         return false;
     };
     let mut all = true;
     for turn in 0..63u32 {
-        all &= goes_on(&mut replica, code, 1_024 * turn + 1, 1_024);
+        all &= goes_on(replica, code, 1_024 * turn + 1, 1_024);
     }
-    all && goes_on(&mut replica, code, 64_513, 1_023)
-        && computes_none(&replica, code, 1_025, ComputeError::TooMany)
-        && computes_none(&replica, code, 1, ComputeError::AtLimit)
+    all && goes_on(replica, code, 64_513, 1_023)
+        && computes_none(replica, code, 1_025, ComputeError::TooMany)
+        && computes_none(replica, code, 1, ComputeError::AtLimit)
+}
+
+// Whether a removal of the notes with this name has the one dot; none where there is no such note.
+fn removes<A: Allocator + Copy>(
+    replica: &Replica<A>,
+    name: &[u8],
+    dot: Option<(u32, u32)>,
+) -> bool {
+    match replica.removal(name) {
+        Ok(removal) => match removal.dots() {
+            [only] => dot == Some((only.author(), only.number())),
+            _ => false,
+        },
+        Err(refused) => dot.is_none() && refused == RemovalError::NoNote,
+    }
 }
 
 // Whether the live note of F, G and H is removed by its name alone, and no other one.
-fn removes_by_name<A: Allocator + Copy>(alloc: A) -> bool {
-    let Ok(mut replica) = Replica::new(alloc, 1) else {
-        return false;
-    };
-    let is_taken = takes(&mut replica, &[&F, &G, &H], 1);
-    let Ok(removal) = replica.removal(b"kayles") else {
-        return false;
-    };
-    let is_right = match removal.dots() {
-        [only] => only.author() == 1 && only.number() == 2,
-        _ => false,
-    };
-    is_taken
-        && is_right
-        && matches!(replica.removal(b"dawson"), Err(RemovalError::NoNote))
+fn removes_by_name<A: Allocator + Copy>(replica: &mut Replica<A>) -> bool {
+    takes(replica, &[&F, &G, &H], 1)
+        && removes(replica, b"kayles", Some((1, 2)))
+        && removes(replica, b"dawson", None)
         && replica.len() == 3
 }
 
+const ISSUED: &[(u32, Trial<'static>)] = &[
+    (1, Trial::FollowClaims),
+    (5, Trial::IssueAfterTheLast),
+    (7, Trial::ComputeFirst),
+    (7, Trial::ComputeAll),
+    (1, Trial::RemoveByName),
+];
+
 #[test]
 fn operations_are_issued(rt: HostRuntime) {
-    let alloc = rt.alloc();
-    assert!(rt; follows_claims(alloc));
-    assert!(rt; issues_after_the_last(alloc));
-    assert!(rt; computes_first(alloc));
-    assert!(rt; computes_all(alloc));
-    assert!(rt; removes_by_name(alloc));
+    assert!(rt; new_ones_do(rt.alloc(), ISSUED));
 }
 
 // Whether each proper prefix of the delta is refused.
@@ -457,29 +513,28 @@ const CHANGED: &[(&[u8], TakeError)] = &[
 ];
 
 // Whether a replica stays empty where it refuses bytes that are no delta.
-fn stays_empty<A: Allocator + Copy>(alloc: A) -> bool {
-    let Ok(mut replica) = Replica::new(alloc, 1) else {
-        return false;
-    };
+fn stays_empty<A: Allocator + Copy>(alloc: A, replica: &mut Replica<A>) -> bool {
     let mut all = true;
     for delta in [&A[..], &D, &F, &H] {
-        all &= refuses_prefixes(&mut replica, delta);
+        all &= refuses_prefixes(replica, delta);
     }
     for &(bytes, why) in CHANGED {
         all &= replica.take(bytes) == Err(why);
     }
-    all && shows(alloc, &replica, EMPTY)
+    all && shows(alloc, replica, EMPTY)
 }
 
 // Whether an empty replica refuses the bytes and stays empty, or takes them in and sends them in the old format.
-fn is_refused_or_sent<A: Allocator + Copy>(alloc: A, bytes: &[u8], old: &[u8]) -> bool {
-    let Ok(mut replica) = Replica::new(alloc, 1) else {
-        return false;
-    };
+fn is_refused_or_sent<A: Allocator + Copy>(
+    alloc: A,
+    replica: &mut Replica<A>,
+    bytes: &[u8],
+    old: &[u8],
+) -> bool {
     if replica.take(bytes).is_err() {
-        shows(alloc, &replica, EMPTY)
+        shows(alloc, replica, EMPTY)
     } else {
-        sends_beyond(alloc, &replica, &Clock::new(alloc), old)
+        sends_beyond(alloc, replica, &Clock::new(alloc), old)
     }
 }
 
@@ -494,28 +549,39 @@ fn changes_are_refused_or_sent<A: Allocator + Copy>(alloc: A, delta: &[u8]) -> b
             changed[place] = byte;
             let mut old = changed;
             old[3] = b'1';
-            all &= is_refused_or_sent(alloc, &changed[..count], &old[..count]);
+            let trial = Trial::RefuseOrSend(&changed[..count], &old[..count]);
+            all &= new_one_does(alloc, 1, trial);
         }
+    }
+    all
+}
+
+// Whether a replica stays empty, and that is so of these deltas.
+fn other_bytes_are_refused<A: Allocator + Copy>(alloc: A) -> bool {
+    let mut all = new_one_does(alloc, 1, Trial::StayEmpty);
+    for delta in [&A[..], &D, &F, &H] {
+        all &= changes_are_refused_or_sent(alloc, delta);
     }
     all
 }
 
 #[test]
 fn bytes_that_are_no_delta_are_refused(rt: HostRuntime) {
-    let alloc = rt.alloc();
-    assert!(rt; stays_empty(alloc));
-    for delta in [&A[..], &D, &F, &H] {
-        assert!(rt; changes_are_refused_or_sent(alloc, delta));
-    }
+    assert!(rt; other_bytes_are_refused(rt.alloc()));
+}
+
+// Whether the replica of author 7 is saved as these bytes.
+fn saves<A: Allocator + Copy>(alloc: A, replica: &Replica<A>, bytes: &[u8]) -> bool {
+    let mut text = Vec::new(alloc);
+    replica.author() == 7 && replica.save(&mut text).is_ok() && text.as_slice() == bytes
 }
 
 // Whether the bytes are loaded, and saved as they are.
 fn loads<A: Allocator + Copy>(alloc: A, bytes: &[u8]) -> bool {
-    let Ok(replica) = Replica::load(alloc, bytes) else {
-        return false;
-    };
-    let mut text = Vec::new(alloc);
-    replica.author() == 7 && replica.save(&mut text).is_ok() && text.as_slice() == bytes
+    match Replica::load(alloc, bytes) {
+        Ok(replica) => saves(alloc, &replica, bytes),
+        Err(_) => false,
+    }
 }
 
 // Whether the bytes are no state, for this reason.
@@ -540,11 +606,21 @@ fn refuses_states<A: Allocator + Copy>(alloc: A) -> bool {
     all
 }
 
+// Whether no replica has the author 0.
+fn no_author_is_zero<A: Allocator + Copy>(alloc: A) -> bool {
+    match Replica::new(alloc, 0) {
+        Ok(_) => false,
+        Err(refused) => refused == AuthorError::Zero,
+    }
+}
+
+fn states_are_loaded<A: Allocator + Copy>(alloc: A) -> bool {
+    loads(alloc, &J) && loads(alloc, FULL) && refuses_states(alloc) && no_author_is_zero(alloc)
+}
+
 #[test]
 fn states_are_loaded_as_they_were_saved(rt: HostRuntime) {
-    let alloc = rt.alloc();
-    assert!(rt; loads(alloc, &J) && loads(alloc, FULL) && refuses_states(alloc));
-    assert!(rt; matches!(Replica::new(alloc, 0), Err(AuthorError::Zero)));
+    assert!(rt; states_are_loaded(rt.alloc()));
 }
 
 // A block of another game for each number, at 1 with the value 0.
@@ -566,12 +642,12 @@ fn counts<A: Allocator + Copy>(replica: &Replica<A>, code: Code) -> (u32, u64) {
     }
 }
 
-// Whether a block of Kayles is taken with a few requests for memory, though there is a block of each of 200 other games.
-fn touches_its_game_alone<A: Allocator + Copy>(heap: &Metered<Global>, alloc: A) -> bool {
+// Whether a replica takes a block of Kayles with a few requests for memory, though it has a block of each of 200 other games.
+fn takes_beside_others<A: Allocator + Copy>(
+    heap: &Metered<Global>,
+    replica: &mut Replica<A>,
+) -> bool {
     let Ok(code) = Code::parse(b"0.77") else {
-        return false;
-    };
-    let Ok(mut replica) = Replica::new(alloc, 1) else {
         return false;
     };
     let mut all = true;
@@ -579,7 +655,15 @@ fn touches_its_game_alone<A: Allocator + Copy>(heap: &Metered<Global>, alloc: A)
         all &= replica.take(&other_block(number)) == Ok(1);
     }
     heap.arm(64);
-    all && replica.take(&A) == Ok(1) && counts(&replica, code) == (5, 1)
+    all && replica.take(&A) == Ok(1) && counts(replica, code) == (5, 1)
+}
+
+// Whether a new one does so.
+fn touches_its_game_alone<A: Allocator + Copy>(heap: &Metered<Global>, alloc: A) -> bool {
+    match Replica::new(alloc, 1) {
+        Ok(mut replica) => takes_beside_others(heap, &mut replica),
+        Err(_) => false,
+    }
 }
 
 #[test]

@@ -26,19 +26,24 @@ fn ends(rt: &HostRuntime, case: Case) -> bool {
         && is_like(&told, errors)
 }
 
-// The name of a new folder for files of a test.
-fn fresh_folder(rt: &HostRuntime) -> Result<String, Fail> {
+// The name of a folder for files of a test.
+fn folder_name(rt: &HostRuntime) -> Result<String, Fail> {
     let temp = env::temp_dir(rt)?;
     let place = temp.as_path().to_str().ok_or("no text")?;
-    let folder = format!(in rt.alloc(); "{place}/census-does_commands_over_files")?;
-    let _ = fs::remove_dir_all(rt, folder.as_str());
-    fs::create_dir(rt, folder.as_str())?;
-    Ok(folder)
+    Ok(format!(in rt.alloc(); "{place}/census-does_commands_over_files")?)
+}
+
+// Whether each of the cases ends as it should.
+fn all_end(rt: &HostRuntime, cases: &[Case]) -> bool {
+    let mut all = true;
+    for &case in cases {
+        all &= ends(rt, case);
+    }
+    all
 }
 
 // Whether commands on a state, of which one reads a file of JSON, end as they should.
 fn commands_end(rt: &HostRuntime, state: &str, json: &str) -> bool {
-    let mut all = fs::write(rt, json, BLOCK).is_ok();
     let cases: [Case; 5] = [
         (&["init", state, "7"], 0, "author 7\n", ""),
         (&["init", state, "7"], 3, "", "census: Exists\n"),
@@ -46,18 +51,22 @@ fn commands_end(rt: &HostRuntime, state: &str, json: &str) -> bool {
         (&["import", state, json], 0, "issued 7.1\n", ""),
         (&["show", state], 0, DAWSON, ""),
     ];
-    for case in cases {
-        all &= ends(rt, case);
-    }
-    all
+    fs::write(rt, json, BLOCK).is_ok() && all_end(rt, &cases)
+}
+
+// The same in a folder.
+fn commands_end_in(rt: &HostRuntime, folder: &str) -> Result<bool, Fail> {
+    let state = format!(in rt.alloc(); "{folder}/state")?;
+    let json = format!(in rt.alloc(); "{folder}/block.json")?;
+    Ok(commands_end(rt, state.as_str(), json.as_str()))
 }
 
 #[test]
 fn does_commands_over_files(rt: HostRuntime) -> Result<(), Fail> {
-    let folder = fresh_folder(&rt)?;
-    let state = format!(in rt.alloc(); "{folder}/state")?;
-    let json = format!(in rt.alloc(); "{folder}/block.json")?;
-    assert!(rt; commands_end(&rt, state.as_str(), json.as_str()));
+    let folder = folder_name(&rt)?;
+    let _ = fs::remove_dir_all(&rt, folder.as_str());
+    fs::create_dir(&rt, folder.as_str())?;
+    assert!(rt; commands_end_in(&rt, folder.as_str())?);
     fs::remove_dir_all(&rt, folder.as_str())?;
     Ok(())
 }
@@ -85,7 +94,5 @@ const CASES: &[Case<'static>] = &[
 
 #[test]
 fn folds_and_refuses_lines(rt: HostRuntime) {
-    for &case in CASES {
-        assert!(rt; ends(&rt, case));
-    }
+    assert!(rt; all_end(&rt, CASES));
 }

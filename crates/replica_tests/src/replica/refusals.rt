@@ -83,27 +83,32 @@ fn taken(answer: Result<u32, TakeError>) -> Result<(), usize> {
     }
 }
 
-// Issues the next five values of 0.137, the removal of the notes with the name kayles, or a note.
+// The body of the next five values of 0.137, or of the removal of the notes with the name kayles.
+fn body_of<A: Allocator + Copy>(replica: &Replica<A>, computes: bool) -> Option<Body<A>> {
+    if computes {
+        match replica.compute(Code::parse(b"0.137").ok()?, 5) {
+            Ok(block) => Some(Body::Block(block)),
+            Err(_) => None,
+        }
+    } else {
+        match replica.removal(b"kayles") {
+            Ok(removal) => Some(Body::Removal(removal)),
+            Err(_) => None,
+        }
+    }
+}
+
+// Issues such a body, or a note.
 fn issue<A: Allocator + Copy>(alloc: A, replica: &mut Replica<A>, change: Change) -> bool {
-    let body = match change {
-        Change::Compute => {
-            let Ok(code) = Code::parse(b"0.137") else {
-                return false;
-            };
-            let Ok(block) = replica.compute(code, 5) else {
-                return false;
-            };
-            Body::Block(block)
-        }
-        Change::Remove => {
-            let Ok(removal) = replica.removal(b"kayles") else {
-                return false;
-            };
-            Body::Removal(removal)
-        }
+    let computes = match change {
+        Change::Compute => true,
+        Change::Remove => false,
         _ => return issued(alloc, replica).is_ok(),
     };
-    replica.issue(body).is_ok()
+    match body_of(replica, computes) {
+        Some(body) => replica.issue(body).is_ok(),
+        None => false,
+    }
 }
 
 // Whether the change is refused at each request in turn, each time with what it says left, and is made in the end.
@@ -239,25 +244,43 @@ fn makes_beside<A: Allocator + Copy>(
     all
 }
 
-// Whether a replica beside the other one does so.
-fn makes_case<A: Allocator + Copy>(
+/// What a new replica does beside another new one.
+#[derive(Clone, Copy)]
+enum Deed<'a> {
+    /// It makes the changes of the case, where the other one takes A and B first.
+    Make(Case<'a>),
+    WriteStates,
+    WriteNotes,
+    AnswerFreely,
+}
+
+// Whether the replica does so.
+fn does_beside<A: Allocator + Copy>(
     heap: &Metered<Global>,
     alloc: A,
-    other: &Replica<A>,
-    case: Case,
+    replica: &mut Replica<A>,
+    other: &mut Replica<A>,
+    deed: Deed,
 ) -> bool {
-    match Replica::new(alloc, case.0) {
-        Ok(mut replica) => makes_beside(heap, alloc, &mut replica, other, case),
-        Err(_) => false,
+    match deed {
+        Deed::Make(case) => {
+            takes(other, &[&A, &B], 1) && makes_beside(heap, alloc, replica, other, case)
+        }
+        Deed::WriteStates => writes_states(heap, alloc, replica),
+        Deed::WriteNotes => {
+            takes_notes(heap, alloc, replica, other) && writes_pages(heap, alloc, replica)
+        }
+        Deed::AnswerFreely => answers_freely(heap, alloc, replica),
     }
 }
 
-// Whether that is so where the other one holds A and B.
-fn makes_after_refusals<A: Allocator + Copy>(heap: &Metered<Global>, alloc: A, case: Case) -> bool {
-    match Replica::new(alloc, 1) {
-        Ok(mut other) => {
-            takes(&mut other, &[&A, &B], 1) && makes_case(heap, alloc, &other, case)
-        }
+// Whether a replica of the author does so beside one of author 1.
+fn two_do<A: Allocator + Copy>(heap: &Metered<Global>, alloc: A, author: u32, deed: Deed) -> bool {
+    match Replica::new(alloc, author) {
+        Ok(mut replica) => match Replica::new(alloc, 1) {
+            Ok(mut other) => does_beside(heap, alloc, &mut replica, &mut other, deed),
+            Err(_) => false,
+        },
         Err(_) => false,
     }
 }
@@ -271,9 +294,9 @@ fn makes_all<A: Allocator + Copy>(heap: &Metered<Global>, alloc: A) -> bool {
         Change::Take(EARLY),
         Change::Take(LAST),
     ];
-    let mut all = makes_after_refusals(heap, alloc, (1, &[], &claims, PERIODIC));
+    let mut all = two_do(heap, alloc, 1, Deed::Make((1, &[], &claims, PERIODIC)));
     for &case in CASES {
-        all &= makes_after_refusals(heap, alloc, case);
+        all &= two_do(heap, alloc, case.0, Deed::Make(case));
     }
     all
 }
@@ -292,7 +315,7 @@ const WRITTEN: &[(Writing, &[u8])] = &[
 ];
 
 // Whether the state without operations is written, and then, with I, the state and the delta, and the state is loaded.
-fn writes_with_notes<A: Allocator + Copy>(
+fn writes_states<A: Allocator + Copy>(
     heap: &Metered<Global>,
     alloc: A,
     replica: &mut Replica<A>,
@@ -303,14 +326,6 @@ fn writes_with_notes<A: Allocator + Copy>(
         all &= writes(heap, alloc, replica, writing, wanted);
     }
     all
-}
-
-// Whether a replica of author 7 does so.
-fn writes_states<A: Allocator + Copy>(heap: &Metered<Global>, alloc: A) -> bool {
-    match Replica::new(alloc, 7) {
-        Ok(mut replica) => writes_with_notes(heap, alloc, &mut replica),
-        Err(_) => false,
-    }
 }
 
 // The second page of the catalogue of 70 notes of author 3.
@@ -376,25 +391,11 @@ fn takes_notes<A: Allocator + Copy>(
     all && replica.len() == 70
 }
 
-// Whether a replica does so, and writes those pages.
-fn writes_notes<A: Allocator + Copy>(heap: &Metered<Global>, alloc: A) -> bool {
-    match Replica::new(alloc, 1) {
-        Ok(mut replica) => match Replica::new(alloc, 1) {
-            Ok(other) => {
-                takes_notes(heap, alloc, &mut replica, &other)
-                    && writes_pages(heap, alloc, &replica)
-            }
-            Err(_) => false,
-        },
-        Err(_) => false,
-    }
-}
-
 #[test]
 fn refused_texts_are_written_again(rt: HostRuntime) {
     let heap = Metered::new(rt.alloc());
-    assert!(rt; writes_states(&heap, &heap));
-    assert!(rt; writes_notes(&heap, &heap));
+    assert!(rt; two_do(&heap, &heap, 7, Deed::WriteStates));
+    assert!(rt; two_do(&heap, &heap, 1, Deed::WriteNotes));
 }
 
 // Whether the replica answers as it should, where it holds the first block of Kayles.
@@ -416,7 +417,7 @@ const LAST_NUMBER: &[u8] = b"OGD1\x00\x00\x00\x01\x00\x00\x00\x07\xff\xff\xff\xf
 fn refuses<A: Allocator + Copy>(replica: &mut Replica<A>, note: Note<A>) -> bool {
     let mut all = match replica.issue(Body::Note(note)) {
         Ok(_) => false,
-        Err((refused, _)) => refused == IssueError::LastNumber,
+        Err(refused) => refused.0 == IssueError::LastNumber,
     };
     for end in 0..47usize {
         all &= replica.take(&A[..end]).is_err();
@@ -425,40 +426,51 @@ fn refuses<A: Allocator + Copy>(replica: &mut Replica<A>, note: Note<A>) -> bool
 }
 
 // Whether the answers and the refusals of a replica of author 7 take no memory.
-fn answers_freely<A: Allocator + Copy>(heap: &Metered<Global>, alloc: A) -> bool {
+fn replica_answers_freely<A: Allocator + Copy>(
+    heap: &Metered<Global>,
+    replica: &mut Replica<A>,
+    note: Note<A>,
+) -> bool {
     let Some((code, other)) = codes() else {
-        return false;
-    };
-    let Ok(mut replica) = Replica::new(alloc, 7) else {
-        return false;
-    };
-    let Ok(note) = Note::new(alloc, b"a", b"") else {
         return false;
     };
     let holds_one = replica.take(&A) == Ok(1);
     heap.arm(1_000);
-    let is_answered = answers(&replica, code, other) && heap.left() == 1_000;
+    let is_answered = answers(replica, code, other) && heap.left() == 1_000;
     let holds_last = replica.take(LAST_NUMBER) == Ok(1);
     heap.arm(1_000);
-    let is_refused = refuses(&mut replica, note) && heap.left() == 1_000;
+    let is_refused = refuses(replica, note) && heap.left() == 1_000;
     holds_one && is_answered && holds_last && is_refused
+}
+
+// Whether that is so with a note that was made before.
+fn answers_freely<A: Allocator + Copy>(
+    heap: &Metered<Global>,
+    alloc: A,
+    replica: &mut Replica<A>,
+) -> bool {
+    match Note::new(alloc, b"a", b"") {
+        Ok(note) => replica_answers_freely(heap, replica, note),
+        Err(_) => false,
+    }
 }
 
 // Whether replicas are made and refused in the same way.
 fn is_made_freely<A: Allocator + Copy>(heap: &Metered<Global>, alloc: A) -> bool {
     heap.arm(1_000);
-    match Replica::new(alloc, 1) {
-        Ok(replica) => {
-            replica.is_empty()
-                && matches!(Replica::new(alloc, 0), Err(AuthorError::Zero))
-                && heap.left() == 1_000
-        }
+    let is_made = match Replica::new(alloc, 1) {
+        Ok(replica) => replica.is_empty(),
         Err(_) => false,
-    }
+    };
+    is_made && no_author_is_zero(alloc) && heap.left() == 1_000
+}
+
+fn are_free<A: Allocator + Copy>(heap: &Metered<Global>, alloc: A) -> bool {
+    two_do(heap, alloc, 7, Deed::AnswerFreely) && is_made_freely(heap, alloc)
 }
 
 #[test]
 fn answers_take_no_memory(rt: HostRuntime) {
     let heap = Metered::new(rt.alloc());
-    assert!(rt; answers_freely(&heap, &heap) && is_made_freely(&heap, &heap));
+    assert!(rt; are_free(&heap, &heap));
 }
