@@ -229,44 +229,32 @@ fn answers<A: Allocator + Copy>(
         && copies_again(heap, store, Choice::OfGame, clock, blocks)
 }
 
-// Whether a store into which the deltas came, each twice, has these operations and answers so.
-fn shows_ops<A: Allocator + Copy>(
+// Whether that is so with the clock of those operations.
+fn answers_by_clock<A: Allocator + Copy>(
     heap: &Metered<Global>,
     alloc: A,
+    store: &Store<A>,
     ops: &[Op<A>],
-    clock: &Clock<A>,
 ) -> bool {
-    let mut store = Store::new(alloc);
-    let mut all = true;
-    for delta in &[C, I, A, B] {
-        all &= takes(heap, alloc, &mut store, delta);
-        all &= !takes(heap, alloc, &mut store, delta);
-    }
-    all && has_all(&store, ops) && answers(heap, &store, ops, clock)
-}
-
-fn shows<A: Allocator + Copy>(heap: &Metered<Global>, alloc: A) -> bool {
-    match (decode(alloc, ALL), decode_clock(alloc, CLOCK)) {
-        (Ok(list), Ok(clock)) => shows_ops(heap, alloc, list.as_slice(), &clock),
-        _ => false,
-    }
-}
-
-#[test]
-fn stores_show_what_they_hold(rt: HostRuntime) {
-    let heap = Metered::new(rt.alloc());
-    assert!(rt; shows(&heap, &heap));
-}
-
-// Whether a store that takes in the operations of a delta has them, and no other.
-fn holds<A: Allocator + Copy>(heap: &Metered<Global>, alloc: A, delta: &[u8]) -> bool {
-    let mut store = Store::new(alloc);
-    match decode(alloc, delta) {
-        Ok(list) => {
-            takes_ops(heap, alloc, &mut store, list.as_slice()) && has_all(&store, list.as_slice())
-        }
+    match decode_clock(alloc, CLOCK) {
+        Ok(clock) => answers(heap, store, ops, &clock),
         Err(_) => false,
     }
+}
+
+// Whether a store into which the deltas come, each twice, has these operations and answers so.
+fn shows<A: Allocator + Copy>(
+    heap: &Metered<Global>,
+    alloc: A,
+    store: &mut Store<A>,
+    ops: &[Op<A>],
+) -> bool {
+    let mut all = true;
+    for delta in &[C, I, A, B] {
+        all &= takes(heap, alloc, store, delta);
+        all &= !takes(heap, alloc, store, delta);
+    }
+    all && has_all(store, ops) && answers_by_clock(heap, alloc, store, ops)
 }
 
 // Whether a store with the operation of A is joined with the other, after each request for memory was refused in turn and
@@ -295,26 +283,18 @@ fn joins_again<A: Allocator + Copy>(
     false
 }
 
-fn joins_all<A: Allocator + Copy>(heap: &Metered<Global>, alloc: A, ops: &[Op<A>]) -> bool {
-    let mut other = Store::new(alloc);
+// Whether that is so of another store, into which the other deltas come first.
+fn is_joined<A: Allocator + Copy>(
+    heap: &Metered<Global>,
+    alloc: A,
+    other: &mut Store<A>,
+    ops: &[Op<A>],
+) -> bool {
     let mut all = true;
     for delta in &[C, I, B] {
-        all &= takes(heap, alloc, &mut other, delta);
+        all &= takes(heap, alloc, other, delta);
     }
-    all && joins_again(heap, alloc, &other, ops)
-}
-
-fn joins<A: Allocator + Copy>(heap: &Metered<Global>, alloc: A) -> bool {
-    match decode(alloc, ALL) {
-        Ok(list) => joins_all(heap, alloc, list.as_slice()),
-        Err(_) => false,
-    }
-}
-
-#[test]
-fn refused_insertions_and_joins_are_made_again(rt: HostRuntime) {
-    let heap = Metered::new(rt.alloc());
-    assert!(rt; holds(&heap, &heap, &many_notes()) && joins(&heap, &heap));
+    all && joins_again(heap, alloc, other, ops)
 }
 
 // Whether a new reader has nothing.
@@ -362,26 +342,75 @@ fn makes_no_request<A: Allocator + Copy>(
         && heap.left() == 1_000
 }
 
-fn calls_on_d<A: Allocator + Copy>(heap: &Metered<Global>, alloc: A, ops: &[Op<A>]) -> bool {
-    let mut store = Store::new(alloc);
+// The same of the two operations of D, which the store takes in first.
+fn makes_none_on_d<A: Allocator + Copy>(
+    heap: &Metered<Global>,
+    alloc: A,
+    store: &mut Store<A>,
+    ops: &[Op<A>],
+) -> bool {
     match ops {
         [block, claim] => {
-            takes_ops(heap, alloc, &mut store, ops)
-                && makes_no_request(heap, alloc, block, claim, &mut store)
+            takes_ops(heap, alloc, store, ops) && makes_no_request(heap, alloc, block, claim, store)
         }
         _ => false,
     }
 }
 
-fn calls_without_requests<A: Allocator + Copy>(heap: &Metered<Global>, alloc: A) -> bool {
-    match decode(alloc, D) {
-        Ok(list) => calls_on_d(heap, alloc, list.as_slice()),
+/// What a new store does with operations.
+#[derive(Clone, Copy)]
+enum Trial {
+    /// It takes them in, and has them and no other.
+    Hold,
+    Show,
+    Join,
+    MakeNoRequest,
+}
+
+// Whether the store does so.
+fn does<A: Allocator + Copy>(
+    heap: &Metered<Global>,
+    alloc: A,
+    store: &mut Store<A>,
+    ops: &[Op<A>],
+    trial: Trial,
+) -> bool {
+    match trial {
+        Trial::Hold => takes_ops(heap, alloc, store, ops) && has_all(store, ops),
+        Trial::Show => shows(heap, alloc, store, ops),
+        Trial::Join => is_joined(heap, alloc, store, ops),
+        Trial::MakeNoRequest => makes_none_on_d(heap, alloc, store, ops),
+    }
+}
+
+// Whether a new store does so with the operations of the delta.
+fn new_one_does<A: Allocator + Copy>(
+    heap: &Metered<Global>,
+    alloc: A,
+    delta: &[u8],
+    trial: Trial,
+) -> bool {
+    match decode(alloc, delta) {
+        Ok(list) => does(heap, alloc, &mut Store::new(alloc), list.as_slice(), trial),
         Err(_) => false,
     }
 }
 
 #[test]
+fn stores_show_what_they_hold(rt: HostRuntime) {
+    let heap = Metered::new(rt.alloc());
+    assert!(rt; new_one_does(&heap, &heap, ALL, Trial::Show));
+}
+
+#[test]
+fn refused_insertions_and_joins_are_made_again(rt: HostRuntime) {
+    let heap = Metered::new(rt.alloc());
+    assert!(rt; new_one_does(&heap, &heap, &many_notes(), Trial::Hold));
+    assert!(rt; new_one_does(&heap, &heap, ALL, Trial::Join));
+}
+
+#[test]
 fn some_calls_make_no_request(rt: HostRuntime) {
     let heap = Metered::new(rt.alloc());
-    assert!(rt; calls_without_requests(&heap, &heap));
+    assert!(rt; new_one_does(&heap, &heap, D, Trial::MakeNoRequest));
 }
