@@ -1,7 +1,7 @@
 //! A replica of a census.
 
-ghost use Rattle.std.specs.Prelude.{◌≡◌, ◌↔◌, ◌≤◌, ◌<◌, ◌^◌, ◌++◌, not, length, true, false, None, List, IsTrue, IsSome, IsNone, IfSome, IfOk, IfErr, OnOk, OnErr, IsErrOf};
-ghost use Rattle.std.specs.Option.{option_copied, unwrap_or};
+ghost use Rattle.std.specs.Prelude.{◌≡◌, ◌↔◌, ◌+◌, ◌≤◌, ◌<◌, ◌^◌, ◌++◌, not, length, true, false, None, List, IsTrue, IsSome, IsNone, IfSome, IfOk, IfErr, OnOk, OnErr, IsErrOf};
+ghost use Rattle.std.specs.Option.{is_some, option_copied, unwrap_or};
 ghost use Rattle.oct_mex.specs.NimValues.{position_value as nim_sum};
 ghost use Rattle.oct_ops.specs.Body.{Operation};
 ghost use Rattle.oct_ops.specs.Operation.{dot_of, removing};
@@ -181,11 +181,10 @@ impl<A: Allocator + Copy> Replica<A> {
         ensures err { OnErr result (self.new ≡ self.old) }
         ensures returned { IfErr result (λ refused. content refused.1 ≡ content body) }
     {
-        let last = self.store.last(self.author);
-        if last == u32::MAX {
+        let Some(dot) = self.next_dot() else {
             return Err((IssueError::LastNumber, body));
-        }
-        let op = Op::new(own_dot(self.author, last + 1), body);
+        };
+        let op = Op::new(dot, body);
         match self.add(&op) {
             Ok(_) => Ok(op.dot()),
             Err(_) => Err((IssueError::OutOfMemory, op.into_body())),
@@ -359,6 +358,18 @@ impl<A: Allocator + Copy> Replica<A> {
             Ok(list) => restored(alloc, author, list),
             Err(refused) => Err(refused),
         }
+    }
+
+    // The dot of what the author issues next, under the number after its greatest; none after the last number.
+    fn next_dot(&self) -> Option<Dot>
+        ensures dot { IfSome result (λ dot. dot ≡ dot_of self.now.author (summary.last (listed self.now.ops) self.now.author + 1)) }
+        ensures room { is_some result ≡ has_number self.now.ops self.now.author }
+    {
+        let last = self.store.last(self.author);
+        if last == u32::MAX {
+            return None;
+        }
+        Some(own_dot(self.author, last + 1))
     }
 
     // Takes in a copy of the operation, and says whether it is new. Without memory nothing changes.
