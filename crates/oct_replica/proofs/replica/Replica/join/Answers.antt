@@ -1,4 +1,5 @@
 use Rattle.std.proofs.Common.{refl, sym, ap, subst, ◌∙◌}
+use Rattle.std.proofs.lemmas.Result.{err_from_is_err_and}
 use Rattle.oct_ops.specs.Operations.{Operations, IsSubset, union}
 use Rattle.oct_ops.specs.OrderLaws.{op_cmp_total, op_cmp_exact}
 use Rattle.oct_join.specs.Order.{IsBetween}
@@ -32,3 +33,12 @@ returns-clause-ok g c = joins_done op_cmp_total op_cmp_exact c.args.self.now.ops
 
 pub returns-clause-between : goal.returns-clause-between
 returns-clause-between g c = joins_between op_cmp_total op_cmp_exact c.args.self.now.ops c.args.other.now.ops c.loop-op.self.ops c.loop-op.op-iterator c.loop-op.invariant.along
+
+pub returns-in_err-add-clause-ok : goal.returns-in_err-add-clause-ok
+returns-in_err-add-clause-ok g c = rw (err_from_is_err_and c.from_residual.result c.from_residual.ensures.1).1 tt
+
+pub returns-in_err-add-clause-author : goal.returns-in_err-add-clause-author
+returns-in_err-add-clause-author g c = ap (λ (r : ReplicaContent). r.author) c.in_err-add.ensures.err ∙ c.loop-op.invariant.author
+
+pub returns-clause-author : goal.returns-clause-author
+returns-clause-author g c = c.loop-op.invariant.author

@@ -1,4 +1,4 @@
-use Rattle.std.proofs.Common.{◌≡◌, sym, subst}
+use Rattle.std.proofs.Common.{◌≡◌, sym, subst, ap, ◌∙◌}
 use Rattle.std.proofs.lemmas.Result.{IfErr-weaker, IfOk-weaker}
 use Rattle.oct_ops.specs.Operations.{set_of}
 use Rattle.oct_delta.specs.State.{IsState}
@@ -7,6 +7,7 @@ use Rattle.oct_replica.specs.States.{RefusesState}
 use Rattle.oct_replica.specs.declared.error.LoadError.{LoadError}
 use Rattle.oct_replica.specs.declared.error.LoadError.TheVariants.{OutOfMemory}
 use Rattle.oct_replica.proofs.StateTexts.{is_state, list_refused}
+use Rattle.oct_replica.proofs.Taking.{text_few}
 use Rattle.oct_replica.proofs.replica.Replica.load.Goals as goal
 
 pub returns-in-Err-clause-err : goal.returns-in-Err-clause-err
@@ -25,3 +26,9 @@ returns-in-Ok-clause-err g c =
     IfErr-weaker c.restored.result (λ (e : LoadError). e ≡ OutOfMemory) (RefusesState bytes)
     (λ e is. subst (RefusesState bytes) (sym is) (c.in_ok-author.author, set_of c.in-Ok.list, is_state bytes c.in_ok-author.delta.now c.in_ok-author.author c.in-Ok.list c.in_ok-author.ensures.ok c.in-Ok.ensures.ok))
     c.restored.ensures.err
+
+pub restored-requires-clause-author : goal.restored-requires-clause-author
+restored-requires-clause-author g c = c.in_ok-author.ensures.ok.fits.0
+
+pub restored-requires-clause-few : goal.restored-requires-clause-few
+restored-requires-clause-few g c = text_few c.in_ok-author.delta.now c.in-Ok.list c.in-Ok.ensures.ok
