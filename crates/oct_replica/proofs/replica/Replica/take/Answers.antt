@@ -45,18 +45,16 @@ returns-in-Err-Version-clause-refused g c =
     not_refused _ (λ so. false≢true (sym (ap is_some none) ∙ so.0))
 
 pub returns-in-Ok-clause-version : goal.returns-in-Ok-clause-version
-returns-in-Ok-clause-version g c =
-    (
-      λ is. absurd (cut_is_no_version c.args.self.now c.take_list.new.self c.in-Ok.list c.take_list.result c.take_list.ensures.err is),
-      λ none. absurd (read_no_error c.in-Ok.list delta.Version (c.in-Ok.ensures.version.1 none)),
-    )
+returns-in-Ok-clause-version g c = (
+  λ is. absurd (cut_is_no_version c.args.self.now c.take_list.new.self c.in-Ok.list c.take_list.result c.take_list.ensures.err is),
+  λ none. absurd (read_no_error c.in-Ok.list delta.Version (c.in-Ok.ensures.version.1 none)),
+)
 
 pub returns-in-Ok-clause-refused : goal.returns-in-Ok-clause-refused
-returns-in-Ok-clause-refused g c =
-    (
-      λ is. absurd (cut_is_no_refusal c.args.self.now c.take_list.new.self c.in-Ok.list c.take_list.result c.take_list.ensures.err is),
-      λ none. absurd (read_no_error c.in-Ok.list delta.Refused (c.in-Ok.ensures.refused.1 none)),
-    )
+returns-in-Ok-clause-refused g c = (
+  λ is. absurd (cut_is_no_refusal c.args.self.now c.take_list.new.self c.in-Ok.list c.take_list.result c.take_list.ensures.err is),
+  λ none. absurd (read_no_error c.in-Ok.list delta.Refused (c.in-Ok.ensures.refused.1 none)),
+)
 
 pub returns-in-Err-Version-clause-ok : goal.returns-in-Err-Version-clause-ok
 returns-in-Err-Version-clause-ok g c = tt
