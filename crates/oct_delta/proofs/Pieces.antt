@@ -1,9 +1,10 @@
 -- What a reader may say of the bytes that were fed.
-use Rattle.std.proofs.Common.{◌≡◌, ℕ, suc, ◌-◌, ◌+◌, ◌^◌, ◌≤◌, ◌<◌, true, false, eqb, List, [], ◌∷◌, ◌++◌, length, drop, Option, None, Result, Ok, Err, refl, sym, ap, subst, ◌∙◌, append_assoc, arith, inl, inr}
+use Rattle.std.proofs.Common.{◌≡◌, ℕ, suc, ◌-◌, ◌+◌, ◌^◌, ◌≤◌, ◌<◌, ◌↔◌, true, false, eqb, List, [], ◌∷◌, ◌++◌, length, drop, Option, Some, None, Result, Ok, Err, refl, sym, ap, subst, ◌∙◌, append_assoc, arith, inl, inr}
 use Rattle.std.specs.Int.{w32}
-use Rattle.std.specs.Prelude.{IfSome}
+use Rattle.std.specs.Prelude.{IfSome, IsErrOf, IsErrAnd}
 use Rattle.std.specs.List.{flat_map}
 use Rattle.std.proofs.lemmas.Bool.{false≢true, cases_lt}
+use Rattle.std.proofs.lemmas.Result.{err_from_is_err_and}
 use Rattle.std.proofs.lemmas.List.{append-nil, length-append, drop_at}
 use Rattle.std.proofs.lemmas.Grind.{flat_map-append}
 use Rattle.std.proofs.lemmas.List.Elements.{All-from_recursion, recursion_from_All}
@@ -15,18 +16,20 @@ use Rattle.oct_delta.specs.declared.fault.Fault.{Fault}
 use Rattle.oct_delta.specs.declared.fault.Fault.TheVariants.{Short, Malformed}
 use Rattle.oct_delta.specs.declared.fault.ReadError.{ReadError}
 use Rattle.oct_delta.specs.declared.fault.ReadError.TheVariants as errors
+use Rattle.oct_delta.specs.declared.error.DeltaError.{DeltaError}
+use Rattle.oct_delta.specs.declared.error.DeltaError.TheVariants as faults
 use Rattle.oct_delta.specs.declared.format.Edition.{Edition}
 use Rattle.oct_delta.specs.declared.format.Edition.TheVariants.{First, Second}
 use Rattle.oct_delta.specs.declared.state.Progress.{Progress}
 use Rattle.oct_delta.specs.declared.state.State.{State}
-use Rattle.oct_delta.specs.declared.state.State.TheVariants.{Reading}
+use Rattle.oct_delta.specs.declared.state.State.TheVariants.{Reading, Failed}
 use Rattle.oct_delta.specs.Bytes.{IsBytes}
 use Rattle.oct_delta.specs.Text.{Bytes, u32, op_bytes, list_bytes}
 use Rattle.oct_delta.specs.Delta.{Fits, IsList, IsDeltaText}
 use Rattle.oct_delta.specs.Formats.{format}
 use Rattle.oct_delta.specs.Reading.{Read, Fails, with_front, number_at, op_at, next_at, next_op_at, chain_at}
 use Rattle.oct_delta.specs.Streaming.{whole_at, last_of, AreWhole}
-use Rattle.oct_delta.specs.ReaderState.{begun_bytes, fed, BeginsList, IsPartial, IsReaderState, HasTag, IsHopeless}
+use Rattle.oct_delta.specs.ReaderState.{begun_bytes, fed, BeginsList, IsPartial, IsReaderState, HasTag, IsHopeless, Tells}
 use Rattle.oct_delta.proofs.Codecs.{Chained, number_codec, wide32, ok_is, done, failed}
 use Rattle.oct_delta.proofs.Bounds.{short_op}
 use Rattle.oct_delta.proofs.Chains.{each_from_chain, rises_from_chain, chain_from_rising}
@@ -258,3 +261,34 @@ whole_here {A} s p value items is held view same =
     subst (λ (v : Option (List ℕ)). IfSome v (λ bytes. AreWhole bytes items)) view
     (subst (λ (z : List Operation). IfSome (fed s) (λ bytes. AreWhole bytes z)) (sym same)
     (subst (λ (z : State A). IsReaderState z → IfSome (fed z) (λ bytes. AreWhole bytes p.ops.items)) (sym is) (λ q. are_whole p.edition p.count p.ops.items p.rest.items q) held))
+
+-- ---- what a step tells of a piece
+
+pub told : {A : Type 0} (r : Result (State A) DeltaError) (s : State A) (old now piece : List ℕ) → fed s ≡ Some old → now ≡ old ++ piece → Tells r now → IfSome (fed s) (λ bytes. Tells r (bytes ++ piece))
+told {A} r s old now piece is same t = subst (λ (v : Option (List ℕ)). IfSome v (λ bytes. Tells r (bytes ++ piece))) (sym is) (subst (Tells r) same t)
+
+pub no_room_tells : {A : Type 0} (r : Result (State A) DeltaError) (bytes : List ℕ) → IsErrAnd r (λ e. e ≡ faults.OutOfMemory) → Tells r bytes
+no_room_tells {A} r bytes h =
+    let p = err_from_is_err_and r h in
+    subst (λ (z : Result (State A) DeltaError). Tells z bytes) (sym p.1) (subst (λ (z : DeltaError). Tells {A = A} (Err z) bytes) (sym p.2) tt)
+
+-- a step that tells of bytes did not fail before
+pub told_unfailed : {A : Type 0} (r : Result (State A) DeltaError) (s : State A) (old now : List ℕ) → fed s ≡ Some old → Tells r now → IsErrOf r faults.Failed ↔ (fed s ≡ None)
+told_unfailed {A} r s old now is t = (λ e. absurd (subst (λ (z : Result (State A) DeltaError). Tells z now) e t), λ e. absurd (is_some old (sym is ∙ e)))
+  where
+    is_some : (bytes : List ℕ) → Some bytes ≡ None → ⊥
+    is_some bytes e = cc
+
+pub begun_more : (e : Edition) (count : ℕ) (ops : List Operation) (rest piece now : List ℕ) → now ≡ rest ++ piece → begun_bytes e count ops now ≡ begun_bytes e count ops rest ++ piece
+begun_more e count ops rest piece now is =
+    ap (begun_bytes e count ops) is
+    ∙ sym (
+        append_assoc (format e).tag (u32 count ++ (flat_map op_bytes ops ++ rest)) piece
+        ∙ ap (λ (y : List ℕ). (format e).tag ++ y) (append_assoc (u32 count) (flat_map op_bytes ops ++ rest) piece ∙ ap (λ (y : List ℕ). u32 count ++ y) (append_assoc (flat_map op_bytes ops) rest piece))
+    )
+
+pub begins_still : {A : Type 0} (s : State A) (p : Progress A) → s ≡ Reading p → IsReaderState s → BeginsList (format p.edition).limit p.count p.ops.items
+begins_still {A} s p is held = (subst (λ (z : State A). IsReaderState z) is held).begins
+
+pub untold : {A : Type 0} (r : Result (State A) DeltaError) (s : State A) (piece : List ℕ) → s ≡ Failed → IfSome (fed s) (λ bytes. Tells r (bytes ++ piece))
+untold {A} r s piece is = subst (λ (z : State A). IfSome (fed z) (λ bytes. Tells r (bytes ++ piece))) (sym is) tt
