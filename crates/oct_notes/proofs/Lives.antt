@@ -1,5 +1,5 @@
 -- The live notes of a set, as the loops gather them.
-use Rattle.std.proofs.Common.{◌≡◌, ℕ, ◌==◌, Bool, true, false, not, ◌&&◌, ◌||◌, cond, List, [], ◌∷◌, ◌++◌, map, sym, ap, ◌∙◌, subst}
+use Rattle.std.proofs.Common.{◌≡◌, ℕ, ◌==◌, Bool, true, false, not, ◌&&◌, ◌||◌, cond, List, [], ◌∷◌, ◌++◌, map, sym, ap, ◌∙◌, subst, append_assoc}
 use Rattle.std.proofs.lemmas.Cmp.{nat_list_cmp_total}
 use Rattle.std.proofs.lemmas.List.{append-nil}
 use Rattle.std.proofs.lemmas.List.Folds.{list_any-append}
@@ -58,6 +58,18 @@ sorted_are_live ops dots done notes rest are none before permuted sorted =
     ∙ same_test (leaves dots) (is_live (listed ops)) (live_left (listed ops) dots are) (listed ops) in
     sorted_is_arranged op_cmp note_order op_cmp_total op_cmp_exact note_order_total note_order_exact (filter (is_live (listed ops)) (listed ops)) notes (filter_rises (is_live (listed ops)) ops) (subst (λ l. IsPermutation l notes) is permuted) sorted
 
+-- ---- a step of the loop over the set
+
+module _ (p : Operation → Bool) (all rest : List Operation) (o : Operation) (next : all ≡ o ∷ rest) (done whole : List Operation) (before : done ++ filter p all ≡ whole) where
+  pub one_more : (copy : Operation) (more : List Operation) → more ≡ done ++ (copy ∷ []) → copy ≡ o → p o ≡ true → more ++ filter p rest ≡ whole
+  one_more copy more added same passes =
+      ap (λ l. l ++ filter p rest) (added ∙ ap (λ x. done ++ (x ∷ [])) same) ∙ append_assoc done (o ∷ []) (filter p rest)
+      ∙ sym (ap (λ b. done ++ cond b (o ∷ filter p rest) (filter p rest)) passes)
+      ∙ sym (ap (λ l. done ++ filter p l) next) ∙ before
+
+  pub passed_over : p o ≡ false → done ++ filter p rest ≡ whole
+  passed_over fails = sym (ap (λ b. done ++ cond b (o ∷ filter p rest) (filter p rest)) fails) ∙ sym (ap (λ l. done ++ filter p l) next) ∙ before
+
 -- ---- the dots of the live notes of a name
 
 abbrev pub same_dot : Dot → Dot → Bool
@@ -90,6 +102,13 @@ module _ (removed : List Dot) (name : List ℕ) (all rest : List Operation) (o :
 
   pub not_left : leaves removed o ≡ false → done ++ map (λ p. p.dot) (filter (shows removed name) rest) ≡ whole
   not_left fails = kept (ap (λ b. b && is_named name o) fails)
+
+  pub shown : (dot : Dot) (more : List Dot) → more ≡ done ++ (dot ∷ []) → dot ≡ o.dot → leaves removed o ≡ true → is_named name o ≡ true → more ++ map (λ p. p.dot) (filter (shows removed name) rest) ≡ whole
+  shown dot more added same left named =
+      let both : shows removed name o ≡ true = ap (λ b. b && is_named name o) left ∙ named in
+      ap (λ l. l ++ map (λ p. p.dot) (filter (shows removed name) rest)) (added ∙ ap (λ d. done ++ (d ∷ [])) same) ∙ append_assoc done (o.dot ∷ []) (map (λ p. p.dot) (filter (shows removed name) rest))
+      ∙ sym (ap (λ b. done ++ map (λ p. p.dot) (cond b (o ∷ filter (shows removed name) rest) (filter (shows removed name) rest))) both)
+      ∙ sym (ap (λ l. done ++ map (λ p. p.dot) (filter (shows removed name) l)) next) ∙ before
 
 pub dots_are_live : (ops : Operations) (removed : List Dot) (name : List ℕ) (done dots : List Dot) (rest : List Operation) → AreRemoved (listed ops) removed → rest ≡ [] → done ++ map (λ o. o.dot) (filter (shows removed name) rest) ≡ map (λ o. o.dot) (filter (shows removed name) (listed ops)) → dots ≡ dedup same_dot done → dots ≡ live_dots (listed ops) name
 dots_are_live ops removed name done dots rest are none before deduped =

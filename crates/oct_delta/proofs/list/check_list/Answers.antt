@@ -24,3 +24,6 @@ returns-clause-ok c =
     let count : number_at w32 c.args.bytes.now ≡ Ok (c.in_ok-count.count, c.u32.new.self) = ap (number_at w32) (sym c.new-input.ensures.value) ∙ c.in_ok-count.ensures in
     let nothing = nil_from_length c.skip_ops.new.self (eqb-true _ _ (sym c.is_empty.ensures ∙ c.if-not-is_empty.false)) in
     list_takes c.args.limit c.requires c.args.bytes.now c.u32.new.self c.in_ok-count.count (λ i. omega (arith, c.type_inv.bytes i)) count (c.in_ok-skip_ops.ensures ∙ ap (λ (z : List ℕ). done z) nothing)
+
+pub returns-clause-err : goal.returns-clause-err
+returns-clause-err c = tt
