@@ -16,3 +16,4 @@ mod Wholes
 mod Pieces
 mod Numbers
 mod Bounds
+mod Decoded

@@ -283,8 +283,8 @@ pub begun_more : (e : Edition) (count : ℕ) (ops : List Operation) (rest piece 
 begun_more e count ops rest piece now is =
     ap (begun_bytes e count ops) is
     ∙ sym (
-        append_assoc (format e).tag (u32 count ++ (flat_map op_bytes ops ++ rest)) piece
-        ∙ ap (λ (y : List ℕ). (format e).tag ++ y) (append_assoc (u32 count) (flat_map op_bytes ops ++ rest) piece ∙ ap (λ (y : List ℕ). u32 count ++ y) (append_assoc (flat_map op_bytes ops) rest piece))
+    append_assoc (format e).tag (u32 count ++ (flat_map op_bytes ops ++ rest)) piece
+    ∙ ap (λ (y : List ℕ). (format e).tag ++ y) (append_assoc (u32 count) (flat_map op_bytes ops ++ rest) piece ∙ ap (λ (y : List ℕ). u32 count ++ y) (append_assoc (flat_map op_bytes ops) rest piece))
     )
 
 pub begins_still : {A : Type 0} (s : State A) (p : Progress A) → s ≡ Reading p → IsReaderState s → BeginsList (format p.edition).limit p.count p.ops.items
