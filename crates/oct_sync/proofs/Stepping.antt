@@ -47,6 +47,14 @@ split_nothing (suc fuel) = refl
 pub not_done : (phase : Phase) {X : Type 0} → IsOpenPhase phase → phase ≡ IsDone → X
 not_done phase is e = absurd (subst IsOpenPhase e is)
 
+-- where bytes are wanted some frame is due
+pub open_where : {A : Type 0} (phase : Phase) (frame : Incoming A) (n : ℕ) → 0 < n → n ≤ wanted_in phase frame → IsOpenPhase phase
+open_where AwaitsClock frame n some fits = tt
+open_where (AwaitsDeltas t) frame n some fits = tt
+open_where AwaitsEnd frame n some fits = tt
+open_where IsDone frame n some fits = absurd (omega (arith, some, fits))
+open_where (HasFailed f) frame n some fits = absurd (omega (arith, some, fits))
+
 -- ---- a point after more bytes
 
 after_split : Role → Session → Split → Point

@@ -76,3 +76,18 @@ returns-clause-ok g c =
 
 pub returns-clause-kept : goal.returns-clause-kept
 returns-clause-kept g c = keeps_then _ _ _ c.loop-op.invariant.gathering.kept c.put_pack-2.ensures.kept
+
+pub put_pack-requires-clause-is : goal.put_pack-requires-clause-is
+put_pack-requires-clause-is g c = c.loop-op.invariant.size
+
+pub put_pack-requires-clause-fits : goal.put_pack-requires-clause-fits
+put_pack-requires-clause-fits g c = let fits = c.loop-op.invariant.gathering.is.fits in omega (arith, fits, c.loop-op.invariant.size)
+
+pub put_pack-requires-2-clause-is : goal.put_pack-requires-2-clause-is
+put_pack-requires-2-clause-is g c = c.loop-op.invariant.size
+
+pub put_pack-requires-2-clause-fits : goal.put_pack-requires-2-clause-fits
+put_pack-requires-2-clause-fits g c = let fits = c.loop-op.invariant.gathering.is.fits in omega (arith, fits, c.loop-op.invariant.size)
+
+pub returns-in_err-put_pack-2-clause-kept : goal.returns-in_err-put_pack-2-clause-kept
+returns-in_err-put_pack-2-clause-kept g c = keeps_then _ _ _ c.loop-op.invariant.gathering.kept c.put_pack-2.ensures.kept

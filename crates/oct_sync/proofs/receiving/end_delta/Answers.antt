@@ -62,3 +62,9 @@ returns-in-Err-clause-steps g c sent r y rest =
     let none : d.missing ≡ 0 = omega (arith, c.if-delta-gt0.false) in
     end_err c.texts_are_read.ensures c.args.role (phase_of c.args.due) (g.P.Peer.held c.args.peer.now) sent r y d.head.items d.missing d.reader c.in-Err.field-0 c.requires.open c.requires.front none rest
     (λ h. c.in-Err.ensures.version (ap Err h)) (λ h. c.in-Err.ensures.refused (ap Err h)) (λ h. c.in-Err.ensures.failed.0 (ap Err h)) (λ h. c.in-Err.ensures.memory (ap Err h))
+
+pub returns-in-Ok-append-clause-author : goal.returns-in-Ok-append-clause-author
+returns-in-Ok-append-clause-author g c = c.in-Ok-append.ensures.author
+
+pub returns-in-Ok-append-clause-valid : goal.returns-in-Ok-append-clause-valid
+returns-in-Ok-append-clause-valid g c = c.new.ensures.valid

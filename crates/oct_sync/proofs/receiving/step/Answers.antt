@@ -1,7 +1,7 @@
-use Rattle.std.proofs.Common.{◌≡◌, sym, ap, ◌∙◌, subst}
-use Rattle.oct_sync.specs.SessionState.{Steps, kept_of, kept_of_delta, phase_of, point}
+use Rattle.std.proofs.Common.{◌≡◌, length, sym, ap, ◌∙◌, subst}
+use Rattle.oct_sync.specs.SessionState.{IsIncoming, Steps, kept_of, kept_of_delta, phase_of, point}
 use Rattle.oct_sync.specs.Standing.{IsAt, Known}
-use Rattle.oct_sync.proofs.Stepping.{known_point, stops_here}
+use Rattle.oct_sync.proofs.Stepping.{front_more, known_point, open_where, stops_here}
 use Rattle.oct_sync.proofs.receiving.step.Goals as goal
 
 pub returns-in-Ok-clause-steps : goal.returns-in-Ok-clause-steps
@@ -32,3 +32,18 @@ returns-in-Ok-feed_delta-clause-steps g c p at =
 pub returns-in-Err-feed_delta-clause-steps : goal.returns-in-Err-feed_delta-clause-steps
 returns-in-Err-feed_delta-clause-steps g c p at =
     stops_here c.args.role p c.args.piece.now (g.P.Peer.held c.args.peer.now) c.args.out.now.items (sym (ap (λ s. s.held) at.session)) (sym (ap (λ s. s.sent) at.session))
+
+pub settle-requires-clause-open : goal.settle-requires-clause-open
+settle-requires-clause-open g c = open_where (phase_of c.args.state.due) c.args.state.incoming (length c.args.piece.now) c.requires.some c.requires.fits
+
+pub feed_delta-requires-clause-counted : goal.feed_delta-requires-clause-counted
+feed_delta-requires-clause-counted g c = (subst (IsIncoming (phase_of c.args.state.due)) c.in-Delta.is c.requires.valid).0.counted
+
+pub end_delta-requires-clause-front : goal.end_delta-requires-clause-front
+end_delta-requires-clause-front g c =
+    let held = subst (IsIncoming (phase_of c.args.state.due)) c.in-Delta.is c.requires.valid in
+    front_more (phase_of c.args.state.due) c.in-Delta.delta.head.items c.in-Ok-feed_delta.delta.head.items c.in-Delta.delta.missing c.in-Ok-feed_delta.delta.missing (length c.args.piece.now) c.in-Delta.delta.reader c.in-Ok-feed_delta.delta.reader
+    held.0 c.in-Ok-feed_delta.ensures.head c.in-Ok-feed_delta.ensures.missing c.in-Ok-feed_delta.ensures.counted
+
+pub end_delta-requires-clause-open : goal.end_delta-requires-clause-open
+end_delta-requires-clause-open g c = (subst (IsIncoming (phase_of c.args.state.due)) c.in-Delta.is c.requires.valid).2
