@@ -12,7 +12,7 @@ use Rattle.oct_ops.specs.Operations.{listed}
 use Rattle.oct_ops.specs.Valid.{IsOp}
 use Rattle.oct_replica.specs.Content.{ReplicaContent}
 use Rattle.oct_store.specs.Summary.{beyond}
-use Rattle.census_core.specs.Asking.{delta, delta_of, value, value_in, value_text}
+use Rattle.census_core.specs.Asking.{delta_of, value, value_in, value_text}
 use Rattle.census_core.specs.Codes.{read_code}
 use Rattle.census_core.specs.Issuing.{code_of}
 use Rattle.census_core.specs.Lines.{number_line}
@@ -33,21 +33,19 @@ value_said state word heaps r c text there coded spelled =
     ∙ ap (λ t. Ok (said t)) (sym spelled)
 
 -- a refusal of all operations
-pub delta_refused : (state : Bytes) (r : ReplicaContent) (t : clock.Clock) (cause : EncodeError) → t ≡ clock.empty → loaded state ≡ Ok r → All IsOp (listed r.ops)
+pub delta_refused : (r : ReplicaContent) (t : clock.Clock) (cause : EncodeError) → t ≡ clock.empty → All IsOp (listed r.ops)
     → (cause ≡ TooMany → 2 ^ 32 ≤ length (listed (beyond r.ops t)))
-    → encode_fault cause ≢ fault.OutOfMemory → delta state ≡ Err (encode_fault cause)
-delta_refused state r t TooMany none there valid many other =
+    → encode_fault cause ≢ fault.OutOfMemory → delta_of (listed r.ops) ≡ Err (encode_fault cause)
+delta_refused r t TooMany none valid many other =
     let most : 2 ^ 32 ≤ length (listed r.ops) = (let e = ap (λ ops. length (listed ops)) (ap (beyond r.ops) none ∙ all_beyond r.ops valid) in let m = many refl in omega (arith, e, m)) in
-    ap (λ l. l >>= λ q. delta_of (listed q.ops)) there
-    ∙ ap (λ b. cond b (Ok (record { state = None; file = Some (encoded (listed r.ops)); text = number_line (codes "operations ") (length (listed r.ops)) })) (Err fault.TooMany)) (le-ltb _ _ most)
-delta_refused state r t OutOfMemory none there valid many other = absurd (other refl)
+    ap (λ b. cond b (Ok (record { state = None; file = Some (encoded (listed r.ops)); text = number_line (codes "operations ") (length (listed r.ops)) })) (Err fault.TooMany)) (le-ltb _ _ most)
+delta_refused r t OutOfMemory none valid many other = absurd (other refl)
 
-pub delta_given : (state : Bytes) (r : ReplicaContent) (t : clock.Clock) (file text : Bytes) → t ≡ clock.empty → loaded state ≡ Ok r → All IsOp (listed r.ops) → file ≡ encoded (listed (beyond r.ops t))
+pub delta_given : (r : ReplicaContent) (t : clock.Clock) (file text : Bytes) → t ≡ clock.empty → All IsOp (listed r.ops) → file ≡ encoded (listed (beyond r.ops t))
     → length (listed (beyond r.ops t)) < 2 ^ 32 → text ≡ number_line (codes "operations ") (length (listed r.ops))
-    → delta state ≡ Ok (record { state = None; file = Some file; text = text })
-delta_given state r t file text none there valid is few spelled =
+    → delta_of (listed r.ops) ≡ Ok (record { state = None; file = Some file; text = text })
+delta_given r t file text none valid is few spelled =
     let whole = ap listed (ap (beyond r.ops) none ∙ all_beyond r.ops valid) in
     let fits : length (listed r.ops) < 2 ^ 32 = (let e = ap length whole in omega (arith, e, few)) in
-    ap (λ l. l >>= λ q. delta_of (listed q.ops)) there
-    ∙ ap (λ b. cond b (Ok (record { state = None; file = Some (encoded (listed r.ops)); text = number_line (codes "operations ") (length (listed r.ops)) })) (Err fault.TooMany)) (lt-ltb _ _ fits)
+    ap (λ b. cond b (Ok (record { state = None; file = Some (encoded (listed r.ops)); text = number_line (codes "operations ") (length (listed r.ops)) })) (Err fault.TooMany)) (lt-ltb _ _ fits)
     ∙ (λ i. Ok (record { state = None; file = Some (sym (is ∙ ap encoded whole) i); text = sym spelled i }))

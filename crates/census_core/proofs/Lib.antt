@@ -4,6 +4,7 @@ mod LineLemmas
 mod Importing
 mod Members
 mod Merging
+mod Numbers
 mod Outcomes
 mod Stepping
 mod StoredStates

@@ -1,7 +1,10 @@
 //! The commands that leave a state as it is.
 
 ghost use Rattle.std.specs.Prelude.{◌≡◌, ◌≢◌, Ok, Err, IfOk, IfErr};
-ghost use Rattle.census_core.specs.Asking.{delta, page, show, value, value_text, value_in};
+ghost use Rattle.std.specs.List.{All};
+ghost use Rattle.oct_ops.specs.Operations.{listed};
+ghost use Rattle.oct_ops.specs.Valid.{IsOp};
+ghost use Rattle.census_core.specs.Asking.{delta, delta_of, page, page_of, show, value, value_text, value_in};
 ghost use Rattle.census_core.specs.Lines.{outcome_line};
 ghost use Rattle.census_core.specs.Replies.{answer_of, said};
 
@@ -74,6 +77,14 @@ pub(crate) fn page(alloc: Global, state: &[u8], number: u32) -> Result<Reply, Fa
     ensures err { IfErr result (λ e. e ≢ Fault.OutOfMemory → page state.now number ≡ Err e) }
 {
     let replica = load(alloc, state)?;
+    page_reply(alloc, &replica, number)
+}
+
+// The reply of one page of the replica's catalogue.
+fn page_reply(alloc: Global, replica: &Replica<Global>, number: u32) -> Result<Reply, Fault>
+    ensures ok { IfOk result (λ reply. page_of (listed replica.now.ops) number ≡ Ok (answer_of reply)) }
+    ensures err { IfErr result (λ e. e ≢ Fault.OutOfMemory → page_of (listed replica.now.ops) number ≡ Err e) }
+{
     let mut text = Vec::new(alloc);
     if !replica.page(number, &mut text)? {
         return Err(Fault::NoPage);
@@ -98,6 +109,15 @@ pub(crate) fn delta(alloc: Global, state: &[u8]) -> Result<Reply, Fault>
     ensures err { IfErr result (λ e. e ≢ Fault.OutOfMemory → delta state.now ≡ Err e) }
 {
     let replica = load(alloc, state)?;
+    delta_reply(alloc, &replica)
+}
+
+// The reply of all operations of the replica as one delta.
+fn delta_reply(alloc: Global, replica: &Replica<Global>) -> Result<Reply, Fault>
+    requires valid { All IsOp (listed replica.now.ops) }
+    ensures ok { IfOk result (λ reply. delta_of (listed replica.now.ops) ≡ Ok (answer_of reply)) }
+    ensures err { IfErr result (λ e. e ≢ Fault.OutOfMemory → delta_of (listed replica.now.ops) ≡ Err e) }
+{
     let mut file = Vec::new(alloc);
     replica.delta(&Clock::new(alloc), &mut file)?;
     let text = number_line(alloc, b"operations ", replica.len() as u64)?;

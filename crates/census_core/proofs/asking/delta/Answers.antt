@@ -1,19 +1,10 @@
-use Rattle.std.proofs.Common.{Err, ◌++◌, ap, codes, ◌∙◌}
-use Rattle.std.proofs.lemmas.Result.{err_from_is_err_and}
-use Rattle.oct_delta.specs.Delta.{encoded}
-use Rattle.oct_ops.specs.Operations.{listed}
-use Rattle.oct_store.specs.Summary.{beyond}
-use Rattle.census_core.specs.Lines.{number_line}
-use Rattle.census_core.proofs.Asked.{delta_given, delta_refused}
+use Rattle.std.proofs.Common.{◌∙◌}
+use Rattle.std.proofs.lemmas.Result.{IfErr-weaker, IfOk-weaker}
+use Rattle.census_core.proofs.Stepping.{then_with}
 use Rattle.census_core.proofs.asking.delta.Goals as goal
 
-pub returns-in_err-delta-clause-err : goal.returns-in_err-delta-clause-err
-returns-in_err-delta-clause-err c =
-    let p = err_from_is_err_and c.from_residual-in_err-delta.result c.from_residual-in_err-delta.ensures.1 in
-    rw (p.1, p.2) (delta_refused c.args.state.now c.in_ok-replica.replica c.new.result _ c.new.ensures c.in_ok-replica.ensures.ok c.in_ok-replica.ensures.valid (λ e. c.in_err-delta.ensures.too_many (ap Err e)))
-
 pub returns-clause-ok : goal.returns-clause-ok
-returns-clause-ok c =
-    delta_given c.args.state.now c.in_ok-replica.replica c.new.result c.delta-2.new.out.items c.in_ok-text.text.items c.new.ensures c.in_ok-replica.ensures.ok c.in_ok-replica.ensures.valid
-    (c.in_ok-delta.ensures.ok ∙ ap (λ front. front ++ encoded (listed (beyond c.in_ok-replica.replica.ops c.new.result))) c.new-file.ensures.items)
-    c.in_ok-delta.ensures.few (c.in_ok-text.ensures ∙ ap (number_line (codes "operations ")) c.len.ensures)
+returns-clause-ok c = IfOk-weaker c.delta_reply.result _ _ (λ reply done. then_with _ _ _ c.in_ok-replica.ensures.ok ∙ done) c.delta_reply.ensures.ok
+
+pub returns-clause-err : goal.returns-clause-err
+returns-clause-err c = IfErr-weaker c.delta_reply.result _ _ (λ e done other. then_with _ _ _ c.in_ok-replica.ensures.ok ∙ done other) c.delta_reply.ensures.err

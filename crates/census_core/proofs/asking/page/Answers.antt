@@ -1,22 +1,10 @@
-use Rattle.std.proofs.Common.{Ok, Err, ◌++◌, cond, ap, sym, ◌∙◌}
-use Rattle.oct_ops.specs.Operations.{listed}
-use Rattle.oct_pages.specs.Catalogue as catalogue
-use Rattle.census_core.specs.Replies.{said}
-use Rattle.census_core.specs.declared.fault.Fault.TheVariants.{NoPage}
+use Rattle.std.proofs.Common.{◌∙◌}
+use Rattle.std.proofs.lemmas.Result.{IfErr-weaker, IfOk-weaker}
 use Rattle.census_core.proofs.Stepping.{then_with}
 use Rattle.census_core.proofs.asking.page.Goals as goal
 
 pub returns-clause-ok : goal.returns-clause-ok
-returns-clause-ok c =
-    let ops = listed c.in_ok-replica.replica.ops in
-    let shown = c.in_ok-page.ensures.ok ∙ ap (λ front. front ++ catalogue.page ops c.args.number) c.new-text.ensures.items in
-    then_with _ _ _ c.in_ok-replica.ensures.ok
-    ∙ ap (λ found. cond found (Ok (said (catalogue.page ops c.args.number))) (Err NoPage)) (sym c.in_ok-page.ensures.found ∙ c.if-not-branch.false)
-    ∙ ap (λ text. Ok (said text)) (sym shown)
-    ∙ ap Ok (sym c.said.ensures)
+returns-clause-ok c = IfOk-weaker c.page_reply.result _ _ (λ reply done. then_with _ _ _ c.in_ok-replica.ensures.ok ∙ done) c.page_reply.ensures.ok
 
 pub returns-clause-err : goal.returns-clause-err
-returns-clause-err c = cc
-
-pub returns-then-not-branch-clause-ok : goal.returns-then-not-branch-clause-ok
-returns-then-not-branch-clause-ok c = tt
+returns-clause-err c = IfErr-weaker c.page_reply.result _ _ (λ e done other. then_with _ _ _ c.in_ok-replica.ensures.ok ∙ done other) c.page_reply.ensures.err
