@@ -49,7 +49,8 @@ fn fields_of(value: &Value) -> Option<BlockFields<'_>>
     ensures { option_map (λ f. record { code = view f.code.now; start = view f.start.now; values = view f.values.now }) result ≡ fields_of (view value.now) }
 {
     let members = value.as_object()?;
-    if members.len() != 3 {
+    let count = members.len();
+    if count != 3 {
         return None;
     }
     Some(BlockFields {

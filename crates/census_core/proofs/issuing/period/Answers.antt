@@ -1,9 +1,17 @@
 use Rattle.std.proofs.Common.{ap, sym, ◌∙◌}
-use Rattle.std.proofs.lemmas.Result.{IfErr-weaker, IfOk-weaker}
-use Rattle.census_core.specs.Steps.{because}
+use Rattle.std.proofs.lemmas.Result.{IfErr-weaker, IfOk-weaker, err_from_is_err_and}
+use Rattle.oct_ops.specs.Operation.{repeating}
+use Rattle.census_core.specs.Issuing.{claim_of}
+use Rattle.census_core.specs.Steps.{because, unless}
 use Rattle.census_core.specs.declared.fault.Fault.TheVariants as fault
-use Rattle.census_core.proofs.Stepping.{allowed, then_with}
+use Rattle.census_core.proofs.Stepping.{allowed, stopped, then_with}
 use Rattle.census_core.proofs.issuing.period.Goals as goal
+
+pub returns-in_err-claim-clause-err : goal.returns-in_err-claim-clause-err
+returns-in_err-claim-clause-err c =
+    let p = err_from_is_err_and c.from_residual-in_err-claim.result c.from_residual-in_err-claim.ensures.1 in
+    let claim = repeating c.in_ok-code.code c.args.start c.args.span in
+    rw (p.1, p.2) (λ other. then_with _ _ _ c.in_ok-replica.ensures.ok ∙ then_with _ _ _ (ap (because fault.Code) (sym c.read_code.ensures ∙ c.in_ok-code.was)) ∙ stopped (claim_of c.in_ok-code.code c.args.start c.args.span) _ _ (ap (λ found. because fault.Period (unless found claim)) c.in_err-claim.ensures.fault))
 
 pub returns-clause-ok : goal.returns-clause-ok
 returns-clause-ok c =
