@@ -17,3 +17,5 @@ mod Pieces
 mod Numbers
 mod Bounds
 mod Decoded
+mod Ended
+mod Fed

@@ -1,8 +1,15 @@
 use Rattle.std.proofs.Common.{None, arith}
 use Rattle.std.proofs.lemmas.Result.{err_from_is_err_and}
 use Rattle.oct_delta.specs.Reading.{op_at, chain_at}
-use Rattle.oct_delta.proofs.Loops.{goes_on_free, ends, is_done}
+use Rattle.oct_delta.proofs.Loops.{starts, goes_on_free, ends, is_done}
 use Rattle.oct_delta.proofs.input.Input.ops.Goals as goal
+
+pub loop-init : goal.loop-init
+loop-init g c = record {
+  read = starts (λ _. op_at c.args.limit) c.in_ok-ops.ops.items None c.args.count c.args.self.now c.in_ok-ops.ensures.items;
+  len = omega (arith, c.in_ok-ops.ensures.len);
+  room = omega (arith, c.in_ok-ops.ensures.capacity);
+}
 
 pub returns-in_err-op : goal.returns-in_err-op
 returns-in_err-op g c =
