@@ -19,3 +19,4 @@ mod Bounds
 mod Decoded
 mod Ended
 mod Fed
+mod Notes

@@ -55,9 +55,6 @@ in_two (Err _) old a new x y e h = tt
 pub in_three : {T E : Type 0} (r : Result T E) (old a b new x y z : Bytes) → a ≡ old ++ x → b ≡ a ++ y → OnOk r (new ≡ b ++ z) → OnOk r (new ≡ old ++ (x ++ (y ++ z)))
 in_three r old a b new x y z e f h = in_two r old a new x (y ++ z) e (in_two r a b new y z f h)
 
-pub in_four : {T E : Type 0} (r : Result T E) (old a b c new w x y z : Bytes) → a ≡ old ++ w → b ≡ a ++ x → c ≡ b ++ y → OnOk r (new ≡ c ++ z) → OnOk r (new ≡ old ++ (w ++ (x ++ (y ++ z))))
-in_four r old a b c new w x y z e f g h = in_two r old a new w (x ++ (y ++ z)) e (in_three r a b c new x y z f g h)
-
 -- what is left of a vector that is cut back
 pub cut_back : (old new cut : Bytes) (n : ℕ) → Keeps old new → cut ≡ take n new → n ≡ length old → cut ≡ old
 cut_back old new cut n k is len = is ∙ ap (λ (m : ℕ). take m new) len ∙ k.front

@@ -47,7 +47,8 @@ impl Input<'_> {
         match Note::new(alloc, words.name, words.text) {
             Ok(note) => Ok(note),
             Err(NoteError::OutOfMemory) => Err(ReadError::Memory),
-            Err(_) => Err(ReadError::Fault(Fault::Malformed)),
+            Err(NoteError::Name) => Err(ReadError::Fault(Fault::Malformed)),
+            Err(NoteError::Text) => Err(ReadError::Fault(Fault::Malformed)),
         }
     }
 

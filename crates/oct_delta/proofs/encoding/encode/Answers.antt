@@ -1,4 +1,4 @@
-use Rattle.std.proofs.Common.{◌≡◌, ◌++◌, List, Err, OnOk, IsErrOf, sym, subst, refl, ◌∙◌, arith}
+use Rattle.std.proofs.Common.{◌≡◌, ◌++◌, List, Err, OnOk, IsErrOf, length, sym, ap, subst, refl, ◌∙◌, arith}
 use Rattle.oct_ops.specs.Body.{Operation}
 use Rattle.oct_delta.specs.declared.error.EncodeError.TheVariants.{TooMany, OutOfMemory}
 use Rattle.oct_delta.specs.Delta.{encoded}
@@ -7,6 +7,9 @@ use Rattle.oct_delta.proofs.encoding.encode.Goals as goal
 
 other_error : {T : Type 0} → IsErrOf {T = T} (Err OutOfMemory) TooMany → ⊥
 other_error h = cc
+
+pub put_delta-requires : goal.put_delta-requires
+put_delta-requires g c = let same = ap length c.as_slice.ensures.value in omega (arith, same, c.if-len.false, c.len.ensures)
 
 pub returns-then-len-clause-ok : goal.returns-then-len-clause-ok
 returns-then-len-clause-ok g c = tt
