@@ -15,3 +15,4 @@ pub mod Splitting
 pub mod Stepping
 pub mod Wanting
 pub mod Written
+mod Feeding

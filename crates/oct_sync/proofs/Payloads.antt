@@ -67,6 +67,14 @@ module _ (head : Bytes) (missing missing' : ℕ) (piece rest : Bytes) (counts : 
     counted = counted_more bytes _ counted.0;
   }
 
+  pub fed_counted : (r : Result (Unit {0}) DeltaError) (known known' : Option Bytes) → IsCounted head missing known → OnOk r (IfSome known (λ bytes. known' ≡ Some (bytes ++ piece))) → (IsErrOf r errors.Failed ↔ (known ≡ None)) → OnErr r (known' ≡ None) → IsCounted head missing' known'
+  fed_counted (Ok u) (Some bytes) known' counted ok gone err = subst (IsCounted head missing') (sym ok) (counted_more bytes _ counted.0, bytes-append bytes piece counted.1 are)
+  fed_counted (Ok u) None known' counted ok gone err = absurd (differ (gone.1 refl))
+    where
+      differ : {x : Unit {0}} → (let s : Result (Unit {0}) DeltaError = Ok x in s ≡ Err errors.Failed) → ⊥
+      differ e = cc
+  fed_counted (Err e) known known' counted ok gone err = subst (IsCounted head missing') (sym err) tt
+
   pub fed_rest : (r : Result (Unit {0}) DeltaError) (known known' : Option Bytes) → (r ≡ Err errors.OutOfMemory → ⊥) → IsCounted head missing known
       → OnOk r (IfSome known (λ bytes. known' ≡ Some (bytes ++ piece)))
       → (IsErrOf r errors.Version → IfSome known (λ bytes. IsForeign (bytes ++ piece)))
