@@ -1,5 +1,5 @@
 -- What a session that was fed tells of the point at which it stands.
-use Rattle.std.proofs.Common.{◌≡◌, Option, Some, None, sym, ◌∙◌, subst}
+use Rattle.std.proofs.Common.{◌≡◌, Option, Some, None, sym, subst}
 use Rattle.oct_delta.specs.Text.{Bytes}
 use Rattle.oct_ops.specs.Operations.{Operations}
 use Rattle.oct_sync.specs.Session.{Point, fed}

@@ -16,3 +16,4 @@ pub mod Stepping
 pub mod Wanting
 pub mod Written
 mod Feeding
+mod Settling
