@@ -1,5 +1,5 @@
 -- The name and the text that are read make a note.
-use Rattle.std.proofs.Common.{◌≡◌, Bool, true, false, ◌&&◌, not, if◌then◌else◌, List, ℕ, Option, Some, None, Ok, refl, sym, ◌∙◌, subst}
+use Rattle.std.proofs.Common.{◌≡◌, Bool, true, false, ◌&&◌, not, if◌then◌else◌, ℕ, Option, Some, None, Ok, refl, sym, ◌∙◌, subst}
 use Rattle.oct_ops.specs.Faults.{IsFaultOrMemory, is_name, is_text, note_fault}
 use Rattle.oct_ops.specs.Operation.{Note, noted}
 use Rattle.oct_ops.specs.declared.error.NoteError.{NoteError}
