@@ -1,22 +1,29 @@
 -- Steps that were taken, and one that was refused.
-use Rattle.std.proofs.Common.{◌≡◌, ◌≢◌, Option, None, Some, Result, Ok, Err, sym, ap, ◌∙◌, refl}
+use Rattle.std.proofs.Common.{◌≡◌, ◌≢◌, Bool, true, false, cond, Option, None, Some, Result, Ok, Err, sym, ap, ◌∙◌, refl}
 use Rattle.std.specs.Prelude.{unwrap_or}
 use Rattle.oct_delta.specs.Text.{Bytes}
 use Rattle.oct_notes.specs.Notes.{live_dots}
 use Rattle.oct_ops.specs.Faults.{IsFaultOrMemory}
-use Rattle.oct_ops.specs.Operation.{removing}
-use Rattle.oct_ops.specs.Operations.{listed}
+use Rattle.oct_ops.specs.Body.{Body}
+use Rattle.oct_ops.specs.Operation.{Dot, removing}
+use Rattle.oct_ops.specs.Operations.{insert, listed}
 use Rattle.oct_ops.specs.declared.error.NoteError.{NoteError}
 use Rattle.oct_ops.specs.declared.error.NoteError.TheVariants as note
 use Rattle.oct_replica.specs.declared.error.ComputeError.{ComputeError}
 use Rattle.oct_replica.specs.declared.error.ComputeError.TheVariants as compute
 use Rattle.oct_replica.specs.Computing.{RefusesRemoval}
 use Rattle.oct_replica.specs.Content.{ReplicaContent}
+use Rattle.oct_replica.specs.Taking.{issue_error}
+use Rattle.oct_replica.specs.World.{has_number, next_op}
+use Rattle.oct_replica.specs.declared.error.IssueError.{IssueError}
+use Rattle.oct_replica.specs.declared.error.IssueError.TheVariants as issue
 use Rattle.oct_replica.specs.declared.error.RemovalError.{RemovalError}
 use Rattle.oct_replica.specs.declared.error.RemovalError.TheVariants as removal
-use Rattle.census_core.specs.Issuing.{removal_of}
-use Rattle.census_core.specs.Refusals.{compute_fault, note_fault, removal_fault}
+use Rattle.census_core.specs.Issuing.{issued, removal_of, with_op}
+use Rattle.census_core.specs.Lines.{issued_line}
+use Rattle.census_core.specs.Refusals.{compute_fault, issue_fault, note_fault, removal_fault}
 use Rattle.census_core.specs.Steps.{◌>>=◌, because, unless}
+use Rattle.census_core.specs.Stored.{saved}
 use Rattle.census_core.specs.declared.fault.Fault.TheVariants as fault
 
 -- the next step is taken with what the last one gave
@@ -58,3 +65,16 @@ pub not_removed : (r : ReplicaContent) (name : Bytes) (e : RemovalError) → Ref
 not_removed r name removal.NoNote is other = ap (λ f. because fault.Removal (unless f (removing (live_dots (listed r.ops) name)))) is
 not_removed r name removal.TooMany is other = ap (λ f. because fault.Removal (unless f (removing (live_dots (listed r.ops) name)))) is
 not_removed r name removal.OutOfMemory is other = absurd (other refl)
+
+-- ---- an operation that is issued, or refused
+
+pub issued_as : (r new : ReplicaContent) (body : Body) (dot : Dot) (text : Bytes) → has_number r.ops r.author ≡ true → new ≡ record r { ops = insert r.ops (next_op r.ops r.author body) }
+    → dot ≡ (next_op r.ops r.author body).dot → text ≡ issued_line dot → issued r body ≡ saved new text
+issued_as r new body dot text room is dotted spelled =
+    ap (λ b. cond b (with_op r (next_op r.ops r.author body)) (Err (fault.Issue issue.LastNumber))) room
+    ∙ (λ i. saved (sym is i) (sym (spelled ∙ ap issued_line dotted) i))
+
+pub not_issued : (r : ReplicaContent) (body : Body) (b : Bool) (e : IssueError) → has_number r.ops r.author ≡ b → e ≡ issue_error b → issue_fault e ≢ fault.OutOfMemory → issued r body ≡ Err (issue_fault e)
+not_issued r body true e room is other = absurd (other (ap issue_fault is))
+not_issued r body false e room is other =
+    ap (λ b. cond b (with_op r (next_op r.ops r.author body)) (Err (fault.Issue issue.LastNumber))) room ∙ ap (λ c. Err (issue_fault c)) (sym is)
