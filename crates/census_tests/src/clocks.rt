@@ -1,5 +1,6 @@
 //! Clocks that are raised, read, joined and gathered.
 
+use crate::answers::are_same;
 use metered::Metered;
 use oct_join::{Clock, Join, gather};
 use oct_ops::Dot;
@@ -51,7 +52,7 @@ fn raises<A: Allocator>(
 // Whether the greater numbers stay, in a clock that is empty at first.
 fn grows_alone<A: Allocator>(heap: &Metered<Global>, clock: &mut Clock<A>) -> bool {
     raises(heap, clock, &[(7, 4), (2, 9), (7, 3), (5, 0)])
-        && clock.entries() == [(2, 9), (7, 4)].as_slice()
+        && are_same(clock.entries(), &[(2, 9), (7, 4)])
         && raises(heap, clock, &[(7, u32::MAX)])
         && clock.through(7) == u32::MAX
         && clock.through(5) == 0
@@ -72,7 +73,7 @@ const COVERED: &[(u32, u32, bool)] = &[(5, 1, true), (5, 2, true), (5, 3, false)
 
 // Whether the clock is such a one.
 fn knows_two<A: Allocator>(clock: &Clock<A>) -> bool {
-    let mut all = clock.entries() == [(5, 2)].as_slice();
+    let mut all = are_same(clock.entries(), &[(5, 2)]);
     for &(author, number, wanted) in COVERED {
         all &= match Dot::new(author, number) {
             Ok(dot) => clock.covers(&dot) == wanted,
@@ -126,7 +127,7 @@ fn grows<A: Allocator>(
             _ => gather(clock, others),
         };
         if grown.is_ok() {
-            return grants > 0 && clock.entries() == wanted;
+            return grants > 0 && are_same(clock.entries(), wanted);
         }
         if !is_below(held, clock.entries()) || !is_below(clock.entries(), wanted) {
             return false;
@@ -143,7 +144,7 @@ fn adds<A: Allocator + Copy>(
     entries: &[(u32, u32)],
 ) -> bool {
     let mut clock = Clock::new(alloc);
-    let is_raised = raises(heap, &mut clock, entries) && clock.entries() == entries;
+    let is_raised = raises(heap, &mut clock, entries) && are_same(clock.entries(), entries);
     heap.arm(u64::MAX);
     clocks.push(clock).is_ok() && is_raised
 }

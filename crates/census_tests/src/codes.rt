@@ -1,5 +1,6 @@
 //! Codes that are read from text or made from digits, written and compared.
 
+use crate::answers::are_same;
 use metered::Metered;
 use oct_code::{Code, CodeError, DigitsError};
 use std::alloc::{Allocator, Global};
@@ -16,9 +17,9 @@ fn is_appended<A: Allocator>(
     for grants in 0..10u64 {
         heap.arm(grants);
         if code.append_text(out).is_ok() {
-            return grants > 0 && out.as_slice() == after;
+            return grants > 0 && are_same(out.as_slice(), after);
         }
-        if out.as_slice() != before {
+        if !are_same(out.as_slice(), before) {
             return false;
         }
     }
@@ -82,7 +83,7 @@ fn are_read() -> bool {
         Ok(code) => {
             code.head() == 0
                 && code.len() == 3
-                && code.digits() == [1, 3, 7].as_slice()
+                && are_same(code.digits(), &[1, 3, 7])
                 && code.digit(0) == 0
                 && code.digit(2) == 3
                 && code.digit(4) == 0

@@ -1,5 +1,6 @@
 //! Deltas and clocks as bytes: worked texts, what else is read, and what a call leaves where memory is refused.
 
+use crate::answers::are_same;
 use crate::vectors::{A, B, C, D, E, F, G, H, I, LAST, SOME, long_block, many_notes};
 use metered::Metered;
 use oct_code::Code;
@@ -47,7 +48,7 @@ fn writes<A: Allocator + Copy>(alloc: A, bytes: &[u8], text: &[u8]) -> bool {
         return false;
     };
     let mut out = Vec::new(alloc);
-    encode(&list, &mut out).is_ok() && out.as_slice() == text
+    encode(&list, &mut out).is_ok() && are_same(out.as_slice(), text)
 }
 
 // Whether the operation is the one of A.
@@ -58,7 +59,7 @@ fn is_of_a(op: &Op<Global>) -> bool {
                 && op.dot().number() == 1
                 && Code::parse(b"0.77") == Ok(block.code())
                 && block.start() == 0
-                && block.values() == [0, 1, 2, 3, 1].as_slice()
+                && are_same(block.values(), &[0, 1, 2, 3, 1])
         }
         _ => false,
     }
@@ -102,7 +103,7 @@ fn is_refused_or_written(alloc: Global, bytes: &[u8], written: &mut Vec<u8>) -> 
             written.clear();
             encode(&list, written).is_ok()
                 && written.starts_with(b"OGD1")
-                && after_tag(written) == after_tag(bytes)
+                && are_same(after_tag(written), after_tag(bytes))
         }
         Err(refused) => refused == DeltaError::Version || refused == DeltaError::Refused,
     }
@@ -147,7 +148,7 @@ fn reads_again<A: Allocator + Copy>(
     for grants in 0..100u64 {
         heap.arm(grants);
         match decode(alloc, text) {
-            Ok(list) => return grants > 0 && list.as_slice() == ops,
+            Ok(list) => return grants > 0 && are_same(list.as_slice(), ops),
             Err(DeltaError::OutOfMemory) => {}
             Err(_) => return false,
         }
@@ -158,8 +159,23 @@ fn reads_again<A: Allocator + Copy>(
 // Whether the bytes are a seven and the text after it.
 fn is_seven_and(bytes: &[u8], text: &[u8]) -> bool {
     match bytes {
-        [7, rest @ ..] => rest == text,
+        [7, rest @ ..] => are_same(rest, text),
         _ => false,
+    }
+}
+
+/// What is written as bytes.
+#[derive(Drop)]
+enum Written<'a, A: Allocator> {
+    Delta(&'a OpList<A>),
+    Clock(&'a Clock<A>),
+}
+
+// Appends its bytes, and says whether that was done.
+fn puts<A: Allocator>(written: &Written<A>, out: &mut Vec<u8, A>) -> bool {
+    match written {
+        Written::Delta(list) => encode(list, out).is_ok(),
+        Written::Clock(clock) => encode_clock(clock, out).is_ok(),
     }
 }
 
@@ -167,7 +183,7 @@ fn is_seven_and(bytes: &[u8], text: &[u8]) -> bool {
 // refused, and the byte stays alone.
 fn writes_after_seven<A: Allocator + Copy>(
     heap: &Metered<Global>,
-    list: &OpList<A>,
+    written: &Written<A>,
     out: &mut Vec<u8, A>,
     text: &[u8],
     grants: u64,
@@ -176,7 +192,7 @@ fn writes_after_seven<A: Allocator + Copy>(
         return Some(false);
     }
     heap.arm(grants);
-    if encode(list, out).is_ok() {
+    if puts(written, out) {
         return Some(is_seven_and(out, text));
     }
     if is_seven_and(out, &[]) {
@@ -190,12 +206,13 @@ fn writes_after_seven<A: Allocator + Copy>(
 fn writes_again<A: Allocator + Copy>(
     heap: &Metered<Global>,
     alloc: A,
-    list: &OpList<A>,
+    written: &Written<A>,
     text: &[u8],
 ) -> bool {
     for grants in 0..100u64 {
         heap.arm(u64::MAX);
-        if let Some(right) = writes_after_seven(heap, list, &mut Vec::new(alloc), text, grants) {
+        let answer = writes_after_seven(heap, written, &mut Vec::new(alloc), text, grants);
+        if let Some(right) = answer {
             return right && grants > 0;
         }
     }
@@ -211,7 +228,7 @@ fn reads_and_writes_again<A: Allocator + Copy>(
     match decode(alloc, text) {
         Ok(list) => {
             reads_again(heap, alloc, text, list.as_slice())
-                && writes_again(heap, alloc, &list, text)
+                && writes_again(heap, alloc, &Written::Delta(&list), text)
         }
         Err(_) => false,
     }
@@ -246,47 +263,9 @@ fn reads_clock_again<A: Allocator + Copy>(
     for grants in 0..20u64 {
         heap.arm(grants);
         match decode_clock(alloc, text) {
-            Ok(clock) => return grants > 0 && clock.entries() == entries,
+            Ok(clock) => return grants > 0 && are_same(clock.entries(), entries),
             Err(ClockError::OutOfMemory) => {}
             Err(ClockError::Refused) => return false,
-        }
-    }
-    false
-}
-
-// Whether the clock is written as in `writes_after_seven`.
-fn writes_clock<A: Allocator + Copy>(
-    heap: &Metered<Global>,
-    clock: &Clock<A>,
-    out: &mut Vec<u8, A>,
-    text: &[u8],
-    grants: u64,
-) -> Option<bool> {
-    if out.push(7).is_err() {
-        return Some(false);
-    }
-    heap.arm(grants);
-    if encode_clock(clock, out).is_ok() {
-        return Some(is_seven_and(out, text));
-    }
-    if is_seven_and(out, &[]) {
-        None
-    } else {
-        Some(false)
-    }
-}
-
-// Whether that is so after each request for memory was refused in turn.
-fn writes_clock_again<A: Allocator + Copy>(
-    heap: &Metered<Global>,
-    alloc: A,
-    clock: &Clock<A>,
-    text: &[u8],
-) -> bool {
-    for grants in 0..20u64 {
-        heap.arm(u64::MAX);
-        if let Some(right) = writes_clock(heap, clock, &mut Vec::new(alloc), text, grants) {
-            return right && grants > 0;
         }
     }
     false
@@ -302,7 +281,7 @@ fn reads_and_writes_clock_again<A: Allocator + Copy>(
     match decode_clock(alloc, text) {
         Ok(clock) => {
             reads_clock_again(heap, alloc, text, entries)
-                && writes_clock_again(heap, alloc, &clock, text)
+                && writes_again(heap, alloc, &Written::Clock(&clock), text)
         }
         Err(_) => false,
     }
@@ -317,20 +296,13 @@ fn refused_clocks_are_read_and_written_again(rt: HostRuntime) {
     assert!(rt; right);
 }
 
-fn refuses_clock(alloc: Global, text: &[u8]) -> bool {
-    match decode_clock(alloc, text) {
-        Ok(_) => false,
-        Err(refused) => refused == ClockError::Refused,
-    }
-}
-
 #[test]
 fn changed_clocks_are_refused(rt: HostRuntime) {
     let mut all = true;
     for (place, byte) in &[(3usize, 0), (3, 2), (7, 0), (11, 0)] {
         let mut text = CLOCK;
         text[*place] = *byte;
-        all &= refuses_clock(rt.alloc(), &text);
+        all &= decode_clock(rt.alloc(), &text).err() == Some(ClockError::Refused);
     }
     assert!(rt; all);
 }
@@ -340,7 +312,7 @@ fn fields_are_appended<A: Allocator>(out: &mut Vec<u8, A>, wanted: &[u8]) -> boo
     put_bytes(out, b"OGS1").is_ok()
         && put_u32(out, 258).is_ok()
         && put_entries(out, &[(1, 3), (2, 65_536)]).is_ok()
-        && out.as_slice() == wanted
+        && are_same(out.as_slice(), wanted)
 }
 
 #[test]

@@ -43,16 +43,8 @@ enum Item {
     Claim(u32, u32, u32, PeriodStatus),
 }
 
-/// What is said of a position.
-#[derive(Clone, Copy)]
-enum Answer {
-    /// The player to move loses it.
-    Loses(&'static [u64]),
-    /// The player to move wins it, and this is its value.
-    Wins(&'static [u64], u32),
-    /// The value of the heap at this place is not known.
-    Unknown(&'static [u64], usize),
-}
+/// A position and its value, by which the player to move wins it if it is not 0, or the place of the heap that is not known.
+type Answer = (&'static [u64], Result<u32, Unknown>);
 
 /// A game with its blocks and claims, and what follows from them: the known length, the comparisons that were made, and
 /// answers, which are also those of a list of the wrong claim from 2 by 1 and the claim of this start and period.
@@ -90,10 +82,7 @@ const TURNS: &[Case] = &[
         checks: 1,
         start: 1,
         period: 2,
-        answers: &[
-            Answer::Wins(&[1_000_000_001], 1),
-            Answer::Loses(&[7, 1_000_000_001]),
-        ],
+        answers: &[(&[1_000_000_001], Ok(1)), (&[7, 1_000_000_001], Ok(0))],
     },
     Case {
         code: b"0.3",
@@ -107,7 +96,7 @@ const TURNS: &[Case] = &[
         checks: 1,
         start: 1,
         period: 2,
-        answers: &[Answer::Unknown(&[5, 6], 1)],
+        answers: &[(&[5, 6], Err(Unknown { index: 1 }))],
     },
     Case {
         code: b"0.3",
@@ -120,7 +109,7 @@ const TURNS: &[Case] = &[
         checks: 1,
         start: 1,
         period: 2,
-        answers: &[Answer::Loses(&[1, 1_000_000_001])],
+        answers: &[(&[1, 1_000_000_001], Ok(0))],
     },
     Case {
         code: b"0.3",
@@ -132,7 +121,7 @@ const TURNS: &[Case] = &[
         checks: 1,
         start: 2,
         period: 1,
-        answers: &[Answer::Unknown(&[6, 7], 1)],
+        answers: &[(&[6, 7], Err(Unknown { index: 1 }))],
     },
     Case {
         code: b"4.0",
@@ -158,10 +147,10 @@ const LONGER: &[Case] = &[
         start: 71,
         period: 12,
         answers: &[
-            Answer::Loses(&[1, 2, 3]),
-            Answer::Wins(&[1, 2], 3),
-            Answer::Unknown(&[5], 0),
-            Answer::Loses(&[]),
+            (&[1, 2, 3], Ok(0)),
+            (&[1, 2], Ok(3)),
+            (&[5], Err(Unknown { index: 0 })),
+            (&[], Ok(0)),
         ],
     },
     Case {
@@ -176,8 +165,8 @@ const LONGER: &[Case] = &[
         start: 71,
         period: 12,
         answers: &[
-            Answer::Unknown(&[5, 1_000_000_000], 1),
-            Answer::Unknown(&[167], 0),
+            (&[5, 1_000_000_000], Err(Unknown { index: 1 })),
+            (&[167], Err(Unknown { index: 0 })),
         ],
     },
     Case {
@@ -193,12 +182,12 @@ const LONGER: &[Case] = &[
         start: 71,
         period: 12,
         answers: &[
-            Answer::Wins(&[1_000_000_000], 1),
+            (&[1_000_000_000], Ok(1)),
             // 2^64 - 1 is 75 and a multiple of 12
-            Answer::Wins(&[u64::MAX], 8),
-            Answer::Wins(&[5, 6], 7),
-            Answer::Loses(&[]),
-            Answer::Loses(&[0]),
+            (&[u64::MAX], Ok(8)),
+            (&[5, 6], Ok(7)),
+            (&[], Ok(0)),
+            (&[0], Ok(0)),
         ],
     },
     Case {
@@ -208,7 +197,7 @@ const LONGER: &[Case] = &[
         checks: 0,
         start: 1,
         period: 1,
-        answers: &[Answer::Unknown(&[1], 0)],
+        answers: &[(&[1], Err(Unknown { index: 0 }))],
     },
 ];
 
@@ -400,28 +389,18 @@ fn is_answer(
     value: Result<u32, Unknown>,
     who: Outcome,
 ) -> bool {
-    let (heaps, wanted, winner) = match *answer {
-        Answer::Loses(heaps) => (heaps, Ok(0), NextLoses),
-        Answer::Wins(heaps, value) => (heaps, Ok(value), NextWins),
-        Answer::Unknown(heaps, index) => (
-            heaps,
-            Err(Unknown { index }),
-            Outcome::Unknown { index },
-        ),
+    let (heaps, wanted) = *answer;
+    let winner = match wanted {
+        Ok(0) => NextLoses,
+        Ok(_) => NextWins,
+        Err(Unknown { index }) => Outcome::Unknown { index },
     };
     (heaps.len() != 1 || first == value.ok()) && value == wanted && who == winner
 }
 
-// The position that is asked of.
-fn position(answer: &Answer) -> &'static [u64] {
-    match *answer {
-        Answer::Loses(heaps) | Answer::Wins(heaps, _) | Answer::Unknown(heaps, _) => heaps,
-    }
-}
-
 // Whether the game gives the answer.
 fn answers<A: Allocator + Copy>(game: &Game<A>, answer: &Answer) -> bool {
-    let heaps = position(answer);
+    let heaps = answer.0;
     let first = game.heap_value(heaps.first().copied().unwrap_or(0));
     is_answer(
         answer,
@@ -450,7 +429,7 @@ fn answers_by<A: Allocator + Copy>(
         PeriodClaim { dot, period: wrong },
         PeriodClaim { dot, period },
     ];
-    let heaps = position(answer);
+    let heaps = answer.0;
     let first = heap_value(ledger, &claims, heaps.first().copied().unwrap_or(0));
     let value = position_value(ledger, &claims, heaps);
     is_answer(answer, first, value, outcome(ledger, &claims, heaps))

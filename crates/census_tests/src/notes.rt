@@ -1,5 +1,6 @@
 //! Notes and removals: which notes are live, in whatever order they come, without memory and after each refusal of memory.
 
+use crate::answers::are_same;
 use crate::operations::{note, removal};
 use metered::Metered;
 use oct_join::Join;
@@ -150,7 +151,7 @@ fn is_note<A: Allocator>(op: &Op<A>, letter: u8) -> bool {
     let (_, _, name, text) = row(letter);
     match op.body() {
         Body::Note(note) => {
-            is_dot(op.dot(), letter) && note.name() == name && note.text() == text
+            is_dot(op.dot(), letter) && are_same(note.name(), name) && are_same(note.text(), text)
         }
         _ => false,
     }

@@ -1,8 +1,10 @@
 //! Dots, blocks, period claims, notes, removals, operations and lists: made, refused, read, copied and compared.
 
+use crate::answers::{are_same, is_equal, is_made};
 use crate::ledgers;
 use metered::Metered;
 use oct_code::Code;
+use oct_delta::decode;
 use oct_ops::{
     Block, BlockError, Body, Dot, DotError, ListError, Note, NoteError, Op, OpList, Period,
     PeriodError, Removal, RemovalError, is_name, is_text, rises,
@@ -48,6 +50,21 @@ fn numbers_are_told(code: Code) -> bool {
     all
 }
 
+// The starts and counts of blocks that are refused, and their faults.
+const BLOCKS: &[(u32, usize, BlockError)] = &[
+    (0, 0, BlockError::Empty),
+    (65_536, 1_025, BlockError::TooMany),
+    (65_536, 1, BlockError::PastLimit),
+    (65_535, 2, BlockError::PastLimit),
+];
+
+// The names and texts of notes that are refused, and their faults.
+const NOTES: &[(&[u8], &[u8], NoteError)] = &[
+    (b"A", b"", NoteError::Name),
+    (b"", b"\x7f", NoteError::Name),
+    (b"a", b"\x7f", NoteError::Text),
+];
+
 // Whether so many values from the place on are refused by this fault, and come back.
 fn block_is_refused<A: Allocator>(
     alloc: A,
@@ -68,17 +85,16 @@ fn block_is_refused<A: Allocator>(
     }
 }
 
-// Whether the texts are refused by this fault.
-fn note_is_refused<A: Allocator + Copy>(
-    alloc: A,
-    name: &[u8],
-    text: &[u8],
-    fault: NoteError,
-) -> bool {
-    match Note::new(alloc, name, text) {
-        Ok(_) => false,
-        Err(error) => error == fault,
+// Whether those blocks and notes are refused.
+fn contents_are_refused<A: Allocator + Copy>(alloc: A, code: Code) -> bool {
+    let mut all = true;
+    for &(start, count, fault) in BLOCKS {
+        all &= block_is_refused(alloc, code, start, count, fault);
     }
+    for &(name, text, fault) in NOTES {
+        all &= Note::new(alloc, name, text).err() == Some(fault);
+    }
+    all
 }
 
 // Whether the dots are refused by this fault, and come back.
@@ -88,14 +104,14 @@ fn removal_is_refused<A: Allocator>(alloc: A, dots: &[Dot], fault: RemovalError)
     };
     match Removal::new(items) {
         Ok(_) => false,
-        Err((error, items)) => error == fault && items.as_slice() == dots,
+        Err((error, items)) => error == fault && are_same(items.as_slice(), dots),
     }
 }
 
 // Adds the claim that Kayles repeats from the start on, and says whether that was done.
 fn adds_claim<A: Allocator>(ops: &mut Vec<Op<A>, A>, code: Code, dot: Dot, start: u32) -> bool {
     match Period::new(code, start, 1) {
-        Ok(claim) => ops.push(Op::new(dot, Body::Period(claim))).is_ok(),
+        Ok(claim) => is_made(ops.push(Op::new(dot, Body::Period(claim)))),
         Err(_) => false,
     }
 }
@@ -103,10 +119,10 @@ fn adds_claim<A: Allocator>(ops: &mut Vec<Op<A>, A>, code: Code, dot: Dot, start
 // Whether a list with this operation twice is refused, and its operations come back.
 fn list_is_refused<A: Allocator>(alloc: A, code: Code, dot: Dot) -> bool {
     let mut ops = Vec::new(alloc);
-    let is_made = adds_claim(&mut ops, code, dot, 1) && adds_claim(&mut ops, code, dot, 1);
+    let is_there = adds_claim(&mut ops, code, dot, 1) && adds_claim(&mut ops, code, dot, 1);
     match OpList::from_rising(ops) {
         Ok(_) => false,
-        Err((error, ops)) => is_made && error == ListError::NotRising && ops.len() == 2,
+        Err((error, ops)) => is_there && error == ListError::NotRising && ops.len() == 2,
     }
 }
 
@@ -117,13 +133,7 @@ fn what_breaks_a_rule_is_refused(rt: HostRuntime) {
         match given() {
             Some((code, first, second)) => {
                 numbers_are_told(code)
-                    && block_is_refused(alloc, code, 0, 0, BlockError::Empty)
-                    && block_is_refused(alloc, code, 65_536, 1_025, BlockError::TooMany)
-                    && block_is_refused(alloc, code, 65_536, 1, BlockError::PastLimit)
-                    && block_is_refused(alloc, code, 65_535, 2, BlockError::PastLimit)
-                    && note_is_refused(alloc, b"A", b"", NoteError::Name)
-                    && note_is_refused(alloc, b"", b"\x7f", NoteError::Name)
-                    && note_is_refused(alloc, b"a", b"\x7f", NoteError::Text)
+                    && contents_are_refused(alloc, code)
                     && removal_is_refused(alloc, &[second, first], RemovalError::NotRising)
                     && removal_is_refused(alloc, &[], RemovalError::Empty)
                     && list_is_refused(alloc, code, first)
@@ -137,9 +147,7 @@ fn what_breaks_a_rule_is_refused(rt: HostRuntime) {
 // Whether the note of Kayles is read without a request for memory.
 fn is_early<A: Allocator>(heap: &Metered<Global>, note: &Note<A>) -> bool {
     heap.arm(1_000);
-    note.name() == b"kayles".as_slice()
-        && note.text() == b"early".as_slice()
-        && heap.left() == 1_000
+    are_same(note.name(), b"kayles") && are_same(note.text(), b"early") && heap.left() == 1_000
 }
 
 // Whether a note is made where each request for memory is refused in turn, and then read without one.
@@ -160,7 +168,7 @@ fn is_last<A: Allocator>(block: &Block<A>, code: Code) -> bool {
     block.code() == code
         && block.start() == 65_535
         && block.end() == 65_536
-        && block.values() == [4].as_slice()
+        && are_same(block.values(), &[4])
 }
 
 // Whether that block is made and read without a request for memory.
@@ -184,7 +192,7 @@ fn removal_takes_no_memory<A: Allocator>(heap: &Metered<Global>, alloc: A, wante
     };
     heap.arm(1_000);
     match Removal::new(dots) {
-        Ok(removal) => removal.dots() == wanted && heap.left() == 1_000,
+        Ok(removal) => are_same(removal.dots(), wanted) && heap.left() == 1_000,
         Err(_) => false,
     }
 }
@@ -215,12 +223,12 @@ fn list_takes_no_memory<A: Allocator>(
 ) -> bool {
     heap.arm(u64::MAX);
     let mut ops = Vec::new(alloc);
-    let is_made = adds_claim(&mut ops, code, first, 4_096)
+    let is_there = adds_claim(&mut ops, code, first, 4_096)
         && adds_claim(&mut ops, code, second, 4_097);
     heap.arm(1_000);
     match OpList::from_rising(ops) {
         Ok(list) => {
-            let is_read = is_made && are_claims(&list, first);
+            let is_read = is_there && are_claims(&list, first);
             let again = OpList::of_rising(list.into_vec());
             is_read && again.len() == 2 && heap.left() == 1_000
         }
@@ -247,20 +255,6 @@ fn answers_take_no_memory(rt: HostRuntime) {
     assert!(rt; take_no_memory(&heap, &heap));
 }
 
-// An operation with a block, where there is memory.
-fn block<A: Allocator>(
-    alloc: A,
-    code: Code,
-    dot: Dot,
-    start: u32,
-    values: &[u32],
-) -> Option<Op<A>> {
-    match ledgers::block(alloc, code, start, values) {
-        Some(block) => Some(Op::new(dot, Body::Block(block))),
-        None => None,
-    }
-}
-
 /// An operation with a note, where there is memory.
 pub(crate) fn note<A: Allocator + Copy>(
     alloc: A,
@@ -285,10 +279,18 @@ pub(crate) fn removal<A: Allocator>(alloc: A, dot: Dot, dots: &[Dot]) -> Option<
     }
 }
 
+// The operations 1.1 with the first block of Kayles, with a note, and with the removal of 1.1 and 1.2.
+const COPIED: &[u8] = b"OGD1\x00\x00\x00\x03\
+      \x00\x00\x00\x01\x00\x00\x00\x01\x01\x00\x02\x07\x07\x00\x00\x00\x00\x00\x05\
+      \x00\x00\x00\x00\x00\x00\x00\x01\x00\x00\x00\x02\x00\x00\x00\x03\x00\x00\x00\x01\
+      \x00\x00\x00\x01\x00\x00\x00\x01\x03\x06kayles\x05early\
+      \x00\x00\x00\x01\x00\x00\x00\x01\x04\x00\x02\
+      \x00\x00\x00\x01\x00\x00\x00\x01\x00\x00\x00\x01\x00\x00\x00\x02";
+
 // Whether a copy equals the operation; none where memory is refused.
 fn copies<A: Allocator + Copy>(alloc: A, operation: &Op<A>) -> Option<bool> {
     match operation.copy(alloc) {
-        Ok(copy) => Some(copy == *operation),
+        Ok(copy) => Some(is_equal(copy, operation)),
         Err(_) => None,
     }
 }
@@ -305,36 +307,24 @@ fn is_copied<A: Allocator + Copy>(heap: &Metered<Global>, alloc: A, operation: &
     false
 }
 
-// The same of an operation that is there.
-fn is_there_and_copied<A: Allocator + Copy>(
-    heap: &Metered<Global>,
-    alloc: A,
-    operation: Option<Op<A>>,
-) -> bool {
-    match operation {
-        Some(operation) => is_copied(heap, alloc, &operation),
-        None => false,
+// Whether those operations are copied so.
+fn are_copied<A: Allocator + Copy>(heap: &Metered<Global>, alloc: A) -> bool {
+    let Ok(list) = decode(alloc, COPIED) else {
+        return false;
+    };
+    let mut all = list.len() == 3;
+    for operation in list.as_slice() {
+        all &= is_copied(heap, alloc, operation);
     }
-}
-
-// Whether operations with a block, a note and a removal are copied so.
-fn are_copied<A: Allocator + Copy>(
-    heap: &Metered<Global>,
-    alloc: A,
-    code: Code,
-    first: Dot,
-    second: Dot,
-) -> bool {
-    is_there_and_copied(heap, alloc, block(alloc, code, first, 0, &[0, 1, 2, 3, 1]))
-        && is_there_and_copied(heap, alloc, note(alloc, first, b"kayles", b"early"))
-        && is_there_and_copied(heap, alloc, removal(alloc, first, &[first, second]))
+    all
 }
 
 // Whether an operation with a block of one value is given back its block, and keeps the old limits or not.
 fn block_keeps<A: Allocator>(alloc: A, code: Code, dot: Dot, start: u32, keeps: bool) -> bool {
-    let Some(operation) = block(alloc, code, dot, start, &[0]) else {
+    let Some(block) = ledgers::block(alloc, code, start, &[0]) else {
         return false;
     };
+    let operation = Op::new(dot, Body::Block(block));
     let answer = operation.keeps_old_limits();
     match operation.into_body() {
         Body::Block(block) => answer == keeps && block.start() == start,
@@ -345,11 +335,11 @@ fn block_keeps<A: Allocator>(alloc: A, code: Code, dot: Dot, start: u32, keeps: 
 #[test]
 fn operations_are_copied_and_given_back(rt: HostRuntime) {
     let heap = Metered::new(rt.alloc());
+    assert!(rt; are_copied(&heap, &heap));
     assert!(rt;
         match given() {
-            Some((code, first, second)) => {
-                are_copied(&heap, &heap, code, first, second)
-                    && block_keeps(&heap, code, first, 4_095, true)
+            Some((code, first, _)) => {
+                block_keeps(&heap, code, first, 4_095, true)
                     && block_keeps(&heap, code, first, 4_096, false)
             }
             None => false,

@@ -1,5 +1,6 @@
 //! Deltas that come in pieces, and bytes that are no delta: they are refused at once and in pieces.
 
+use crate::answers::are_same;
 use crate::deltas::is_refused;
 use crate::vectors::{A, ALL, D, F, H, SOME, long_block, many_notes};
 use metered::Metered;
@@ -22,23 +23,15 @@ fn feed_pieces<A: Allocator + Copy>(
 // Whether these are the operations of what was fed.
 fn ends_as<A: Allocator + Copy>(reader: Reader<A>, ops: &[Op<A>]) -> bool {
     match reader.finish() {
-        Ok(list) => list.as_slice() == ops,
+        Ok(list) => are_same(list.as_slice(), ops),
         Err(_) => false,
-    }
-}
-
-// By which error the reader ends.
-fn fault<A: Allocator + Copy>(reader: Reader<A>) -> Option<DeltaError> {
-    match reader.finish() {
-        Ok(_) => None,
-        Err(refused) => Some(refused),
     }
 }
 
 // Whether the reader has failed for good.
 fn has_failed<A: Allocator + Copy>(mut reader: Reader<A>) -> bool {
     let is_shut = reader.items().is_empty() && reader.feed(&[]) == Err(DeltaError::Failed);
-    fault(reader) == Some(DeltaError::Failed) && is_shut
+    reader.finish().err() == Some(DeltaError::Failed) && is_shut
 }
 
 // Whether these are the operations of the text, fed in pieces of so many bytes, after readers that were refused each request
@@ -126,7 +119,7 @@ const UNKNOWN: &[u8] = b"OGD9\x00\x00\x00\x01\
 fn is_refused_twice<A: Allocator + Copy>(alloc: A, bytes: &[u8], error: DeltaError) -> bool {
     let mut reader = Reader::new(alloc);
     let fed = feed_pieces(&mut reader, bytes, 1);
-    let ended = fault(reader);
+    let ended = reader.finish().err();
     let refused = match fed {
         Ok(()) => ended,
         Err(refused) => Some(refused),

@@ -1,5 +1,6 @@
 //! Stores: what they show, insertions and joins, where each request for memory is refused in turn; and calls that make none.
 
+use crate::answers::{are_same, is_equal};
 use crate::deltas::is_refused;
 use crate::vectors::{A, B, C, D, I, many_notes};
 use metered::Metered;
@@ -30,7 +31,11 @@ const CLOCK: &[u8] = b"\x00\x00\x00\x03\x00\x00\x00\x01\
 fn puts_with<A: Allocator + Copy>(store: &mut Store<A>, op: &Op<A>, copy: Op<A>) -> Option<bool> {
     match store.insert(copy) {
         Ok(added) => Some(added),
-        Err((_, back)) => if back == *op { None } else { Some(false) },
+        Err((_, back)) => if is_equal(back, op) {
+            None
+        } else {
+            Some(false)
+        },
     }
 }
 
@@ -144,11 +149,11 @@ fn sums_up<A: Allocator + Copy>(
 ) -> Option<bool> {
     match summary {
         Summary::Clock => match store.clock() {
-            Ok(read) => Some(read.entries() == clock.entries()),
+            Ok(read) => Some(are_same(read.entries(), clock.entries())),
             Err(_) => None,
         },
         Summary::Authors => match store.authors() {
-            Ok(authors) => Some(authors.as_slice() == AUTHORS),
+            Ok(authors) => Some(are_same(authors.as_slice(), AUTHORS)),
             Err(_) => None,
         },
         Summary::Forks => match store.forks() {
@@ -204,7 +209,7 @@ fn copies_again<A: Allocator + Copy>(
         };
         heap.arm(u64::MAX);
         if let Ok(list) = answer {
-            return grants > 0 && list.as_slice() == ops;
+            return grants > 0 && are_same(list.as_slice(), ops);
         }
     }
     false

@@ -1,5 +1,6 @@
 //! Nim-values of known games, the room that is made for them, and the first place at which two lists differ.
 
+use crate::answers::are_same;
 use metered::Metered;
 use oct_code::{Code, LIMIT};
 use oct_mex::{Values, first_difference};
@@ -26,7 +27,7 @@ fn come_to<A: Allocator + Copy>(values: &mut Values<A>, wanted: &[u32]) -> bool 
     let count = wanted.len();
     count <= LIMIT
         && values.extend_to(count).is_ok()
-        && values.as_slice() == wanted
+        && are_same(values.as_slice(), wanted)
         && values.get(count).is_none()
 }
 
@@ -58,13 +59,15 @@ fn known_games_have_their_values(rt: HostRuntime) {
 
 // Whether the first eight values of Kayles become 84.
 fn become_kayles<A: Allocator + Copy>(values: &mut Values<A>) -> bool {
-    values.as_slice() == EIGHT && values.extend_to(84).is_ok() && values.as_slice() == KAYLES
+    are_same(values.as_slice(), EIGHT)
+        && values.extend_to(84).is_ok()
+        && are_same(values.as_slice(), KAYLES)
 }
 
 // Whether a copy of them does so on its own.
 fn copy_becomes_kayles<A: Allocator + Copy>(alloc: A, values: &Values<A>) -> bool {
     match values.copy(alloc) {
-        Ok(mut copy) => become_kayles(&mut copy) && values.as_slice() == EIGHT,
+        Ok(mut copy) => become_kayles(&mut copy) && are_same(values.as_slice(), EIGHT),
         Err(_) => false,
     }
 }
@@ -86,9 +89,9 @@ fn grow<A: Allocator + Copy>(heap: &Metered<Global>, values: &mut Values<A>, roo
             values.extend_to(84)
         };
         if grown.is_ok() {
-            return grants > 0 && values.as_slice() == wanted;
+            return grants > 0 && are_same(values.as_slice(), wanted);
         }
-        if values.as_slice() != TWO || (room && values.room() != 2) {
+        if !are_same(values.as_slice(), TWO) || (room && values.room() != 2) {
             return false;
         }
     }
@@ -104,7 +107,7 @@ fn grow_after_refusals<A: Allocator + Copy>(heap: &Metered<Global>, alloc: A, co
 
 // Whether these are the first eight values of Kayles.
 fn are_eight<A: Allocator + Copy>(values: &Values<A>, code: Code) -> bool {
-    values.as_slice() == EIGHT
+    are_same(values.as_slice(), EIGHT)
         && values.get(5) == Some(4)
         && values.get(8).is_none()
         && values.code() == code
