@@ -1,5 +1,6 @@
 //! Commands, each on the state that another one left.
 
+use crate::answers::are_same;
 use crate::replica::{FORKED, LAST, ONE, TWO, long_block};
 use census_core::{Fault, ImportError, Reply, Request, number, perform};
 use oct_code::CodeError;
@@ -117,7 +118,7 @@ fn is_reply(reply: Reply, state: &mut Vec<u8>, wanted: Option<&[u8]>, text: &str
     if let Some(new) = new {
         *state = new;
     }
-    file.as_deref() == wanted && told.as_slice() == text.as_bytes()
+    file.as_deref() == wanted && are_same(told.as_slice(), text.as_bytes())
 }
 
 // Whether the request is answered so.
@@ -164,7 +165,8 @@ fn follows(alloc: Global, script: Script) -> bool {
     let (start, steps, end) = script;
     match Vec::from_slice(alloc, start) {
         Ok(mut state) => {
-            answer_all(alloc, &mut state, steps) && (end.is_empty() || state.as_slice() == end)
+            answer_all(alloc, &mut state, steps)
+                && (end.is_empty() || are_same(state.as_slice(), end))
         }
         Err(_) => false,
     }

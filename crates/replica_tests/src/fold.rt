@@ -1,5 +1,6 @@
 //! Lines of deltas in hexadecimal, folded into one catalogue.
 
+use crate::answers::are_same;
 use census_core::{Fault, fold_lines};
 use std::alloc::Allocator;
 use std::io;
@@ -166,7 +167,8 @@ fn fits<A: Allocator>(input: &mut Vec<u8, A>, lines: &[&str]) -> bool {
 // Whether the bytes give this catalogue and so many refusals.
 fn gives<A: Allocator + Copy>(alloc: A, mut input: &[u8], shown: &str, refused: u64) -> bool {
     let mut out = Vec::new(alloc);
-    fold_lines(alloc, &mut input, &mut out) == Ok(refused) && out.as_slice() == shown.as_bytes()
+    fold_lines(alloc, &mut input, &mut out) == Ok(refused)
+        && are_same(out.as_slice(), shown.as_bytes())
 }
 
 // Whether the lines do so.

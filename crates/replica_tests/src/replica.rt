@@ -1,3 +1,4 @@
+use crate::answers::{are_same, plain};
 use metered::Metered;
 use oct_code::Code;
 use oct_delta::decode;
@@ -98,7 +99,7 @@ const UNTOLD: &str = "census 2\nnote a 5.1 \nnote a 5.3 \nauthor 5 through 1 las
 // Whether this is the replica's catalogue.
 pub(crate) fn shows<A: Allocator + Copy>(alloc: A, replica: &Replica<A>, wanted: &str) -> bool {
     let mut text = Vec::new(alloc);
-    replica.catalogue(&mut text).is_ok() && text.as_slice() == wanted.as_bytes()
+    replica.catalogue(&mut text).is_ok() && are_same(text.as_slice(), wanted.as_bytes())
 }
 
 // Whether each of the byte strings brings in so many new operations, and then none.
@@ -135,9 +136,11 @@ fn joins<A: Allocator + Copy>(
 ) -> bool {
     match Replica::new(alloc, 1) {
         Ok(mut other) => {
-            takes(replica, &[ours], 1)
+            let is_joined = takes(replica, &[ours], 1)
                 && takes(&mut other, &[theirs], 1)
-                && holds_both(alloc, replica, &other, wanted)
+                && holds_both(alloc, replica, &other, wanted);
+            drop(other);
+            is_joined
         }
         Err(_) => false,
     }
@@ -197,7 +200,11 @@ fn does<A: Allocator + Copy>(alloc: A, replica: &mut Replica<A>, trial: Trial) -
 // Whether a new replica of the author does so.
 fn new_one_does<A: Allocator + Copy>(alloc: A, author: u32, trial: Trial) -> bool {
     match Replica::new(alloc, author) {
-        Ok(mut replica) => does(alloc, &mut replica, trial),
+        Ok(mut replica) => {
+            let is_done = does(alloc, &mut replica, trial);
+            drop(replica);
+            is_done
+        }
         Err(_) => false,
     }
 }
@@ -274,13 +281,16 @@ const EARLY: &[u8] =
 pub(crate) const LAST: &[u8] =
     b"OGD1\x00\x00\x00\x01\x00\x00\x00\x01\x00\x00\x00\x04\x01\x00\x02\x07\x07\x00\x00\x00\xa7\x00\x01\x00\x00\x00\x07";
 
-// Whether the replica gives the values that follow from the claim, and none of the other code.
+// Positions of Kayles, and the values that follow from the claim.
+const VALUES: &[(&[u64], u32)] = &[(&[1_000_000_000], 1), (&[5, 6], 7), (&[], 0), (&[0], 0)];
+
+// Whether the replica gives these values, and none of the other code.
 fn has_values<A: Allocator + Copy>(replica: &Replica<A>, code: Code, other: Code) -> bool {
-    replica.value(code, &[1_000_000_000]) == Ok(1)
-        && replica.value(code, &[5, 6]) == Ok(7)
-        && replica.value(code, &[]) == Ok(0)
-        && replica.value(code, &[0]) == Ok(0)
-        && replica.outcome(code, &[1_000_000_000]) == Outcome::NextWins
+    let mut all = true;
+    for &(heaps, value) in VALUES {
+        all &= replica.value(code, heaps) == Ok(value);
+    }
+    all && replica.outcome(code, &[1_000_000_000]) == Outcome::NextWins
         && replica.value(other, &[1]) == Err(Unknown { index: 0 })
         && replica.outcome(other, &[]) == Outcome::NextLoses
 }
@@ -319,9 +329,9 @@ fn issued<A: Allocator + Copy>(
     replica: &mut Replica<A>,
 ) -> Result<(u32, u32), IssueError> {
     match Note::new(alloc, b"a", b"") {
-        Ok(note) => match replica.issue(Body::Note(note)) {
+        Ok(note) => match plain(replica.issue(Body::Note(note))) {
             Ok(dot) => Ok((dot.author(), dot.number())),
-            Err(refused) => Err(refused.0),
+            Err(fault) => Err(fault),
         },
         Err(_) => Err(IssueError::OutOfMemory),
     }
@@ -335,7 +345,7 @@ fn sends_beyond<A: Allocator + Copy>(
     wanted: &[u8],
 ) -> bool {
     let mut delta = Vec::new(alloc);
-    replica.delta(clock, &mut delta).is_ok() && delta.as_slice() == wanted
+    replica.delta(clock, &mut delta).is_ok() && are_same(delta.as_slice(), wanted)
 }
 
 // Whether one operation is beyond the replica's own clock, and the delta of it is this.
@@ -379,7 +389,7 @@ fn computes_none<A: Allocator + Copy>(
 // Whether the block of the next five values of the game is this one.
 fn computes_five<A: Allocator + Copy>(replica: &Replica<A>, code: Code, values: &[u32]) -> bool {
     match replica.compute(code, 5) {
-        Ok(block) => block.code() == code && block.start() == 1 && block.values() == values,
+        Ok(block) => block.code() == code && block.start() == 1 && are_same(block.values(), values),
         Err(_) => false,
     }
 }
@@ -416,7 +426,7 @@ fn goes_on<A: Allocator + Copy>(
     match replica.compute(code, 1_024) {
         Ok(block) => {
             let right = takes_turns(&block, start, count);
-            replica.issue(Body::Block(block)).is_ok() && right
+            plain(replica.issue(Body::Block(block))).is_ok() && right
         }
         Err(_) => false,
     }
@@ -573,23 +583,24 @@ fn bytes_that_are_no_delta_are_refused(rt: HostRuntime) {
 // Whether the replica of author 7 is saved as these bytes.
 fn saves<A: Allocator + Copy>(alloc: A, replica: &Replica<A>, bytes: &[u8]) -> bool {
     let mut text = Vec::new(alloc);
-    replica.author() == 7 && replica.save(&mut text).is_ok() && text.as_slice() == bytes
+    replica.author() == 7 && replica.save(&mut text).is_ok() && are_same(text.as_slice(), bytes)
 }
 
 // Whether the bytes are loaded, and saved as they are.
 fn loads<A: Allocator + Copy>(alloc: A, bytes: &[u8]) -> bool {
     match Replica::load(alloc, bytes) {
-        Ok(replica) => saves(alloc, &replica, bytes),
+        Ok(replica) => {
+            let is_saved = saves(alloc, &replica, bytes);
+            drop(replica);
+            is_saved
+        }
         Err(_) => false,
     }
 }
 
 // Whether the bytes are no state, for this reason.
 fn refuses_state<A: Allocator + Copy>(alloc: A, bytes: &[u8], why: LoadError) -> bool {
-    match Replica::load(alloc, bytes) {
-        Ok(_) => false,
-        Err(refused) => refused == why,
-    }
+    Replica::load(alloc, bytes).err() == Some(why)
 }
 
 // Whether each proper prefix of J is refused, and a delta.
@@ -608,10 +619,7 @@ fn refuses_states<A: Allocator + Copy>(alloc: A) -> bool {
 
 // Whether no replica has the author 0.
 fn no_author_is_zero<A: Allocator + Copy>(alloc: A) -> bool {
-    match Replica::new(alloc, 0) {
-        Ok(_) => false,
-        Err(refused) => refused == AuthorError::Zero,
-    }
+    Replica::new(alloc, 0).err() == Some(AuthorError::Zero)
 }
 
 fn states_are_loaded<A: Allocator + Copy>(alloc: A) -> bool {

@@ -201,11 +201,15 @@ fn outcome_of<A: Allocator + Copy>(
 ) -> Result<Outcome, SyncError> {
     match Replica::new(alloc, side.author) {
         Ok(mut replica) => {
-            if replica.take(side.holds).is_err() {
-                return Err(SyncError::Failed);
-            }
+            let is_taken = replica.take(side.holds).is_ok();
             heap.arm(grants);
-            outcome_on(heap, alloc, &mut replica, side, bytes, size)
+            let outcome = outcome_on(heap, alloc, &mut replica, side, bytes, size);
+            drop(replica);
+            if is_taken {
+                outcome
+            } else {
+                Err(SyncError::Failed)
+            }
         }
         Err(_) => Err(SyncError::Failed),
     }

@@ -106,7 +106,7 @@ fn issue<A: Allocator + Copy>(alloc: A, replica: &mut Replica<A>, change: Change
         _ => return issued(alloc, replica).is_ok(),
     };
     match body_of(replica, computes) {
-        Some(body) => replica.issue(body).is_ok(),
+        Some(body) => plain(replica.issue(body)).is_ok(),
         None => false,
     }
 }
@@ -164,7 +164,11 @@ fn write<A: Allocator + Copy>(
         },
         Writing::Save => replica.save(out).is_ok(),
         Writing::Load => match Replica::load(alloc, state) {
-            Ok(loaded) => loaded.save(out).is_ok(),
+            Ok(loaded) => {
+                let is_saved = loaded.save(out).is_ok();
+                drop(loaded);
+                is_saved
+            }
             Err(_) => false,
         },
     }
@@ -184,7 +188,7 @@ fn writes<A: Allocator + Copy>(
         let is_written = write(alloc, replica, writing, wanted, &mut out);
         heap.arm(u64::MAX);
         if is_written {
-            return grants > 0 && out.as_slice() == wanted;
+            return grants > 0 && are_same(out.as_slice(), wanted);
         }
         if !out.is_empty() {
             return false;
@@ -274,13 +278,31 @@ fn does_beside<A: Allocator + Copy>(
     }
 }
 
-// Whether a replica of the author does so beside one of author 1.
+// Whether it does so beside one of author 1.
+fn one_does<A: Allocator + Copy>(
+    heap: &Metered<Global>,
+    alloc: A,
+    replica: &mut Replica<A>,
+    deed: Deed,
+) -> bool {
+    match Replica::new(alloc, 1) {
+        Ok(mut other) => {
+            let is_done = does_beside(heap, alloc, replica, &mut other, deed);
+            drop(other);
+            is_done
+        }
+        Err(_) => false,
+    }
+}
+
+// Whether a new replica of the author does so.
 fn two_do<A: Allocator + Copy>(heap: &Metered<Global>, alloc: A, author: u32, deed: Deed) -> bool {
     match Replica::new(alloc, author) {
-        Ok(mut replica) => match Replica::new(alloc, 1) {
-            Ok(mut other) => does_beside(heap, alloc, &mut replica, &mut other, deed),
-            Err(_) => false,
-        },
+        Ok(mut replica) => {
+            let is_done = one_does(heap, alloc, &mut replica, deed);
+            drop(replica);
+            is_done
+        }
         Err(_) => false,
     }
 }
@@ -415,9 +437,9 @@ const LAST_NUMBER: &[u8] = b"OGD1\x00\x00\x00\x01\x00\x00\x00\x07\xff\xff\xff\xf
 
 // Whether the last number of its author is behind it, and it refuses each proper prefix of A.
 fn refuses<A: Allocator + Copy>(replica: &mut Replica<A>, note: Note<A>) -> bool {
-    let mut all = match replica.issue(Body::Note(note)) {
+    let mut all = match plain(replica.issue(Body::Note(note))) {
         Ok(_) => false,
-        Err(refused) => refused.0 == IssueError::LastNumber,
+        Err(fault) => fault == IssueError::LastNumber,
     };
     for end in 0..47usize {
         all &= replica.take(&A[..end]).is_err();

@@ -31,7 +31,11 @@ fn drives<A: Allocator + Copy, R: Read, W: Write>(
     writer: &mut W,
 ) -> Answer {
     match Replica::new(alloc, side.author) {
-        Ok(mut replica) => drives_on(alloc, side, &mut replica, reader, writer),
+        Ok(mut replica) => {
+            let answer = drives_on(alloc, side, &mut replica, reader, writer);
+            drop(replica);
+            answer
+        }
         Err(_) => (Err(SyncError::Failed), false),
     }
 }
