@@ -120,7 +120,11 @@ fn adds_letter<A: Allocator + Copy>(
 ) -> Option<bool> {
     heap.arm(u64::MAX);
     match operation(alloc, letter) {
-        Some(op) => comes_back(heap, notes, &op, letter == b'-', grants),
+        Some(op) => {
+            let refused = comes_back(heap, notes, &op, letter == b'-', grants);
+            drop(op);
+            refused
+        }
         None => None,
     }
 }

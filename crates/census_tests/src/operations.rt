@@ -34,7 +34,7 @@ const CLAIMS: &[(u32, u32, Option<PeriodError>)] = &[
 fn numbers_are_told(code: Code) -> bool {
     let mut all = Dot::new(0, 1) == Err(DotError::Zero) && Dot::new(1, 0) == Err(DotError::Zero);
     all &= match Dot::new(7, u32::MAX) {
-        Ok(dot) => (dot.author(), dot.number()) == (7, u32::MAX),
+        Ok(dot) => dot.author() == 7 && dot.number() == u32::MAX,
         Err(_) => false,
     };
     for &(start, period, fault) in CLAIMS {
@@ -42,7 +42,8 @@ fn numbers_are_told(code: Code) -> bool {
             Ok(claim) => {
                 fault.is_none()
                     && claim.code() == code
-                    && (claim.start(), claim.period()) == (start, period)
+                    && claim.start() == start
+                    && claim.period() == period
             }
             Err(error) => fault == Some(error),
         };
@@ -326,10 +327,13 @@ fn block_keeps<A: Allocator>(alloc: A, code: Code, dot: Dot, start: u32, keeps: 
     };
     let operation = Op::new(dot, Body::Block(block));
     let answer = operation.keeps_old_limits();
-    match operation.into_body() {
-        Body::Block(block) => answer == keeps && block.start() == start,
+    let body = operation.into_body();
+    let is_back = match &body {
+        Body::Block(block) => block.start() == start,
         _ => false,
-    }
+    };
+    drop(body);
+    answer == keeps && is_back
 }
 
 #[test]
