@@ -99,6 +99,16 @@ def contents_of_one_dot():
     return report("100,000 contents of one dot", ran, right, 10, 128)
 
 
+def lines_that_are_no_deltas():
+    """2,000,000 lines that break off before the last byte: of these 140 MB none has to be kept."""
+    line = delta(1, block(1, 1, 1, 1))[:-1].hex() + "\n"
+    with open("lines", "w") as lines:
+        for _ in range(1000):
+            lines.write(line * 2000)
+    ran = Ran(["fold"], "lines")
+    return report("2,000,000 lines that are no deltas", ran, ran.lines == ["census 2", "end", "refused 2000000"], 10, 64)
+
+
 def removals_of_1024_dots():
     """10,000 removals, each of the same 1,024 dots."""
     dots = [(1, number) for number in range(1, 1025)]
@@ -185,7 +195,15 @@ def peers():
 
 def main():
     resource.setrlimit(resource.RLIMIT_CPU, (120, 120))
-    cases = (peers, blocks_in_falling_order, contents_of_one_dot, removals_of_1024_dots, a_delta_of_a_million, the_greatest_files)
+    cases = (
+        peers,
+        blocks_in_falling_order,
+        contents_of_one_dot,
+        lines_that_are_no_deltas,
+        removals_of_1024_dots,
+        a_delta_of_a_million,
+        the_greatest_files,
+    )
     return 0 if all([case() for case in cases]) else 1
 
 

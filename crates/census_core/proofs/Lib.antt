@@ -9,4 +9,5 @@ mod Outcomes
 mod Stepping
 mod StoredStates
 mod Taking
+mod Underway
 mod Wholes

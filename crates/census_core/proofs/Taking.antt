@@ -1,9 +1,8 @@
 -- The operations of the lines, taken in one list after another.
 use Rattle.std.proofs.Common.{arith, ◌≡◌, ◌↔◌, ◌≤◌, ◌+◌, ℕ, Bool, true, false, List, [], ◌∷◌, ◌++◌, cond, Option, None, Result, Err, IsSome, sym, ap, ◌∙◌}
-use Rattle.std.specs.Prelude.{⊤, count_by, filter, is_none, unwrap_or}
+use Rattle.std.specs.Prelude.{⊤, count_by, is_none, unwrap_or}
 use Rattle.std.specs.Result.{IsErrOf}
 use Rattle.std.proofs.lemmas.List.Sums.{sum_by-cons}
-use Rattle.std.specs.Str.Lines.{lines}
 use Rattle.std.specs.List.{flat_map}
 use Rattle.oct_delta.specs.Bytes.{IsBytes}
 use Rattle.oct_delta.specs.Decoding.{format_at, read_as, read_delta}
@@ -19,7 +18,7 @@ use Rattle.oct_replica.specs.Content.{ReplicaContent}
 use Rattle.oct_replica.specs.Taking.{LeavesAt}
 use Rattle.oct_replica.specs.declared.error.TakeError.{TakeError}
 use Rattle.oct_replica.specs.declared.error.TakeError.TheVariants.{Version, Refused, OutOfMemory}
-use Rattle.census_core.specs.Folded.{filled_lines, is_filled, is_refused, operations_of_line, taken_of_line}
+use Rattle.census_core.specs.Folded.{is_refused, operations_of_line, taken_of_line}
 
 union_none : (s : Operations) → union s (set_of []) ≡ s
 union_none s = union-empty op_cmp_total op_cmp_exact s
@@ -69,9 +68,6 @@ none_of s bytes none = sym (union_none s) ∙ ap (λ (m : Option (List Operation
 
 pub from_none : (s t : Operations) → s ≡ empty → union s t ≡ t
 from_none s t none = ap (λ r. union r t) none ∙ union_comm op_cmp_total op_cmp_exact empty t ∙ union-empty op_cmp_total op_cmp_exact t
-
-pub filled_next : (input line next : Bytes) → lines input ≡ line ∷ lines next → is_filled line ≡ true → filled_lines input ≡ line ∷ filled_lines next
-filled_next input line next first filled = ap (filter is_filled) first ∙ ap (λ b. cond b (line ∷ filled_lines next) (filled_lines next)) filled
 
 -- the count after the line, by whether it was refused
 counted_by : (t : Bool) (old new count total : ℕ) → new ≡ cond t (old + 1) old → old + (cond t 1 0 + count) ≡ total → new + count ≡ total

@@ -1,15 +1,19 @@
 -- What the fold of an input writes, and how many lines it refuses.
-use Rattle.std.specs.Prelude.{ℕ, ◌==◌, Bool, not, List, [], length, filter, Option, is_none, unwrap_or, count_by}
+use Rattle.std.specs.Prelude.{ℕ, ◌-◌, ◌==◌, Bool, not, List, [], length, take, filter, slice_index, Option, is_none, unwrap_or, count_by, if◌then◌else◌}
 use Rattle.std.specs.List.{flat_map}
 use Rattle.std.specs.Option.{option_and_then}
 use Rattle.std.specs.Result.{result_ok}
-use Rattle.std.specs.Str.Lines.{lines}
+use Rattle.std.specs.Str.Lines.{lines, strip_carriage_return}
 use Rattle.hex.specs.Hex.{decode_of}
 use Rattle.oct_delta.specs.Text.{Bytes}
 use Rattle.oct_delta.specs.Decoding.{read_delta}
 use Rattle.oct_ops.specs.Body.{Operation}
 use Rattle.oct_ops.specs.Operations.{Operations, listed, set_of}
 use Rattle.oct_pages.specs.Catalogue.{catalogue}
+
+-- what a line says with its end: all but its LF, and one CR before that
+abbrev pub text_of_line : Bytes → Bytes
+text_of_line line = if slice_index line (length line - 1) == 10 then strip_carriage_return (take (length line - 1) line) else line
 
 abbrev pub is_filled : Bytes → Bool
 is_filled line = not (length line == 0)

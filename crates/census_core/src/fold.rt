@@ -3,19 +3,22 @@
 ghost use Rattle.std.specs.Prelude.{◌≡◌, ◌≢◌, ◌<◌, length, IfOk, OnOk, IfSome, IfErr, IsErrOf};
 ghost use Rattle.std.specs.Io.KnownBytes.{Appends, Keeps};
 ghost use Rattle.oct_sync.specs.Output.{AppendsPrefix};
-ghost use Rattle.census_core.specs.Folded.{folded, refused};
-ghost use Rattle.census_core.specs.Inputs.{IsFoldFault};
+ghost use Rattle.census_core.specs.Folded.{folded, refused, taken};
+ghost use Rattle.census_core.specs.Inputs.{IsFoldFault, IsInputFault};
 
 use crate::fault::Fault;
-use crate::input::{INPUT_LIMIT, read_whole};
-use crate::taken::take_lines;
+use crate::input::INPUT_LIMIT;
+use crate::taken::{Lines, take_lines};
 use oct_sync::write_out;
 use std::alloc::Allocator;
-use std::io::{Read, Write};
+use std::io::{BufReader, Read, Write};
 
-/// Reads the whole input, lets one replica take each line that is the hexadecimal text of a delta, writes the catalogue of
-/// all their operations, and says how many other lines were not empty. Nothing is written before the whole input was read;
-/// after `Write` a prefix of the catalogue was written.
+// How many bytes are asked for at a time.
+const READ_AHEAD: usize = 65_536;
+
+/// Reads the input to its end, a line at a time, lets one replica take each line that is the hexadecimal text of a delta,
+/// writes the catalogue of all their operations, and says how many other lines were not empty. Nothing is written before the
+/// whole input was read; after `Write` a prefix of the catalogue was written.
 pub fn fold_lines<A: Allocator + Copy, R: Read, W: Write>(
     alloc: A,
     reader: &mut R,
@@ -30,11 +33,23 @@ pub fn fold_lines<A: Allocator + Copy, R: Read, W: Write>(
     ensures too_long { IsErrOf result Fault.TooLong → IfSome (R.remaining reader.old) (λ input. INPUT_LIMIT < length input) }
     ensures faults { IfErr result IsFoldFault }
 {
-    let input = read_whole(alloc, reader, INPUT_LIMIT)?;
-    let lines = take_lines(alloc, &input)?;
-    drop(input);
+    let lines = read_lines(alloc, reader)?;
     let mut text = Vec::new(alloc);
     lines.replica.catalogue(&mut text)?;
     write_out(writer, &text)?;
     Ok(lines.refused)
+}
+
+// Goes over the lines of the whole input.
+fn read_lines<A: Allocator + Copy, R: Read>(alloc: A, reader: &mut R) -> Result<Lines<A>, Fault>
+    ensures taken { IfOk result (λ lines. IfSome (R.remaining reader.old) (λ input. lines.replica.ops ≡ taken input)) }
+    ensures refused { IfOk result (λ lines. IfSome (R.remaining reader.old) (λ input. lines.refused ≡ refused input)) }
+    ensures too_long { IsErrOf result Fault.TooLong → IfSome (R.remaining reader.old) (λ input. INPUT_LIMIT < length input) }
+    ensures faults { IfErr result IsInputFault }
+{
+    let reader = reader.take(INPUT_LIMIT + 1);
+    match BufReader::with_capacity(alloc, READ_AHEAD, reader) {
+        Ok(mut input) => take_lines(alloc, &mut input, INPUT_LIMIT),
+        Err(_) => Err(Fault::OutOfMemory),
+    }
 }

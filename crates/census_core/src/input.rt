@@ -1,12 +1,12 @@
 //! The whole of an input.
 
-ghost use Rattle.std.specs.Prelude.{◌≡◌, ◌+◌, ◌<◌, ◌≤◌, ◌^◌, length, vec_len, IfOk, OnOk, IfSome, IfErr, IsErrOf};
+ghost use Rattle.std.specs.Prelude.{◌≡◌, ◌⊎◌, ◌+◌, ◌<◌, ◌≤◌, ◌^◌, length, vec_len, IfOk, OnOk, IfSome, IfErr, IsErrOf};
 ghost use Rattle.std.specs.Io.KnownBytes.{IsAtEnd};
 ghost use Rattle.census_core.specs.Inputs.{IsInputFault};
 
 use crate::fault::Fault;
 use std::alloc::Allocator;
-use std::io::{ErrorKind, Read};
+use std::io::{Error, ErrorKind, Read};
 
 /// The most bytes that an input or a file may have.
 pub const INPUT_LIMIT: u64 = 1_073_741_824;
@@ -28,7 +28,16 @@ pub fn read_whole<A: Allocator, R: Read>(
     match reader.take(limit + 1).read_to_end(&mut bytes) {
         Ok(_) if bytes.len() as u64 > limit => Err(Fault::TooLong),
         Ok(_) => Ok(bytes),
-        Err(e) if e.kind() == ErrorKind::OutOfMemory => Err(Fault::OutOfMemory),
-        Err(_) => Err(Fault::Read),
+        Err(e) => Err(read_fault(&e)),
+    }
+}
+
+/// The fault of a read that failed.
+pub(crate) fn read_fault(error: &Error) -> Fault
+    ensures { (result ≡ Fault.Read) ⊎ (result ≡ Fault.OutOfMemory) }
+{
+    match error.kind() {
+        ErrorKind::OutOfMemory => Fault::OutOfMemory,
+        _ => Fault::Read,
     }
 }

@@ -1,19 +1,16 @@
 //! The lines of an input.
 
-ghost use Rattle.std.specs.Prelude.{◌≡◌, ◌<◌, ◌∷◌, length};
-ghost use Rattle.std.specs.Str.Lines.{lines, strip_carriage_return};
+ghost use Rattle.std.specs.Prelude.{◌≡◌};
+ghost use Rattle.std.specs.Str.Lines.{strip_carriage_return};
+ghost use Rattle.census_core.specs.Folded.{text_of_line};
 
-use memchr::memchr;
-
-/// The first line, with neither its LF nor one CR before that, and what follows it.
-pub fn split_line(input: &[u8]) -> (&[u8], &[u8])
-    requires { 0 < length input.now }
-    ensures first { lines input.now ≡ result.0.now ∷ lines result.1.now }
-    ensures shorter { length result.1.now < length input.now }
+/// What a line says: all but its LF, and one CR before that.
+pub(crate) fn text_of_line(line: &[u8]) -> &[u8]
+    ensures { result.now ≡ text_of_line line.now }
 {
-    match memchr(b'\n', input) {
-        None => (input, &[]),
-        Some(at) => (without_return(&input[..at]), &input[at + 1..]),
+    match line {
+        [front @ .., b'\n'] => without_return(front),
+        _ => line,
     }
 }
 

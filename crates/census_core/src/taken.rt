@@ -1,16 +1,20 @@
 //! What is taken of the lines of an input.
 
-ghost use Rattle.std.specs.Prelude.{◌≡◌, ◌+◌, ◌<◌, ◌^◌, cond, is_some, IfOk, OnOk, IfErr};
+ghost use Rattle.std.specs.Prelude.{◌≡◌, ◌⊎◌, ◌+◌, ◌<◌, ◌≤◌, ◌^◌, cond, is_some, length, vec_len, IfOk, OnOk, IfSome, IfErr, IsErrOf};
+ghost use Rattle.std.specs.Io.BufRead.{take_through, DropsThrough};
 ghost use Rattle.oct_ops.specs.Operations.{empty, set_of, union};
 ghost use Rattle.oct_delta.specs.Decoding.{read_delta};
 ghost use Rattle.oct_delta.specs.Taken.{operations_of};
 ghost use Rattle.census_core.specs.Folded.{is_refused, refused, taken, taken_of_line};
+ghost use Rattle.census_core.specs.Inputs.{IsInputFault};
 
 use crate::fault::Fault;
-use crate::lines::split_line;
+use crate::input::read_fault;
+use crate::lines::text_of_line;
 use oct_delta::laws::texts_are_read;
 use oct_replica::{Replica, TakeError};
 use std::alloc::Allocator;
+use std::io::BufRead;
 
 /// What the lines of an input come to.
 #[derive(Drop)]
@@ -21,25 +25,53 @@ pub(crate) struct Lines<A: Allocator + Copy> {
     pub(crate) refused: u64,
 }
 
-/// Goes over the lines of an input.
-pub(crate) fn take_lines<A: Allocator + Copy>(alloc: A, input: &[u8]) -> Result<Lines<A>, Fault>
-    ensures taken { IfOk result (λ lines. lines.replica.ops ≡ taken input.now) }
-    ensures refused { IfOk result (λ lines. lines.refused ≡ refused input.now) }
-    ensures kind { IfErr result (λ e. e ≡ Fault.OutOfMemory) }
+/// Goes over the lines of an input, which may have so many bytes.
+pub(crate) fn take_lines<A: Allocator + Copy, B: BufRead>(
+    alloc: A,
+    input: &mut B,
+    limit: u64,
+) -> Result<Lines<A>, Fault>
+    ensures taken { IfOk result (λ lines. IfSome (B.remaining input.old) (λ x. lines.replica.ops ≡ taken x)) }
+    ensures refused { IfOk result (λ lines. IfSome (B.remaining input.old) (λ x. lines.refused ≡ refused x)) }
+    ensures fits { OnOk result (IfSome (B.remaining input.old) (λ x. length x ≤ limit)) }
+    ensures too_long { IsErrOf result Fault.TooLong → IfSome (B.remaining input.old) (λ x. limit < length x) }
+    ensures faults { IfErr result IsInputFault }
 {
     let mut lines = Lines {
         replica: reader_of_lines(alloc),
         refused: 0,
     };
-    let mut rest = input;
-    while !rest.is_empty() {
-        let (line, next) = split_line(rest);
-        rest = next;
-        if !line.is_empty() {
-            take_line(alloc, &mut lines, line)?;
+    let mut line = Vec::new(alloc);
+    let mut left = limit;
+    loop {
+        let count = next_line(input, &mut line)?;
+        if count == 0 {
+            return Ok(lines);
+        }
+        if count > left {
+            return Err(Fault::TooLong);
+        }
+        left -= count;
+        let text = text_of_line(&line);
+        if !text.is_empty() {
+            take_line(alloc, &mut lines, text)?;
         }
     }
-    Ok(lines)
+}
+
+// Reads the next line with its end in the place of what the vector held, and says how many bytes it has: none where
+// the input is at its end.
+fn next_line<A: Allocator, B: BufRead>(input: &mut B, line: &mut Vec<u8, A>) -> Result<u64, Fault>
+    ensures count { IfOk result (λ n. n ≡ vec_len line.new) }
+    ensures line { OnOk result (IfSome (B.remaining input.old) (λ x. line.new.items ≡ take_through 10 x)) }
+    ensures rest { OnOk result (DropsThrough (B.remaining input.old) (B.remaining input.new) 10) }
+    ensures faults { IfErr result (λ e. (e ≡ Fault.Read) ⊎ (e ≡ Fault.OutOfMemory)) }
+{
+    line.clear();
+    match input.read_until(b'\n', line) {
+        Ok(count) => Ok(count as u64),
+        Err(e) => Err(read_fault(&e)),
+    }
 }
 
 // A replica without operations. Its author issues nothing, and no catalogue shows it.

@@ -1,48 +1,76 @@
-use Rattle.std.proofs.Common.{arith, ◌≡◌, ◌+◌, ◌==◌, true, false, length, not, refl, sym, ap, ◌∙◌, [], ◌∷◌}
-use Rattle.std.specs.Prelude.{count_by}
-use Rattle.std.specs.List.{flat_map}
-use Rattle.std.proofs.Math.Dec.{eqb-suc-zero}
-use Rattle.oct_delta.specs.Text.{Bytes}
+use Rattle.std.proofs.Common.{arith, ◌≡◌, ◌+◌, ◌-◌, ◌<◌, ◌≤◌, length, true, false, not, cond, sym, ap, subst, ◌∙◌}
+use Rattle.std.proofs.lemmas.Option.{IfSome_then}
 use Rattle.oct_ops.specs.Operations.{set_of, union}
-use Rattle.oct_ops.specs.OrderLaws.{op_cmp_total, op_cmp_exact}
-use Rattle.oct_ops.specs.SetLaws.{union-empty}
-use Rattle.census_core.specs.Folded.{filled_lines, is_filled, is_refused, taken, taken_of_line}
-use Rattle.census_core.proofs.Taking.{at_most_one_more, counted_next, filled_next, from_none, line_next}
+use Rattle.census_core.specs.Folded.{is_filled, is_refused, taken_of_line, text_of_line}
+use Rattle.census_core.proofs.Taking.{at_most_one_more}
+use Rattle.census_core.proofs.Underway.{IsUnderway, begun, ended, skipped, too_long, went_on}
 use Rattle.census_core.proofs.taken.take_lines.Goals as goal
 
-none_left : (bytes : Bytes) → true ≡ (length bytes == 0) → bytes ≡ []
-none_left [] h = refl
-none_left (b ∷ bytes) h = let never : true ≡ false = h ∙ eqb-suc-zero (length bytes) in cc
-
-pub loop-rest-init : goal.loop-rest-init
-loop-rest-init g c = record {
-  taken = from_none c.reader_of_lines.result.ops (taken c.args.input.now) c.reader_of_lines.ensures;
-  counted = omega arith;
+pub loop-line-init : goal.loop-line-init
+loop-line-init g c = record {
+  underway = begun (g.B.Read.remaining c.args.input.now) c.reader_of_lines.result.ops c.args.limit c.reader_of_lines.ensures;
   bounded = omega arith;
 }
 
-pub loop-rest-preserved-in-Continue-1 : goal.loop-rest-preserved-in-Continue-1
-loop-rest-preserved-in-Continue-1 g c =
-    let line = c.split_line.result.0.now in
-    let next = c.split_line.result.1.now in
-    let filled : is_filled line ≡ true = ap not (sym c.is_empty-in-loop-rest.ensures ∙ c.if-not-is_empty.true) in
-    let rest : filled_lines c.loop-rest.rest.now ≡ line ∷ filled_lines next = filled_next c.loop-rest.rest.now line next c.split_line.ensures.first filled in
-    let once = at_most_one_more (is_refused line) c.loop-rest.lines.refused c.take_line.new.lines.refused c.in_ok-take_line.ensures.counted in
+pub returns-then-count-eq0-clause-taken : goal.returns-then-count-eq0-clause-taken
+returns-then-count-eq0-clause-taken g c =
+    IfSome_then (g.B.Read.remaining c.args.input.now)
+    (ended _ (g.B.Read.remaining c.loop-line.input) c.next_line.new.line.items c.loop-line.lines.replica.ops c.loop-line.lines.refused c.args.limit c.loop-line.left
+    c.loop-line.invariant.underway c.in_ok-count.ensures.line (omega (arith, c.in_ok-count.ensures.count, c.if-count-eq0.true)))
+    (λ x whole. whole.0)
+
+pub returns-then-count-eq0-clause-refused : goal.returns-then-count-eq0-clause-refused
+returns-then-count-eq0-clause-refused g c =
+    IfSome_then (g.B.Read.remaining c.args.input.now)
+    (ended _ (g.B.Read.remaining c.loop-line.input) c.next_line.new.line.items c.loop-line.lines.replica.ops c.loop-line.lines.refused c.args.limit c.loop-line.left
+    c.loop-line.invariant.underway c.in_ok-count.ensures.line (omega (arith, c.in_ok-count.ensures.count, c.if-count-eq0.true)))
+    (λ x whole. whole.1)
+
+pub returns-then-count-eq0-clause-fits : goal.returns-then-count-eq0-clause-fits
+returns-then-count-eq0-clause-fits g c =
+    IfSome_then (g.B.Read.remaining c.args.input.now)
+    (ended _ (g.B.Read.remaining c.loop-line.input) c.next_line.new.line.items c.loop-line.lines.replica.ops c.loop-line.lines.refused c.args.limit c.loop-line.left
+    c.loop-line.invariant.underway c.in_ok-count.ensures.line (omega (arith, c.in_ok-count.ensures.count, c.if-count-eq0.true)))
+    (λ x whole. whole.2)
+
+pub returns-then-count-left-clause-too_long : goal.returns-then-count-left-clause-too_long
+returns-then-count-left-clause-too_long g c = λ _.
+    too_long _ (g.B.Read.remaining c.loop-line.input) c.next_line.new.line.items c.loop-line.lines.replica.ops c.loop-line.lines.refused c.args.limit c.loop-line.left
+    c.loop-line.invariant.underway c.in_ok-count.ensures.line (omega (arith, c.in_ok-count.ensures.count, c.if-count-left.true))
+
+pub loop-line-preserved-in-Continue-branch-2 : goal.loop-line-preserved-in-Continue-branch-2
+loop-line-preserved-in-Continue-branch-2 g c =
+    let line = c.next_line.new.line.items in
+    let text = c.text_of_line-text.ensures ∙ ap text_of_line c.deref.ensures.value in
+    let filled : is_filled (text_of_line line) ≡ true = ap is_filled (sym text) ∙ ap not (sym c.is_empty.ensures ∙ c.if-not-is_empty.true) in
+    let count : c.in_ok-count.count ≡ length line = omega (arith, c.in_ok-count.ensures.count) in
+    let some : 0 < length line = omega (arith, count, c.if-count-eq0.false) in
+    let fits : length line ≤ c.loop-line.left = omega (arith, count, c.if-count-left.false) in
+    let once = at_most_one_more (is_refused c.text_of_line-text.result.now) c.loop-line.lines.refused c.take_line.new.lines.refused c.in_ok-take_line.ensures.counted in
     record {
-      taken =
-          ap (λ s. union s (set_of (flat_map taken_of_line (filled_lines next)))) c.in_ok-take_line.ensures.taken
-          ∙ sym (line_next c.loop-rest.lines.replica.ops line (filled_lines next))
-          ∙ ap (λ l. union c.loop-rest.lines.replica.ops (set_of (flat_map taken_of_line l))) (sym rest)
-          ∙ c.loop-rest.invariant.taken;
-      counted =
-          counted_next c.loop-rest.lines.refused c.take_line.new.lines.refused line (filled_lines next) _ c.in_ok-take_line.ensures.counted
-          (ap (λ l. c.loop-rest.lines.refused + count_by is_refused l) (sym rest) ∙ c.loop-rest.invariant.counted);
-      bounded = omega (arith, once, c.split_line.ensures.shorter, c.loop-rest.invariant.bounded);
+      underway =
+          subst (λ n. IsUnderway (g.B.Read.remaining c.args.input.now) (g.B.Read.remaining c.next_line.new.input) c.take_line.new.lines.replica.ops c.take_line.new.lines.refused c.args.limit (c.loop-line.left - n))
+          (sym count)
+          (went_on _ (g.B.Read.remaining c.loop-line.input) _ line c.loop-line.lines.replica.ops _ c.loop-line.lines.refused _ c.args.limit c.loop-line.left
+          c.loop-line.invariant.underway c.in_ok-count.ensures.line c.in_ok-count.ensures.rest some fits filled
+          (c.in_ok-take_line.ensures.taken ∙ ap (λ t. union c.loop-line.lines.replica.ops (set_of (taken_of_line t))) text)
+          (c.in_ok-take_line.ensures.counted ∙ ap (λ t. cond (is_refused t) (c.loop-line.lines.refused + 1) c.loop-line.lines.refused) text));
+      bounded = omega (arith, once, some, fits, count, c.loop-line.invariant.bounded);
     }
 
-pub returns-clause-taken : goal.returns-clause-taken
-returns-clause-taken g c =
-    let none = none_left c.loop-rest.rest.now (sym c.loop-rest-test.false ∙ c.is_empty.ensures) in
-    sym (union-empty op_cmp_total op_cmp_exact c.loop-rest.lines.replica.ops)
-    ∙ ap (λ r. union c.loop-rest.lines.replica.ops (set_of (flat_map taken_of_line (filled_lines r)))) (sym none)
-    ∙ c.loop-rest.invariant.taken
+pub loop-line-preserved : goal.loop-line-preserved
+loop-line-preserved g c =
+    let line = c.next_line.new.line.items in
+    let text = c.text_of_line-text.ensures ∙ ap text_of_line c.deref.ensures.value in
+    let unfilled : is_filled (text_of_line line) ≡ false = ap is_filled (sym text) ∙ ap not (sym c.is_empty.ensures ∙ c.if-not-is_empty.false) in
+    let count : c.in_ok-count.count ≡ length line = omega (arith, c.in_ok-count.ensures.count) in
+    let some : 0 < length line = omega (arith, count, c.if-count-eq0.false) in
+    let fits : length line ≤ c.loop-line.left = omega (arith, count, c.if-count-left.false) in
+    record {
+      underway =
+          subst (λ n. IsUnderway (g.B.Read.remaining c.args.input.now) (g.B.Read.remaining c.next_line.new.input) c.loop-line.lines.replica.ops c.loop-line.lines.refused c.args.limit (c.loop-line.left - n))
+          (sym count)
+          (skipped _ (g.B.Read.remaining c.loop-line.input) _ line c.loop-line.lines.replica.ops c.loop-line.lines.refused c.args.limit c.loop-line.left
+          c.loop-line.invariant.underway c.in_ok-count.ensures.line c.in_ok-count.ensures.rest some fits unfilled);
+      bounded = omega (arith, c.loop-line.invariant.bounded);
+    }

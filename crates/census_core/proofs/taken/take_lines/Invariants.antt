@@ -1,16 +1,12 @@
-use Rattle.std.proofs.Common.{◌≡◌, length, ◌+◌, ◌≤◌}
-use Rattle.std.specs.Prelude.{count_by}
-use Rattle.std.specs.List.{flat_map}
-use Rattle.oct_ops.specs.Operations.{set_of, union}
-use Rattle.census_core.specs.Folded.{filled_lines, is_refused, refused, taken, taken_of_line}
+use Rattle.std.proofs.Common.{◌+◌, ◌≤◌}
+use Rattle.census_core.proofs.Underway.{IsUnderway}
 use Rattle.census_core.proofs.taken.take_lines.Given as goal
 
-abbrev pub invariant-loop-rest : goal.invariant-loop-rest
-invariant-loop-rest g l = record {
-  taken : union l.lines.replica.ops (set_of (flat_map taken_of_line (filled_lines l.rest))) ≡ taken l.input;
-  counted : l.lines.refused + count_by is_refused (filled_lines l.rest) ≡ refused l.input;
-  bounded : l.lines.refused + length l.rest ≤ length l.input;
+abbrev pub invariant-loop-line : goal.invariant-loop-line
+invariant-loop-line g l = record {
+  underway : IsUnderway (g.B.Read.remaining l.fn.input) (g.B.Read.remaining l.input) l.lines.replica.ops l.lines.refused l.fn.limit l.left;
+  bounded : l.lines.refused + l.left ≤ l.fn.limit;
 }
 
-abbrev pub decreases-loop-rest : goal.decreases-loop-rest
-decreases-loop-rest g l = length l.rest
+abbrev pub decreases-loop-line : goal.decreases-loop-line
+decreases-loop-line g l = l.left
