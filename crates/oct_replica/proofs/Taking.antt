@@ -1,5 +1,5 @@
 -- Operations of a list, taken in one after the other.
-use Rattle.std.proofs.Common.{arith, ◌≡◌, ◌↔◌, ℕ, zero, suc, ◌+◌, ◌^◌, ◌<◌, ◌≤◌, inl, inr, Some, Result, Ok, Err, IfErr, IsErrOf, Bool, true, false, not, ◌||◌, cond, List, [], ◌∷◌, ◌++◌, length, take, refl, sym, ap, ◌∙◌, subst}
+use Rattle.std.proofs.Common.{arith, ◌≡◌, ◌↔◌, ℕ, zero, suc, ◌+◌, ◌^◌, ◌<◌, ◌≤◌, inl, inr, Some, Result, Ok, Err, IfErr, IsErrOf, Bool, true, false, not, ◌||◌, cond, List, [], ◌∷◌, ◌++◌, length, take, drop, refl, sym, ap, ◌∙◌, subst}
 use Rattle.std.specs.Prelude.{get_or}
 use Rattle.std.specs.List.{list_all, list_any}
 use Rattle.std.specs.declared.cmp.Ordering.{Ordering}
@@ -7,7 +7,7 @@ use Rattle.std.specs.declared.cmp.Ordering.TheVariants.{Less, Equal, Greater}
 use Rattle.std.specs.Ordering.{eq_by_cmp, is_lt}
 use Rattle.std.specs.Cmp.{Equal-is, tied_itself, first_so, second_so}
 use Rattle.std.proofs.lemmas.Bool.{false≢true}
-use Rattle.std.proofs.lemmas.List.{take_more, length-append}
+use Rattle.std.proofs.lemmas.List.{drop_more, length-append, length-drop, take_more}
 use Rattle.std.proofs.lemmas.List.Elements.{filter-append}
 use Rattle.oct_ops.specs.Body.{Operation}
 use Rattle.oct_ops.specs.Operations.{contains, insert, listed, set_of, union}
@@ -61,23 +61,50 @@ pub set_of-end : (xs : List Operation) (x : Operation) → set_of (xs ++ x ∷ [
 set_of-end [] x = refl
 set_of-end (y ∷ xs) x = ap (λ s. insert s y) (set_of-end xs x) ∙ insert_comm op_cmp_total op_cmp_exact (set_of xs) x y
 
--- the first i operations are in, and so many of them are new
-pub record TakesAlong (old now : ReplicaContent) (list : List Operation) (i passed new : ℕ) : Type 0 where
-  pub held : now ≡ with_all old (set_of (take i list))
-  pub done : passed ≡ i
-  pub count : new ≡ count_new old.ops (take i list)
-  pub few : new ≤ i
+-- the first so many operations are in, the rest is still to come, and so many of the first are new
+pub record TakesAlong (old now : ReplicaContent) (list rest : List Operation) (passed new : ℕ) : Type 0 where
+  pub held : now ≡ with_all old (set_of (take passed list))
+  pub left : rest ≡ drop passed list
+  pub count : new ≡ count_new old.ops (take passed list)
+  pub few : new ≤ passed
 
-pub takes_start : (old : ReplicaContent) (list : List Operation) → TakesAlong old old list 0 0 0
-takes_start old list = record {
+pub takes_start : (old : ReplicaContent) (list rest : List Operation) → rest ≡ list → TakesAlong old old list rest 0 0
+takes_start old list rest all = record {
   held = ap (λ s. record { author = old.author; ops = s }) (sym (union-empty op_cmp_total op_cmp_exact old.ops));
-  done = refl;
+  left = all;
   count = refl;
   few = omega arith;
 }
 
-module _ (old now new : ReplicaContent) (list : List Operation) (i done count : ℕ) (x : Operation) (rising : rises op_cmp list ≡ true) (lt : i < length list) (is : x ≡ get_or list i x)
-    (along : TakesAlong old now list i done count) (added : new ≡ record now { ops = insert now.ops x }) where
+module _ (old now : ReplicaContent) (list rest next : List Operation) (i count : ℕ) (x : Operation) (along : TakesAlong old now list rest i count) (step : rest ≡ x ∷ next) where
+  pub within : i < length list
+  within = omega (arith, length-drop i list, ap length (sym step ∙ along.left))
+
+  from_here : x ∷ next ≡ get_or list i x ∷ drop (i + 1) list
+  from_here = sym step ∙ along.left ∙ drop_more list i x within
+
+  is_next : x ≡ get_or list i x
+  is_next = ap (λ l. get_or l 0 x) from_here
+
+  left_next : next ≡ drop (i + 1) list
+  left_next = ap (drop 1) from_here
+
+-- where the next is refused
+pub takes_cut : (old now new : ReplicaContent) (list rest next : List Operation) (i count : ℕ) (x : Operation) → TakesAlong old now list rest i count → rest ≡ x ∷ next → new ≡ now
+    → IsCut old new list i
+takes_cut old now new list rest next i count x along step same = record {
+  within = omega (arith, within old now list rest next i count x along step);
+  held = same ∙ along.held;
+}
+
+module _ (old now new : ReplicaContent) (list rest next : List Operation) (i count : ℕ) (x : Operation) (rising : rises op_cmp list ≡ true) (along : TakesAlong old now list rest i count)
+    (step : rest ≡ x ∷ next) (added : new ≡ record now { ops = insert now.ops x }) where
+  lt : i < length list
+  lt = within old now list rest next i count x along step
+
+  is : x ≡ get_or list i x
+  is = is_next old now list rest next i count x along step
+
   one_more : take (i + 1) list ≡ take i list ++ x ∷ []
   one_more = take_more list i x lt ∙ ap (λ (y : Operation). take i list ++ y ∷ []) (sym is)
 
@@ -107,15 +134,15 @@ module _ (old now new : ReplicaContent) (list : List Operation) (i done count : 
       one true = refl
       one false = refl
 
-  pub takes_new : true ≡ not (contains now.ops x) → TakesAlong old new list (i + 1) (done + 1) (count + 1)
+  pub takes_new : true ≡ not (contains now.ops x) → TakesAlong old new list next (i + 1) (count + 1)
   takes_new e =
       let more = counted true (ap not (sym seen) ∙ sym e) in
-      record { held = held_next; done = omega (arith, along.done); count = omega (arith, along.count, more); few = omega (arith, along.few) }
+      record { held = held_next; left = left_next old now list rest next i count x along step; count = omega (arith, along.count, more); few = omega (arith, along.few) }
 
-  pub takes_held : false ≡ not (contains now.ops x) → TakesAlong old new list (i + 1) (done + 1) count
+  pub takes_held : false ≡ not (contains now.ops x) → TakesAlong old new list next (i + 1) count
   takes_held e =
       let more = counted false (ap not (sym seen) ∙ sym e) in
-      record { held = held_next; done = omega (arith, along.done); count = omega (arith, along.count, more); few = omega (arith, along.few) }
+      record { held = held_next; left = left_next old now list rest next i count x along step; count = omega (arith, along.count, more); few = omega (arith, along.few) }
 
 take_whole : (xs : List Operation) (i : ℕ) → length xs ≤ i → take i xs ≡ xs
 take_whole [] zero le = refl
@@ -123,18 +150,11 @@ take_whole [] (suc i) le = refl
 take_whole (x ∷ xs) zero le = absurd (omega (arith, le))
 take_whole (x ∷ xs) (suc i) le = ap (λ ys. x ∷ ys) (take_whole xs i (omega (arith, le)))
 
-pub takes_done : (old now : ReplicaContent) (list : List Operation) (i done count : ℕ) → length list ≤ i → TakesAlong old now list i done count
+pub takes_done : (old now : ReplicaContent) (list rest : List Operation) (i count : ℕ) → rest ≡ [] → TakesAlong old now list rest i count
     → (now ≡ with_all old (set_of list)) × (count ≡ count_new old.ops list)
-takes_done old now list i done count le along =
-    let all = take_whole list i le in
+takes_done old now list rest i count none along =
+    let all = take_whole list i (omega (arith, length-drop i list, ap length (sym none ∙ along.left))) in
     (along.held ∙ ap (λ xs. with_all old (set_of xs)) all, along.count ∙ ap (count_new old.ops) all)
-
--- where the next is refused
-pub takes_cut : (old now new : ReplicaContent) (list : List Operation) (i done count : ℕ) → i < length list → TakesAlong old now list i done count → new ≡ now → IsCut old new list done
-takes_cut old now new list i done count lt along same = record {
-  within = omega (arith, along.done, lt);
-  held = same ∙ along.held ∙ ap (λ n. with_all old (set_of (take n list))) (sym along.done);
-}
 
 -- ---- refusals
 

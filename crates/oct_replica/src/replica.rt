@@ -144,9 +144,8 @@ impl<A: Allocator + Copy> Replica<A> {
     {
         let mut done = 0;
         let mut new = 0;
-        let ops = list.as_slice();
-        for op in ops {
-            let Ok(is_new) = self.add(op) else {
+        for op in list.into_vec() {
+            let Ok(is_new) = self.take_op(op) else {
                 return Err(TakeError::OutOfMemory { done });
             };
             if is_new {
@@ -370,6 +369,15 @@ impl<A: Allocator + Copy> Replica<A> {
             return None;
         }
         Some(own_dot(self.author, last + 1))
+    }
+
+    // Takes in the operation, and says whether it is new. Without memory nothing changes.
+    fn take_op(&mut self, op: Op<A>) -> Result<bool, AllocError>
+        ensures added { IfOk result (λ added. added ≡ not (contains self.old.ops op)) }
+        ensures ok { OnOk result (self.new ≡ record self.old { ops = insert self.old.ops op }) }
+        ensures err { OnErr result (self.new ≡ self.old) }
+    {
+        self.add(&op)
     }
 
     // Takes in a copy of the operation, and says whether it is new. Without memory nothing changes.

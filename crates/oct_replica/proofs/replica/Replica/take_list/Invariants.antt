@@ -1,5 +1,10 @@
+use Rattle.std.proofs.Common.{◌≡◌, length}
+use Rattle.std.specs.Vec.Iter.{into_iter_items, into_iter_len}
 use Rattle.oct_replica.proofs.Taking.{TakesAlong}
 use Rattle.oct_replica.proofs.replica.Replica.take_list.Given as goal
 
 abbrev pub invariant-loop-op : goal.invariant-loop-op
-invariant-loop-op g l = TakesAlong l.fn.self l.self l.ops l.op-index l.done l.new
+invariant-loop-op g l = record {
+  along : TakesAlong l.fn.self l.self l.fn.list (into_iter_items l.op-iterator) l.done l.new;
+  len : into_iter_len l.op-iterator ≡ length (into_iter_items l.op-iterator);
+}
