@@ -10,4 +10,5 @@ mod Stepping
 mod StoredStates
 mod Taking
 mod Underway
+mod Uniting
 mod Wholes

@@ -9,6 +9,10 @@ use Rattle.oct_period.specs.declared.winner.Outcome.TheVariants.{NextLoses, Next
 abbrev pub number_line : Text → ℕ → Text
 number_line label n = labelled label n ++ codes "\n"
 
+-- how many operations are new, and how many there are
+abbrev pub union_line : ℕ → ℕ → Text
+union_line new all = labelled (codes "new ") new ++ labelled (codes " operations ") all ++ codes "\n"
+
 -- which operation was issued
 abbrev pub issued_line : Dot → Text
 issued_line d = codes "issued " ++ dot_text d ++ codes "\n"

@@ -1,19 +1,19 @@
 -- What the commands give that make a state, or merge a delta into one.
-use Rattle.std.specs.Prelude.{◌==◌, ℕ, is_none, is_some, codes, Result, Ok, Err, if◌then◌else◌}
+use Rattle.std.specs.Prelude.{◌==◌, ◌-◌, ℕ, length, is_none, is_some, codes, Result, Ok, Err, if◌then◌else◌}
 use Rattle.oct_delta.specs.Decoding.{format_at, read_delta}
 use Rattle.oct_delta.specs.Taken.{operations_of}
 use Rattle.oct_delta.specs.Text.{Bytes}
-use Rattle.oct_ops.specs.Operations.{Operations, empty, listed}
+use Rattle.oct_ops.specs.Operations.{Operations, empty, listed, union}
 use Rattle.oct_replica.specs.Content.{ReplicaContent}
 use Rattle.oct_replica.specs.Taking.{count_new, with_all}
 use Rattle.oct_replica.specs.declared.error.TakeError.{TakeError}
 use Rattle.oct_replica.specs.declared.error.TakeError.TheVariants.{Version, Refused}
-use Rattle.census_core.specs.Lines.{number_line}
+use Rattle.census_core.specs.Lines.{number_line, union_line}
 use Rattle.census_core.specs.Replies.{Answer}
 use Rattle.census_core.specs.Steps.{◌>>=◌}
 use Rattle.census_core.specs.Stored.{loaded, saved}
 use Rattle.census_core.specs.declared.fault.Fault.{Fault}
-use Rattle.census_core.specs.declared.fault.Fault.TheVariants.{Zero, Merge}
+use Rattle.census_core.specs.declared.fault.Fault.TheVariants.{Zero, Author, Merge}
 
 -- a state without operations
 abbrev pub init : ℕ → Result Answer Fault
@@ -36,3 +36,15 @@ merge state file = do
   replica ← loaded state
   ops ← delta_of file
   merged replica ops
+
+-- the union with these operations, under the author of what is kept; and how many are new there
+abbrev pub united : ReplicaContent → Operations → Result Answer Fault
+united kept ops =
+    let all = union kept.ops ops in
+    saved (record kept { ops = all }) (union_line (length (listed all) - length (listed kept.ops)) (length (listed all)))
+
+-- a state file as it stands after a session, and what the session holds
+abbrev pub rejoined : Bytes → ReplicaContent → Result Answer Fault
+rejoined state held = do
+  kept ← loaded state
+  if kept.author == held.author then united kept held.ops else Err Author

@@ -16,12 +16,18 @@ pub enum Fault {
     /// A word is no number of its range.
     #[error("Number")]
     Number,
+    /// The words are those of no command, or one is not UTF-8.
+    #[error("Words")]
+    Words,
     /// There is something in the place of a new state file.
     #[error("Exists")]
     Exists,
-    /// A file can't be read, written or renamed.
+    /// A file can't be read, written, locked or renamed.
     #[error("File")]
     File,
+    /// The file that is to be written is the state file.
+    #[error("Same")]
+    Same,
     /// An input or a file has more than `INPUT_LIMIT` bytes.
     #[error("TooLong")]
     TooLong,
@@ -31,6 +37,9 @@ pub enum Fault {
     /// The author of a new state is 0.
     #[error("Zero")]
     Zero,
+    /// The state file became another author's during a session.
+    #[error("Author")]
+    Author,
     /// The file is no JSON text.
     #[error("Json")]
     Json,
@@ -91,9 +100,10 @@ impl Fault {
         ensures { result ≡ status_of self }
     {
         match self {
-            Fault::Number => 2,
+            Fault::Number | Fault::Words => 2,
             Fault::Exists
             | Fault::File
+            | Fault::Same
             | Fault::TooLong
             | Fault::Net
             | Fault::Read

@@ -2,6 +2,7 @@
 //!
 //! - `fold_lines` reads lines of deltas, and writes the catalogue of what they say.
 //! - `perform` does a `Request`, from the bytes of the state file and of another file to the `Reply` that is to be written.
+//! - `rejoin` gives what a state file is to hold after a session.
 //! - `import_block` reads the block of a JSON value, and `number` a word of the command line.
 //! - `read_whole` reads all of a stream.
 //! - `Fault` says why a run ended early, and `laws` what holds of every state file.
@@ -33,4 +34,5 @@ pub use import_error::ImportError;
 pub use input::{INPUT_LIMIT, read_whole};
 pub use reply::Reply;
 pub use request::Request;
+pub use states::rejoin;
 pub use words::number;

@@ -1,16 +1,16 @@
-//! The commands that make a state, or merge a delta into one; and states as files hold them.
+//! The commands that make a state, or merge a delta into one; what a session leaves; and states as files hold them.
 
 ghost use Rattle.std.specs.Prelude.{◌≡◌, ◌≢◌, Ok, Err, IfOk, IfErr};
 ghost use Rattle.std.specs.List.{All};
 ghost use Rattle.oct_ops.specs.Operations.{listed};
 ghost use Rattle.oct_ops.specs.Valid.{IsOp};
 ghost use Rattle.census_core.specs.Replies.{answer_of};
-ghost use Rattle.census_core.specs.States.{init, merge};
+ghost use Rattle.census_core.specs.States.{init, merge, rejoined};
 ghost use Rattle.census_core.specs.Stored.{loaded, saved};
 
 use crate::fault::Fault;
 use crate::reply::Reply;
-use crate::texts::number_line;
+use crate::texts::{number_line, union_line};
 use oct_delta::laws::texts_are_read;
 use oct_replica::Replica;
 use std::alloc::Global;
@@ -62,4 +62,23 @@ pub(crate) fn merge(alloc: Global, state: &[u8], file: &[u8]) -> Result<Reply, F
     let new = replica.take(file)?;
     let text = number_line(alloc, b"new ", u64::from(new))?;
     save(alloc, &replica, text)
+}
+
+/// What is to be written after a session: the union of what the state file holds now, for another command may have changed
+/// it meanwhile, and what the session's replica holds; the author stays. The text says how many operations are new to the
+/// file and how many there are. The first refusal is `Load` where the bytes are no state; then `Author` where they are
+/// another author's; then `TooMany`. Want of memory is `OutOfMemory`.
+pub fn rejoin(alloc: Global, state: &[u8], held: &Replica<Global>) -> Result<Reply, Fault>
+    ensures ok { IfOk result (λ reply. rejoined state.now held.now ≡ Ok (answer_of reply)) }
+    ensures err { IfErr result (λ e. e ≢ Fault.OutOfMemory → rejoined state.now held.now ≡ Err e) }
+{
+    let mut kept = load(alloc, state)?;
+    if kept.author() != held.author() {
+        return Err(Fault::Author);
+    }
+    let before = kept.len();
+    kept.join(held)?;
+    let all = kept.len();
+    let text = union_line(alloc, all - before, all)?;
+    save(alloc, &kept, text)
 }

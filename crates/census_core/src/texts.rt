@@ -2,7 +2,7 @@
 
 ghost use Rattle.std.specs.Prelude.{◌≡◌, ◌++◌, IfOk, OnOk};
 ghost use Rattle.std.specs.Fmt.{decimal};
-ghost use Rattle.census_core.specs.Lines.{issued_line, number_line};
+ghost use Rattle.census_core.specs.Lines.{issued_line, number_line, union_line};
 
 use oct_ops::Dot;
 use std::alloc::{AllocError, Global};
@@ -13,6 +13,18 @@ pub(crate) fn number_line(alloc: Global, label: &[u8], number: u64) -> Result<Ve
 {
     let mut line = Vec::from_slice(alloc, label)?;
     append_number(&mut line, number)?;
+    line.extend_from_slice(b"\n")?;
+    Ok(line)
+}
+
+/// The line of a union: how many operations are new, and how many there are.
+pub(crate) fn union_line(alloc: Global, new: usize, all: usize) -> Result<Vec<u8>, AllocError>
+    ensures { IfOk result (λ line. line.items ≡ union_line new all) }
+{
+    let mut line = Vec::from_slice(alloc, b"new ")?;
+    append_number(&mut line, new as u64)?;
+    line.extend_from_slice(b" operations ")?;
+    append_number(&mut line, all as u64)?;
     line.extend_from_slice(b"\n")?;
     Ok(line)
 }
