@@ -1,6 +1,6 @@
 //! Lines of deltas, and the catalogue of what they say.
 
-ghost use Rattle.std.specs.Prelude.{◌≡◌, ◌≢◌, ◌<◌, length, IfOk, OnOk, IfSome, IfErr, IsErrOf};
+ghost use Rattle.std.specs.Prelude.{◌≡◌, ◌≢◌, ◌<◌, ◌≤◌, length, IfOk, OnOk, IfSome, IfErr, IsErrOf};
 ghost use Rattle.std.specs.Io.KnownBytes.{Appends, Keeps};
 ghost use Rattle.oct_sync.specs.Output.{AppendsPrefix};
 ghost use Rattle.census_core.specs.Folded.{folded, refused, taken};
@@ -26,6 +26,7 @@ pub fn fold_lines<A: Allocator + Copy, R: Read, W: Write>(
 ) -> Result<u64, Fault>
     ensures text { OnOk result (IfSome (R.remaining reader.old) (λ input. Appends (W.contents writer.old) (W.contents writer.new) (folded input))) }
     ensures refused { IfOk result (λ n. IfSome (R.remaining reader.old) (λ input. n ≡ refused input)) }
+    ensures fits { OnOk result (IfSome (R.remaining reader.old) (λ input. length input ≤ INPUT_LIMIT)) }
 
     // Nothing is written before the whole input was read, and never more than a prefix of its text.
     ensures prefix { IsErrOf result Fault.Write → IfSome (R.remaining reader.old) (λ input. AppendsPrefix (W.contents writer.old) (W.contents writer.new) (folded input)) }
@@ -44,6 +45,7 @@ pub fn fold_lines<A: Allocator + Copy, R: Read, W: Write>(
 fn read_lines<A: Allocator + Copy, R: Read>(alloc: A, reader: &mut R) -> Result<Lines<A>, Fault>
     ensures taken { IfOk result (λ lines. IfSome (R.remaining reader.old) (λ input. lines.replica.ops ≡ taken input)) }
     ensures refused { IfOk result (λ lines. IfSome (R.remaining reader.old) (λ input. lines.refused ≡ refused input)) }
+    ensures fits { OnOk result (IfSome (R.remaining reader.old) (λ input. length input ≤ INPUT_LIMIT)) }
     ensures too_long { IsErrOf result Fault.TooLong → IfSome (R.remaining reader.old) (λ input. INPUT_LIMIT < length input) }
     ensures faults { IfErr result IsInputFault }
 {

@@ -1,4 +1,4 @@
-//! What holds of every file of a state.
+//! What holds of every file of a state, and the limit as a number.
 
 ghost use Rattle.std.specs.Prelude.{◌≡◌, ◌↔◌, Ok};
 ghost use Rattle.oct_delta.specs.Bytes.{IsBytes};
@@ -6,6 +6,7 @@ ghost use Rattle.oct_delta.specs.State.{IsState};
 ghost use Rattle.oct_delta.specs.Text.{Bytes};
 ghost use Rattle.oct_replica.specs.Content.{ReplicaContent};
 ghost use Rattle.census_core.specs.Stored.{loaded};
+ghost use Rattle.census_core.specs.declared.input.TheConstants.{INPUT_LIMIT};
 
 use oct_delta::laws::texts_are_read;
 
@@ -15,3 +16,8 @@ pub fn states_are_read()
 {
     texts_are_read();
 }
+
+/// The limit as a number: the most bytes of an input or a file.
+pub fn the_limit_is_this()
+    ensures { INPUT_LIMIT ≡ 1073741824 }
+{}
