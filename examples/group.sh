@@ -5,7 +5,7 @@
 # Takes some seconds, and never more than a minute; the connections are on the loopback, on a free port.
 #
 #     group.sh [PROGRAM [WORD ..]]          the program is ../census where none is named
-set -euo pipefail
+set -Eeuo pipefail
 top=$(cd "$(dirname "${BASH_SOURCE[0]}")/.." && pwd)
 census=("${@:-$top/census}")
 census[0]=$(command -v "${census[0]}") && census[0]=$(realpath -s "${census[0]}")
@@ -19,10 +19,9 @@ set -m
 room=$(mktemp -d)
 cd "$room"
 clean() {
-  local job all
-  all=$(jobs -p)
-  disown -a
-  for job in $all; do kill -KILL -- "-$job" 2>/dev/null || true; done
+  local job
+  for job in $(jobs -p); do kill -KILL -- "-$job" || true; done 2>/dev/null
+  wait 2>/dev/null || true
   rm -rf "$room"
 }
 trap clean EXIT
