@@ -5,8 +5,7 @@
 set -euo pipefail
 here=$(cd "$(dirname "${BASH_SOURCE[0]}")" && pwd)
 top=$(dirname "$here")
-"$top/census" --version >/dev/null
-census=$top/crates/census/out/census
+census=$("$top/dist/program")
 room=$(mktemp -d)
 trap 'rm -rf "$room"' EXIT
 
@@ -29,8 +28,7 @@ free_port() {
 
 # Waits at most ten seconds until somebody listens on the port.
 wait_for() {
-  local turn
-  for turn in {1..100}; do
+  for _ in {1..100}; do
     if listens "$1"; then return; fi
     sleep 0.1
   done

@@ -1,0 +1,119 @@
+#!/usr/bin/env bash
+# Whether ./census runs the released executable for exactly the sources that it was made from, and dist/check finds what differs: on
+# a copy of the sources, with a word of its own in place of the kit and of the executable, so that nothing is proved. Takes seconds.
+set -Eeuo pipefail
+shopt -s nullglob
+top=$(cd "$(dirname "${BASH_SOURCE[0]}")/.." && pwd)
+room=$(mktemp -d)
+trap 'rm -rf "$room"' EXIT
+trap 'echo "released: this failed, at line $LINENO: $BASH_COMMAND" >&2' ERR
+cd "$top"
+cp -a --parents census crates.txt Makefile docs/census.1 dist crates/*/{src,specs,proofs} "$room"
+cd "$room"
+rm -f dist/census-x86_64-linux dist/sources.sha256 dist/kit
+
+# The kit: rt version names it, and the rest fails, or makes an executable that prints its words, where the file works is there.
+mkdir bin
+cat >bin/rt <<'RT'
+#!/bin/sh
+if [ "$1" = version ]; then cat "$ROOM/kit"; exit; fi
+echo "rt $1 in ${PWD##*/}"
+echo "${PWD##*/}" >>"$ROOM/asked"
+if [ ! -e "$ROOM/works" ]; then exit 1; fi
+if [ "$1" = run ]; then
+  printf '#!/bin/sh\necho "built $*"\n' >out/census
+  chmod +x out/census
+fi
+RT
+chmod +x bin/rt
+export PATH=$room/bin:$PATH ROOM=$room
+echo 'a kit' >kit
+
+# Fails where the command succeeds; what it says is in the file said.
+refused() {
+  if "$@" >said 2>&1; then
+    echo "released: $* should have failed" >&2
+    false
+  fi
+}
+
+# Whether ./census does not run the released executable, but asks the kit for a build, and dist/check finds the difference.
+out_of_date() {
+  rm -f asked
+  refused ./census show
+  grep -q . asked
+  checked_as_different
+}
+
+# Whether dist/check, after a build of these sources, says that dist/ is out of date, and what mends it.
+checked_as_different() {
+  mkdir -p crates/census/out
+  cp -p executable crates/census/out/census
+  refused dist/check
+  grep -q 'make dist' said
+  rm -rf crates/*/out
+}
+
+# Whether ./census runs the released executable and asks no kit.
+up_to_date() {
+  rm -f asked
+  test "$(./census show)" = 'built show'
+  test ! -e asked
+}
+
+# A build that fails shows the last lines of its log; one that works names each crate that the program stands on, and then none.
+refused ./census show
+grep -q '^rt lib in oct_code$' said
+grep -q 'oct_code was not proved' said
+touch works
+make 2>said
+test "$(grep -c '^census:  *[0-9]* of [0-9]* ' said)" = "$(sort -u asked | wc -l)"
+test "$(tail -n 1 asked)" = census
+make 2>said
+test ! -s said
+test "$(./census show)" = 'built show'
+rm works
+
+# The release, and the program without a build.
+make dist >/dev/null
+cp -p crates/census/out/census executable
+dist/check >/dev/null
+make clean >/dev/null
+up_to_date
+make install DESTDIR="$room/installed" PREFIX=/usr >/dev/null
+test "$(installed/usr/bin/census show)" = 'built show'
+cmp docs/census.1 installed/usr/share/man/man1/census.1
+
+# One byte of a source is another, with the time of the file as it was; a source is gone; one has another name; one comes.
+source=crates/census_run/src/help.rt
+cp -p $source kept
+sed -i '1s/What/Whet/' $source
+touch -r kept $source
+out_of_date
+rm $source
+out_of_date
+mv kept crates/census_run/src/halp.rt
+out_of_date
+mv crates/census_run/src/halp.rt $source
+up_to_date
+touch crates/census/src/more.rt
+out_of_date
+rm crates/census/src/more.rt
+echo >>crates.txt
+out_of_date
+sed -i '$d' crates.txt
+up_to_date
+
+# One byte of the released executable is another; the kit is another one; the machine is another one.
+sed -i 's/built/boilt/' dist/census-x86_64-linux
+checked_as_different
+cp -p executable dist/census-x86_64-linux
+up_to_date
+echo 'another kit' >kit
+checked_as_different
+echo 'a kit' >kit
+printf '#!/bin/sh\necho Linux aarch64\n' >bin/uname
+chmod +x bin/uname
+refused ./census show
+grep -q . asked
+echo "the released executable is run for its own sources alone, and what differs is found"
