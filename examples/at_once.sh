@@ -160,6 +160,7 @@ modes_and_links() {
   census show folder/real | grep -qx 'note last 3.5 one'
   census show folder/real | cmp - <(census show link)
   test ! -e link.new
+  test ! -e link.lock
   test ! -e folder/real.new
 }
 

@@ -19,11 +19,11 @@ import time
 
 HERE = os.path.dirname(os.path.abspath(__file__))
 CENSUS = sys.argv[1:]
-KILLED = 320  # commands that are killed
+KILLED = 300  # commands that are killed over one state
 SECONDS = 55
 SEED = 1956
 STATE = "state"
-OTHERS = 2000  # notes of another author, so that the state takes a while to be written
+OTHERS = 1000  # notes of another author, so that the state takes a while to be written
 
 
 def note(author, number, text):
@@ -165,9 +165,26 @@ def check(before, now, author, most, what):
     return len(new)
 
 
+def beginnings():
+    """Kills the making of states, and gives how many were killed: each state is whole, or is made again."""
+    dice, takes, killed = random.Random(SEED), [], 0
+    for turn in range(60):
+        words, before = ["init", f"begun{turn}", "5"], time.monotonic()
+        if turn < 5:
+            census(*words)
+            takes.append(time.monotonic() - before)
+        else:
+            killed += cut(words, dice.uniform(0, 1.2 * statistics.median(takes)))[1]
+        if not os.path.exists(words[1]):
+            need(turn >= 5 and census(*words) == "author 5\n", "a state that was not made cannot be made again")
+        need(census("show", words[1]) == "census 2\nend\n", "a state that was begun is not empty")
+    return killed
+
+
 def main():
     end = time.monotonic() + SECONDS
     prepare()
+    begun = beginnings()
     with open("served", "wb") as served, open("faults", "wb") as faults:
         hub = subprocess.Popen([*CENSUS, "hub", "friend", "127.0.0.1:0", "--patience", "5"], stdout=served, stderr=faults)
     try:
@@ -186,7 +203,10 @@ def main():
     shown = census("show", STATE)
     need(shown == census("show", "friend"), "the two catalogues differ")
     need("\nfork " not in shown, "there is a fork")
-    print(f"{killed} commands killed: {killed - done} before they had changed the state, {done} after, {said} of these had said so; nothing is lost or doubled")
+    print(
+        f"{killed} commands killed, {killed - done} before they had changed the state, {done} after, of which {said} had said so, "
+        f"and {begun} that make one: nothing is lost or doubled"
+    )
 
 
 if __name__ == "__main__":
