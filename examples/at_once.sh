@@ -166,9 +166,10 @@ modes_and_links() {
 
 a_delta_over_its_state() {
   cp one before
+  ln one same
   ln -s one there
   local name status
-  for name in one ./one there; do
+  for name in one ./one same there; do
     status=0
     census delta one "$name" >said 2>&1 || status=$?
     test "$status" = 3
