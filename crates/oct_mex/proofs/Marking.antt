@@ -1,14 +1,18 @@
 -- Steps that add marks to a table.
 use Rattle.std.proofs.Common.{◌≡◌, ℕ, suc, ◌^◌, ◌++◌, ◌∷◌, [], ap, refl, ◌+◌, ◌*◌, ◌/◌, ◌<◌, ◌≤◌, ◌-◌, IsTrue, Bool, false, List, length, min, replicate, slice_index, sym, ap₂, ◌∙◌, subst, arith, ◌⊎◌, inl, inr, bit_xor}
-use Rattle.std.proofs.lemmas.Bool.{cases_eq, false≢true}
+use Rattle.std.proofs.lemmas.Bool.{cases_eq, cases_lt, cases_Bool, false≢true}
 use Rattle.std.proofs.Math.Nat.{pow-suc}
-use Rattle.std.proofs.lemmas.List.Elements.{All-push, All-weaker}
-use Rattle.std.proofs.lemmas.Nat.{xor_lt, pow_pos}
+use Rattle.std.specs.List.{Contains}
+use Rattle.std.proofs.lemmas.List.{get_or_default}
+use Rattle.std.proofs.lemmas.List.Elements.{All-push, All-weaker, Contains-get_or}
+use Rattle.std.proofs.lemmas.Nat.{xor_lt, xor_comm, pow_pos}
 use Rattle.std.proofs.Math.ListN.{get_or-replicate, length-replicate}
 use Rattle.oct_code.specs.Code.{Code, len, allows}
 use Rattle.oct_mex.specs.Mex.{IsMex}
 use Rattle.oct_mex.specs.NimValues.{IsOptionValue}
-use Rattle.oct_mex.specs.Marks.{IsOneHeapBy, heaps_left, IsMarked, AddsMarks, IsPairValue, IsOptionBy, IsTableFor}
+use Rattle.oct_mex.specs.Marks.{IsOneHeapBy, heaps_left, IsBelow, IsMarked, AddsMarks, IsPairBy, IsPairValue, IsRareBy, IsRarePair, IsOptionBy, IsTableFor}
+use Rattle.oct_mex.specs.Rare.{is_rare, ListsRare}
+use Rattle.oct_mex.proofs.Parity.{rare-of_common, some-of_common}
 use Rattle.oct_mex.proofs.Moves.{heaps_two, parts, move_of}
 
 -- one step after another
@@ -38,28 +42,59 @@ AddsMarks-as x y P R p to from = record {
       );
 }
 
+pub pair_to : (g : ℕ → ℕ) (rest from end v : ℕ) {far : ℕ} (o : IsPairValue g rest from far v) → o.a < end → IsPairValue g rest from end v
+pair_to g rest from end v o low = record { a = o.a; b = o.b; high = o.high; low = low; ordered = o.ordered; total = o.total; is = o.is }
+
 -- the next pair
-pub pairs_more : (g : ℕ → ℕ) (rest a b : ℕ) (x y z : List Bool) → 1 ≤ a → a ≤ b → a + b ≡ rest
-    → AddsMarks x y (IsPairValue g rest a) → AddsMarks y z (λ v. v ≡ bit_xor (g a) (g b)) → AddsMarks x z (IsPairValue g rest (a + 1))
-pairs_more g rest a b x y z some ordered total p q =
-    AddsMarks-then x y z (IsPairValue g rest a) (λ v. v ≡ bit_xor (g a) (g b)) (IsPairValue g rest (a + 1)) p q
+pub pairs_more : (g : ℕ → ℕ) (rest from a b : ℕ) (x y z : List Bool) → from ≤ a → a ≤ b → a + b ≡ rest
+    → AddsMarks x y (IsPairValue g rest from a) → AddsMarks y z (λ v. v ≡ bit_xor (g a) (g b)) → AddsMarks x z (IsPairValue g rest from (a + 1))
+pairs_more g rest from a b x y z high ordered total p q =
+    AddsMarks-then x y z (IsPairValue g rest from a) (λ v. v ≡ bit_xor (g a) (g b)) (IsPairValue g rest from (a + 1)) p q
     (λ v o. elim (cases_eq o.a a) [
       | inl e ↦
           let f : o.b ≡ b = omega (arith, o.total) in
           inr (o.is ∙ ap₂ (λ m n. bit_xor (g m) (g n)) e f)
-      | inr ne ↦ inl (record { a = o.a; b = o.b; some = o.some; low = omega (arith, o.low); ordered = o.ordered; total = o.total; is = o.is })
+      | inr ne ↦ inl (pair_to g rest from a v o (omega (arith, o.low)))
     ])
-    (λ v o. record { a = o.a; b = o.b; some = o.some; low = omega (arith, o.low); ordered = o.ordered; total = o.total; is = o.is })
-    (λ v e. record { a = a; b = b; some = some; low = omega arith; ordered = ordered; total = total; is = e })
+    (λ v o. pair_to g rest from (a + 1) v o (omega (arith, o.low)))
+    (λ v e. record { a = a; b = b; high = high; low = omega arith; ordered = ordered; total = total; is = e })
+
+-- the next heap of the list leaves a pair
+pub rare_more : (g : ℕ → ℕ) (heaps : List ℕ) (rest at b : ℕ) (x y z : List Bool) → 1 ≤ slice_index heaps at → 1 ≤ b → slice_index heaps at + b ≡ rest
+    → AddsMarks x y (IsRarePair g heaps rest at) → AddsMarks y z (λ v. v ≡ bit_xor (g (slice_index heaps at)) (g b)) → AddsMarks x z (IsRarePair g heaps rest (at + 1))
+rare_more g heaps rest at b x y z first second total p q =
+    AddsMarks-then x y z (IsRarePair g heaps rest at) (λ v. v ≡ bit_xor (g (slice_index heaps at)) (g b)) (IsRarePair g heaps rest (at + 1)) p q
+    (λ v o. elim (cases_eq o.at at) [
+      | inl e ↦
+          let same : slice_index heaps o.at ≡ slice_index heaps at = ap (slice_index heaps) e in
+          let f : o.b ≡ b = omega (arith, o.total, same) in
+          inr (o.is ∙ ap₂ (λ m n. bit_xor (g m) (g n)) same f)
+      | inr ne ↦ inl (record { at = o.at; b = o.b; within = omega (arith, o.within); first = o.first; second = o.second; total = o.total; is = o.is })
+    ])
+    (λ v o. record { at = o.at; b = o.b; within = omega (arith, o.within); first = o.first; second = o.second; total = o.total; is = o.is })
+    (λ v e. record { at = at; b = b; within = omega arith; first = first; second = second; total = total; is = e })
+
+-- or it is 0, or too large to leave one
+pub rare_same : (g : ℕ → ℕ) (heaps : List ℕ) (rest at : ℕ) (x y : List Bool) → (1 ≤ slice_index heaps at → rest ≤ slice_index heaps at)
+    → AddsMarks x y (IsRarePair g heaps rest at) → AddsMarks x y (IsRarePair g heaps rest (at + 1))
+rare_same g heaps rest at x y large p =
+    AddsMarks-as x y (IsRarePair g heaps rest at) (IsRarePair g heaps rest (at + 1)) p
+    (λ v o. record { at = o.at; b = o.b; within = omega (arith, o.within); first = o.first; second = o.second; total = o.total; is = o.is })
+    (λ v o. elim (cases_eq o.at at) [
+      | inl e ↦
+          let same : slice_index heaps o.at ≡ slice_index heaps at = ap (slice_index heaps) e in
+          absurd (omega (arith, o.total, o.second, same, large (omega (arith, same, o.first))))
+      | inr ne ↦ record { at = o.at; b = o.b; within = omega (arith, o.within); first = o.first; second = o.second; total = o.total; is = o.is }
+    ])
 
 -- an option leaves at most one heap, or a pair of heaps
-pub option_cases : (c : Code) (g : ℕ → ℕ) (n r v : ℕ) → r ≤ n → IsOptionBy c g n r v → IsOneHeapBy c g n r v ⊎ IsPairValue g (n - r) ((n - r) / 2 + 1) v
+pub option_cases : (c : Code) (g : ℕ → ℕ) (n r v : ℕ) → r ≤ n → IsOptionBy c g n r v → IsOneHeapBy c g n r v ⊎ IsPairValue g (n - r) 1 ((n - r) / 2 + 1) v
 option_cases c g n r v held o = elim (cases_eq o.a 0) [
   | inl none ↦ inl (o, none)
   | inr some ↦ inr (record {
     a = o.a;
     b = o.b;
-    some = omega arith;
+    high = omega arith;
     low = omega (arith, o.parts.total, o.parts.ordered);
     ordered = o.parts.ordered;
     total = omega (arith, o.parts.total);
@@ -67,19 +102,112 @@ option_cases c g n r v held o = elim (cases_eq o.a 0) [
   })
 ]
 
-pub pair_option : (c : Code) (g : ℕ → ℕ) (n r v : ℕ) → r ≤ n → r ≤ len c → IsTrue (allows c r 2) → IsPairValue g (n - r) ((n - r) / 2 + 1) v → IsOptionBy c g n r v
-pair_option c g n r v held few allowed o = record {
-  a = o.a;
-  b = o.b;
+-- without pairs there is at most one heap
+pub option_one : (c : Code) (g : ℕ → ℕ) (n r v : ℕ) → (IsTrue (allows c r 2) → ⊥) → IsOptionBy c g n r v → IsOneHeapBy c g n r v
+option_one c g n r v none_may o = elim (cases_eq o.a 0) [
+  | inl none ↦ (o, none)
+  | inr some ↦ absurd (none_may (subst (λ h. IsTrue (allows c r h)) (heaps_two o.a o.b (omega arith)) o.parts.allowed))
+]
+
+-- the pairs of heaps that an option leaves
+pair_options : (c : Code) (g : ℕ → ℕ) (n r from end v : ℕ) → r ≤ n → 1 ≤ from → IsPairBy c g n from end r v → IsPairValue g (n - r) from end v
+pair_options c g n r from end v held some (o, high, low) =
+    record { a = o.a; b = o.b; high = high; low = low; ordered = o.parts.ordered; total = omega (arith, o.parts.total); is = o.is }
+
+pub option_of_pair : (c : Code) (g : ℕ → ℕ) (n r a b v : ℕ) → r ≤ n → r ≤ len c → IsTrue (allows c r 2) → 1 ≤ a → a ≤ b → a + b ≡ n - r
+    → v ≡ bit_xor (g a) (g b) → IsOptionBy c g n r v
+option_of_pair c g n r a b v held few allowed some ordered total is = record {
+  a = a;
+  b = b;
   parts = record {
-    ordered = o.ordered;
-    total = omega (arith, o.total);
-    smaller = omega (arith, o.total, o.some);
+    ordered = ordered;
+    total = omega arith;
+    smaller = omega arith;
     few = few;
-    allowed = subst (λ h. IsTrue (allows c r h)) (sym (heaps_two o.a o.b o.some)) allowed;
+    allowed = subst (λ h. IsTrue (allows c r h)) (sym (heaps_two a b some)) allowed;
   };
-  is = o.is;
+  is = is;
 }
+
+pub pair_option : (c : Code) (g : ℕ → ℕ) (n r from end v : ℕ) → r ≤ n → r ≤ len c → IsTrue (allows c r 2) → 1 ≤ from → IsPairValue g (n - r) from end v → IsPairBy c g n from end r v
+unfolding option_of_pair
+pair_option c g n r from end v held few allowed some o =
+    (option_of_pair c g n r o.a o.b v held few allowed (omega (arith, o.high)) o.ordered o.total o.is, o.high, o.low)
+
+-- the pairs of one removal
+pub pairs_by : (c : Code) (g : ℕ → ℕ) (n r from end : ℕ) (x y : List Bool) → r ≤ n → r ≤ len c → IsTrue (allows c r 2) → 1 ≤ from
+    → AddsMarks x y (IsPairValue g (n - r) from end) → AddsMarks x y (IsPairBy c g n from end r)
+pairs_by c g n r from end x y held few allowed some p =
+    AddsMarks-as x y (IsPairValue g (n - r) from end) (IsPairBy c g n from end r) p
+    (λ v o. pair_option c g n r from end v held few allowed some o) (λ v o. pair_options c g n r from end v held some o)
+
+rare_pair : (g : ℕ → ℕ) (heaps : List ℕ) (rest a b v : ℕ) → Contains heaps a → 1 ≤ a → 1 ≤ b → a + b ≡ rest → v ≡ bit_xor (g a) (g b)
+    → IsRarePair g heaps rest (length heaps) v
+rare_pair g heaps rest a b v (at, within, found) first second total is =
+    let same : slice_index heaps at ≡ a = get_or_default heaps at 0 a within ∙ found in
+    record {
+      at = at;
+      b = b;
+      within = within;
+      first = omega (arith, same);
+      second = second;
+      total = omega (arith, same);
+      is = is ∙ ap (λ m. bit_xor (g m) (g b)) (sym same);
+    }
+
+-- an option of at most one heap or of a heap of the list
+pub rare_cases : (c : Code) (g : ℕ → ℕ) (n r : ℕ) (heaps : List ℕ) (v : ℕ) → r ≤ n → IsRareBy c g n heaps r v
+    → IsOneHeapBy c g n r v ⊎ IsRarePair g heaps (n - r) (length heaps) v
+rare_cases c g n r heaps v held (o, rare) = elim (cases_eq o.a 0) [
+  | inl none ↦ inl (o, none)
+  | inr some ↦
+      let low : 1 ≤ o.a = omega arith in
+      let total : o.a + o.b ≡ n - r = omega (arith, o.parts.total) in
+      elim rare [
+        | inl none ↦ inl (o, none)
+        | inr listed ↦ elim listed [
+          | inl smaller ↦ inr (rare_pair g heaps (n - r) o.a o.b v smaller low (omega (arith, o.parts.ordered)) total o.is)
+          | inr larger ↦ inr (rare_pair g heaps (n - r) o.b o.a v larger (omega (arith, o.parts.ordered)) low (omega arith) (o.is ∙ xor_comm (g o.a) (g o.b)))
+        ]
+      ]
+]
+
+pub rare_option : (c : Code) (g : ℕ → ℕ) (n r : ℕ) (heaps : List ℕ) (v : ℕ) → r ≤ n → r ≤ len c → IsTrue (allows c r 2)
+    → IsRarePair g heaps (n - r) (length heaps) v → IsRareBy c g n heaps r v
+unfolding option_of_pair
+rare_option c g n r heaps v held few allowed o =
+    let a = slice_index heaps o.at in
+    let listed : Contains heaps a = Contains-get_or heaps o.at 0 o.within in
+    elim (cases_lt o.b a) [
+      | inl l ↦ (option_of_pair c g n r o.b a v held few allowed o.second (omega arith) (omega (arith, o.total)) (o.is ∙ xor_comm (g a) (g o.b)), inr (inr listed))
+      | inr ge ↦ (option_of_pair c g n r a o.b v held few allowed o.first (omega arith) o.total o.is, inr (inl listed))
+    ]
+
+-- what one removal marks of these
+pub rare_by : (c : Code) (g : ℕ → ℕ) (n r : ℕ) (heaps : List ℕ) (x y z : List Bool) → r ≤ n → r ≤ len c → IsTrue (allows c r 2)
+    → AddsMarks x y (IsOneHeapBy c g n r) → AddsMarks y z (IsRarePair g heaps (n - r) (length heaps)) → AddsMarks x z (IsRareBy c g n heaps r)
+rare_by c g n r heaps x y z held few allowed p q =
+    AddsMarks-then x y z (IsOneHeapBy c g n r) (IsRarePair g heaps (n - r) (length heaps)) (IsRareBy c g n heaps r) p q
+    (λ v o. rare_cases c g n r heaps v held o) (λ v o. (o.0, inl o.1)) (λ v o. rare_option c g n r heaps v held few allowed o)
+
+pub rare_by_one : (c : Code) (g : ℕ → ℕ) (n r : ℕ) (heaps : List ℕ) (x y : List Bool) → (IsTrue (allows c r 2) → ⊥)
+    → AddsMarks x y (IsOneHeapBy c g n r) → AddsMarks x y (IsRareBy c g n heaps r)
+rare_by_one c g n r heaps x y none_may p =
+    AddsMarks-as x y (IsOneHeapBy c g n r) (IsRareBy c g n heaps r) p
+    (λ v o. (o.0, inl o.1)) (λ v o. option_one c g n r v none_may o.0)
+
+-- no pair
+pub pairs_by_none : (c : Code) (g : ℕ → ℕ) (n r from end : ℕ) (x y : List Bool) → (IsTrue (allows c r 2) → ⊥) → 1 ≤ from
+    → AddsMarks x y (IsBelow (IsPairBy c g n from end) r) → AddsMarks x y (IsBelow (IsPairBy c g n from end) (r + 1))
+pairs_by_none c g n r from end x y none_may some p =
+    AddsMarks-as x y (IsBelow (IsPairBy c g n from end) r) (IsBelow (IsPairBy c g n from end) (r + 1)) p
+    (λ v o. (o.0, omega (arith, o.1), o.2))
+    (λ v o. elim (cases_eq o.0 r) [
+      | inl e ↦
+          let here : IsPairBy c g n from end r v = subst (λ s. IsPairBy c g n from end s v) e o.2 in
+          absurd (none_may (subst (λ h. IsTrue (allows c r h)) (heaps_two here.0.a here.0.b (omega (arith, here.1))) here.0.parts.allowed))
+      | inr ne ↦ (o.0, omega (arith, o.1), o.2)
+    ])
 
 -- the option of at most one heap leaves all that is not removed
 pub one_heap_to : (c : Code) (g : ℕ → ℕ) (n r v : ℕ) → r ≤ n → 0 < r → r ≤ len c → IsTrue (allows c r (heaps_left 0 (n - r)))
@@ -99,24 +227,25 @@ one_heap_from c g n r v (o, none) =
     let rest : o.b ≡ n - r = omega (arith, o.parts.total) in
     o.is ∙ ap₂ (λ a b. bit_xor (g a) (g b)) none rest
 
--- without pairs there is at most one heap
-pub option_one : (c : Code) (g : ℕ → ℕ) (n r v : ℕ) → (IsTrue (allows c r 2) → ⊥) → IsOptionBy c g n r v → IsOneHeapBy c g n r v
-option_one c g n r v none_may o = elim (cases_eq o.a 0) [
-  | inl none ↦ (o, none)
-  | inr some ↦ absurd (none_may (subst (λ h. IsTrue (allows c r h)) (heaps_two o.a o.b (omega arith)) o.parts.allowed))
-]
-
--- the options that remove fewer than r beans, as a walk over r marks them
-abbrev pub OptionBelow : Code → (ℕ → ℕ) → ℕ → ℕ → ℕ → Type 0
-OptionBelow c g n end v = (r : ℕ) × (r < end) × IsOptionBy c g n r v
-
-pub options_more : (c : Code) (g : ℕ → ℕ) (n r : ℕ) (x y z : List Bool) → AddsMarks x y (OptionBelow c g n r) → AddsMarks y z (IsOptionBy c g n r) → AddsMarks x z (OptionBelow c g n (r + 1))
-options_more c g n r x y z p q =
-    AddsMarks-then x y z (OptionBelow c g n r) (IsOptionBy c g n r) (OptionBelow c g n (r + 1)) p q
-    (λ v o. elim (cases_eq o.0 r)
-    [ inl e ↦ inr (subst (λ s. IsOptionBy c g n s v) e o.2) | inr ne ↦ inl (o.0, omega (arith, o.1), o.2) ])
+-- a walk over the numbers of removed beans
+pub removals_more : (P : ℕ → ℕ → Type 0) (r : ℕ) (x y z : List Bool) → AddsMarks x y (IsBelow P r) → AddsMarks y z (P r) → AddsMarks x z (IsBelow P (r + 1))
+removals_more P r x y z p q =
+    AddsMarks-then x y z (IsBelow P r) (P r) (IsBelow P (r + 1)) p q
+    (λ v o. elim (cases_eq o.0 r) [ inl e ↦ inr (subst (λ s. P s v) e o.2) | inr ne ↦ inl (o.0, omega (arith, o.1), o.2) ])
     (λ v o. (o.0, omega (arith, o.1), o.2))
     (λ v o. (r, omega arith, o))
+
+-- a round of pairs after the earlier ones
+pub rounds_more : (c : Code) (g : ℕ → ℕ) (n k from mid end : ℕ) (x y z : List Bool) → from ≤ mid → mid ≤ end
+    → AddsMarks x y (IsBelow (IsPairBy c g n from mid) k) → AddsMarks y z (IsBelow (IsPairBy c g n mid end) k) → AddsMarks x z (IsBelow (IsPairBy c g n from end) k)
+rounds_more c g n k from mid end x y z h l p q =
+    AddsMarks-then x y z (IsBelow (IsPairBy c g n from mid) k) (IsBelow (IsPairBy c g n mid end) k) (IsBelow (IsPairBy c g n from end) k) p q
+    (λ v o. elim (cases_lt o.2.0.a mid) [
+      | inl low ↦ inl (o.0, o.1, (o.2.0, o.2.1, low))
+      | inr high ↦ inr (o.0, o.1, (o.2.0, omega arith, o.2.2))
+    ])
+    (λ v o. (o.0, o.1, (o.2.0, o.2.1, omega (arith, o.2.2))))
+    (λ v o. (o.0, o.1, (o.2.0, omega (arith, o.2.1), o.2.2)))
 
 option_by : (c : Code) (g : ℕ → ℕ) (n v : ℕ) (o : IsOptionValue c g n v) → (r : ℕ) × (r < min (len c) n + 1) × IsOptionBy c g n r v
 option_by c g n v o =
@@ -137,11 +266,11 @@ option_within c values size v table o =
     rw o.is (xor_within values size o.a o.b table (omega (arith, p.ordered, p.smaller)) p.smaller)
 
 -- the first place that is not marked, once all options are
-pub mex_from_marks : (c : Code) (values : List ℕ) (m : ℕ) (size : ℕ) (marks : List Bool) → IsTableFor values size
-    → AddsMarks (replicate size false) marks (OptionBelow c (slice_index values) (length values) (min (len c) (length values) + 1))
+pub mex_from_all : (c : Code) (values : List ℕ) (m size : ℕ) (marks : List Bool) → IsTableFor values size
+    → AddsMarks (replicate size false) marks (IsBelow (IsOptionBy c (slice_index values) (length values)) (min (len c) (length values) + 1))
     → m ≤ length marks → ((v : ℕ) → v < m → IsMarked marks v) → (m < length marks → IsMarked marks m → ⊥)
     → IsMex (IsOptionValue c (slice_index values) (length values)) m
-mex_from_marks c values m size marks table adds within low first =
+mex_from_all c values m size marks table adds within low first =
     let g = slice_index values in
     let n = length values in
     let sized : length marks ≡ size = adds.size ∙ length-replicate size false in
@@ -152,6 +281,63 @@ mex_from_marks c values m size marks table adds within low first =
       below = λ v l. elim ((adds.marked v (omega (arith, length-replicate size false))).0 (low v l)) [
         | inl old ↦ absurd (false≢true (sym (get_or-replicate size v false false (omega arith)) ∙ old))
         | inr o ↦ option_from_by c g n o.0 v o.2
+      ];
+    }
+
+-- an option is among those that are marked first, or in a round, or leaves two common heaps and so is rare
+marked_option : (c : Code) (values : List ℕ) (mask : ℕ) (heaps : List ℕ) (end v : ℕ) → ListsRare mask values (length values) heaps
+    → (length values / 2 < end) ⊎ (is_rare mask v ≡ false) → IsOptionValue c (slice_index values) (length values) v
+    → IsBelow (IsRareBy c (slice_index values) (length values) heaps) (min (len c) (length values) + 1) v
+    ⊎ IsBelow (IsPairBy c (slice_index values) (length values) 1 end) (min (len c) (length values) + 1) v
+marked_option c values mask heaps end v listed enough option =
+    let g = slice_index values in
+    let by = option_by c g (length values) v option in
+    let o = by.2 in
+    elim (cases_eq o.a 0) [
+      | inl none ↦ inl (by.0, by.1, (o, inl none))
+      | inr some ↦ elim enough [
+        | inl all ↦ inr (by.0, by.1, (o, omega arith, omega (arith, o.parts.ordered, o.parts.total)))
+        | inr common ↦
+            let masked = some-of_common mask v common in
+            let held_b = o.parts.smaller in
+            elim (cases_Bool (is_rare mask (g o.a))) [
+              | inl rare ↦ inl (by.0, by.1, (o, inr (inl (listed masked o.a (omega arith) (omega (arith, o.parts.ordered, held_b)) rare))))
+              | inr not_a ↦ elim (cases_Bool (is_rare mask (g o.b))) [
+                | inl rare ↦ inl (by.0, by.1, (o, inr (inr (listed masked o.b (omega (arith, o.parts.ordered)) held_b rare))))
+                | inr not_b ↦ absurd (false≢true (sym common ∙ ap (is_rare mask) o.is ∙ rare-of_common mask (g o.a) (g o.b) not_a not_b))
+              ]
+            ]
+      ]
+    ]
+
+-- the first place that is not marked, once all pairs are or it is common
+pub mex_from_marks : (c : Code) (values : List ℕ) (mask : ℕ) (heaps : List ℕ) (m size end : ℕ) (first marks : List Bool) → IsTableFor values size
+    → ListsRare mask values (length values) heaps
+    → AddsMarks (replicate size false) first (IsBelow (IsRareBy c (slice_index values) (length values) heaps) (min (len c) (length values) + 1))
+    → AddsMarks first marks (IsBelow (IsPairBy c (slice_index values) (length values) 1 end) (min (len c) (length values) + 1))
+    → (length values / 2 < end) ⊎ (is_rare mask m ≡ false)
+    → m ≤ length marks → ((v : ℕ) → v < m → IsMarked marks v) → (m < length marks → IsMarked marks m → ⊥)
+    → IsMex (IsOptionValue c (slice_index values) (length values)) m
+mex_from_marks c values mask heaps m size end first marks table listed rare pairs enough within low none =
+    let g = slice_index values in
+    let n = length values in
+    let sized_first : length first ≡ size = rare.size ∙ length-replicate size false in
+    let sized : length marks ≡ size = pairs.size ∙ sized_first in
+    record {
+      excluded = λ o.
+          let inside : m < size = option_within c values size m table o in
+          let in_first = rare.marked m (omega (arith, length-replicate size false)) in
+          let in_marks = pairs.marked m (omega arith) in
+          none (omega arith) (elim (marked_option c values mask heaps end m listed enough o) [
+            | inl before ↦ in_marks.1 (inl (in_first.1 (inr before)))
+            | inr round ↦ in_marks.1 (inr round)
+          ]);
+      below = λ v l. elim ((pairs.marked v (omega arith)).0 (low v l)) [
+        | inl before ↦ elim ((rare.marked v (omega (arith, length-replicate size false))).0 before) [
+          | inl old ↦ absurd (false≢true (sym (get_or-replicate size v false false (omega arith)) ∙ old))
+          | inr o ↦ option_from_by c g n o.0 v o.2.0
+        ]
+        | inr o ↦ option_from_by c g n o.0 v o.2.0
       ];
     }
 

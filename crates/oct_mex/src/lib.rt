@@ -9,13 +9,15 @@
 //!     values.as_slice()                                 // 0 1 2 3 1 4 3 2
 //!
 //! - `Values` is a code and the list of its first nim-values. Room is made ahead, and within it nothing can fail.
+//! - In most games few heaps have values of a rare kind, and the options with such a heap settle the mex: `rare`.
 //! - `first_difference` compares two lists of claimed and true values.
-//! - `laws` says what holds of the nim-values of all heaps: the periodicity theorem above all.
+//! - `laws` says what holds of the moves and the nim-values of all heaps: the periodicity theorem above all.
 #![tactic(auto)]
 
 mod difference;
 pub mod laws;
 mod marks;
+mod rare;
 mod values;
 
 pub use difference::first_difference;

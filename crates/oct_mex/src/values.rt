@@ -5,6 +5,7 @@ ghost use Rattle.std.specs.List.{All};
 ghost use Rattle.oct_mex.specs.NimValues.{nim_values, nim_value};
 
 use crate::marks::{next_value, table_len};
+use crate::rare::Rare;
 use oct_code::{Code, LIMIT};
 use std::alloc::{AllocError, Allocator};
 use std::marker::Model;
@@ -18,6 +19,7 @@ pub struct Values<A: Allocator + Copy> {
     room: usize,
     // The part of the table of marks that is used: a power of two above each value.
     used: usize,
+    rare: Rare<A>,
 }
 
 impl<A: Allocator + Copy> Model for Values<A> {
@@ -43,6 +45,7 @@ impl<A: Allocator + Copy> Values<A> {
             marks: Vec::new(alloc),
             room: 0,
             used: 1,
+            rare: Rare::new(alloc),
         }
     }
 
@@ -87,6 +90,7 @@ impl<A: Allocator + Copy> Values<A> {
         if self.room < count {
             self.values.reserve(count - self.values.len())?;
             self.marks.resize(table_len(&self.code, count), false)?;
+            self.rare.room_to(count)?;
             self.room = count;
         }
         Ok(())
@@ -98,8 +102,16 @@ impl<A: Allocator + Copy> Values<A> {
         ensures { self.new ≡ record self.old { len = max count self.old.len } }
     {
         while self.values.len() < count {
-            let value = next_value(&self.code, &self.values, &mut self.marks, self.used);
+            let value = next_value(
+                &self.code,
+                &self.values,
+                self.rare.mask,
+                &self.rare.heaps,
+                &mut self.marks,
+                self.used,
+            );
             self.values.push_reserved(value);
+            self.rare.follow(&self.values, self.used);
             if value as usize == self.used {
                 self.used *= 2;
             }
@@ -129,6 +141,7 @@ impl<A: Allocator + Copy> Values<A> {
             marks: Vec::from_slice(alloc, &self.marks)?,
             room: self.room,
             used: self.used,
+            rare: self.rare.copy(alloc, self.room)?,
         })
     }
 }

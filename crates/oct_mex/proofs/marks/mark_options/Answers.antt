@@ -1,4 +1,4 @@
-use Rattle.std.proofs.Common.{◌-◌, ◌/◌, ◌+◌, length, slice_index, sym, ◌∙◌}
+use Rattle.std.proofs.Common.{◌-◌, ◌/◌, ◌+◌, length, slice_index, sym, ◌∙◌, arith}
 use Rattle.std.proofs.lemmas.Bool.{false≢true}
 use Rattle.oct_mex.specs.Marks.{IsOneHeapBy, IsOptionBy, IsPairValue}
 use Rattle.oct_mex.proofs.Marking.{AddsMarks-then, AddsMarks-as, option_cases, pair_option, option_one}
@@ -11,9 +11,10 @@ returns-then-allows c =
     let n = length c.args.values.now in
     let r = c.args.removed in
     AddsMarks-then c.args.marks.now c.mark_one_heap.new.marks c.mark_pairs.new.marks
-    (IsOneHeapBy code g n r) (IsPairValue g (n - r) ((n - r) / 2 + 1)) (IsOptionBy code g n r)
+    (IsOneHeapBy code g n r) (IsPairValue g (n - r) 1 ((n - r) / 2 + 1)) (IsOptionBy code g n r)
     c.mark_one_heap.ensures c.mark_pairs.ensures
-    (λ v o. option_cases code g n r v c.requires.held o) (λ v o. o.0) (λ v o. pair_option code g n r v c.requires.held c.requires.few (sym c.if-allows.ensures) o)
+    (λ v o. option_cases code g n r v c.requires.held o) (λ v o. o.0)
+    (λ v o. (pair_option code g n r 1 ((n - r) / 2 + 1) v c.requires.held c.requires.few (sym c.if-allows.ensures) (omega arith) o).0)
 
 pub returns-else-allows : goal.returns-else-allows
 returns-else-allows c =

@@ -21,9 +21,11 @@ invariant_of-self-then-self-count g c =
       few_used = omega (arith, wide, kept.few_used);
       table = λ some. omega (arith, c.in_ok-resize.ensures.len, c.table_len.ensures.value);
       limited = c.requires;
+      rare = rw (c.in_ok-reserve.ensures.items, c.in_ok-reserve.ensures.len, c.in_ok-room_to.ensures.mask, c.in_ok-room_to.ensures.heaps) kept.rare;
+      rare_room = c.in_ok-room_to.ensures.room;
     }
 
-pub returns-in_ok-resize-clause-ok : goal.returns-in_ok-resize-clause-ok
-returns-in_ok-resize-clause-ok g c =
+pub returns-in_ok-room_to-clause-ok : goal.returns-in_ok-room_to-clause-ok
+returns-in_ok-room_to-clause-ok g c =
     held_is (ap (λ (k : Held). k.code) c.self.view_is) (c.in_ok-reserve.ensures.len ∙ ap (λ (k : Held). k.len) c.self.view_is)
     (omega (arith, c.if-self-count.true, ap (λ (k : Held). k.room) c.self.view_is))
