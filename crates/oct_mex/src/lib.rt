@@ -10,6 +10,7 @@
 //!
 //! - `Values` is a code and the list of its first nim-values. Room is made ahead, and within it nothing can fail.
 //! - In most games few heaps have values of a rare kind, and the options with such a heap settle the mex: `rare`.
+//! - Once they show a period that holds for ever, the further values are copied.
 //! - `first_difference` compares two lists of claimed and true values.
 //! - `laws` says what holds of the moves and the nim-values of all heaps: the periodicity theorem above all.
 #![tactic(auto)]
@@ -17,8 +18,10 @@
 mod difference;
 pub mod laws;
 mod marks;
+mod period;
 mod rare;
 mod values;
 
 pub use difference::first_difference;
+pub use period::SeenPeriod;
 pub use values::Values;

@@ -1,14 +1,20 @@
 //! The first nim-values of a game.
 
-ghost use Rattle.std.specs.Prelude.{◌≡◌, ◌^◌, ◌<◌, ◌≤◌, max, length, IfOk, IfSome, OnErr, OnOk, SomeIff};
+ghost use Rattle.std.specs.Prelude.{◌≡◌, ◌+◌, ◌*◌, ◌^◌, ◌<◌, ◌≤◌, max, length, IfOk, IfSome, OnErr, OnOk, SomeIff};
 ghost use Rattle.std.specs.List.{All};
+ghost use Rattle.oct_code.specs.Code as octal;
 ghost use Rattle.oct_mex.specs.NimValues.{nim_values, nim_value};
+ghost use Rattle.oct_mex.specs.Periods.{IsPeriodicFrom};
 
 use crate::marks::{next_value, table_len};
+use crate::period::{SeenPeriod, seen_period};
 use crate::rare::Rare;
 use oct_code::{Code, LIMIT};
 use std::alloc::{AllocError, Allocator};
 use std::marker::Model;
+
+// Fewer values are not searched for a period.
+const FIRST_LOOK: usize = 64;
 
 /// The nim-values of the heaps 0, 1, .. of a game, as far as they are computed, and room for more of them.
 #[derive(Drop)]
@@ -20,6 +26,8 @@ pub struct Values<A: Allocator + Copy> {
     // The part of the table of marks that is used: a power of two above each value.
     used: usize,
     rare: Rare<A>,
+    // A period with which the values go on, or 0 while none is seen.
+    period: usize,
 }
 
 impl<A: Allocator + Copy> Model for Values<A> {
@@ -46,6 +54,7 @@ impl<A: Allocator + Copy> Values<A> {
             room: 0,
             used: 1,
             rare: Rare::new(alloc),
+            period: 0,
         }
     }
 
@@ -101,7 +110,33 @@ impl<A: Allocator + Copy> Values<A> {
         requires { count ≤ self.old.room }
         ensures { self.new ≡ record self.old { len = max count self.old.len } }
     {
-        while self.values.len() < count {
+        for _ in self.values.len()..count {
+            self.look_for_period();
+            self.push_next();
+        }
+    }
+
+    // Looks for a period, at lengths that grow by a third or a half, until one is seen.
+    fn look_for_period(&mut self)
+        ensures { self.new ≡ self.old }
+    {
+        if self.period == 0 && is_looked_at(self.values.len()) {
+            if let Some(seen) = seen_period(&self.code, &self.values) {
+                self.period = seen.period;
+            }
+        }
+    }
+
+    // Adds the next value: the one a period before, or else the mex.
+    fn push_next(&mut self)
+        requires { self.old.len < self.old.room }
+        ensures { self.new ≡ record self.old { len = self.old.len + 1 } }
+    {
+        if self.period > 0 {
+            let value = self.values[self.values.len() - self.period];
+            self.values.push_reserved(value);
+            self.rare.follow(&self.values, self.used);
+        } else {
             let value = next_value(
                 &self.code,
                 &self.values,
@@ -129,6 +164,17 @@ impl<A: Allocator + Copy> Values<A> {
         Ok(())
     }
 
+    /// A period that the values show so far that it holds for ever: twice the heap from which on it is seen, twice the
+    /// period and the number of digits are at most as many as the values. `None` says only that the search found none.
+    pub fn find_period(&self) -> Option<SeenPeriod>
+        ensures start { IfSome result (λ seen. 1 ≤ seen.start) }
+        ensures period { IfSome result (λ seen. 1 ≤ seen.period) }
+        ensures shown { IfSome result (λ seen. 2 * seen.start + 2 * seen.period + octal.len self.now.code ≤ self.now.len) }
+        ensures holds { IfSome result (λ seen. IsPeriodicFrom self.now.code seen.start seen.period) }
+    {
+        seen_period(&self.code, &self.values)
+    }
+
     /// The same values with the same room, in memory of `alloc`. From there on each of the two grows on its own.
     pub fn copy(&self, alloc: A) -> Result<Values<A>, AllocError>
         ensures { IfOk result (λ copy. copy ≡ self.now) }
@@ -142,6 +188,12 @@ impl<A: Allocator + Copy> Values<A> {
             room: self.room,
             used: self.used,
             rare: self.rare.copy(alloc, self.room)?,
+            period: self.period,
         })
     }
+}
+
+// Whether a period is looked for at a length: a power of two, or half as much again.
+fn is_looked_at(len: usize) -> bool {
+    len >= FIRST_LOOK && (len.is_power_of_two() || len % 3 == 0 && (len / 3).is_power_of_two())
 }

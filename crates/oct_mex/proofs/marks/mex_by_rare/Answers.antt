@@ -1,4 +1,4 @@
-use Rattle.std.proofs.Common.{◌≡◌, ◌+◌, ◌*◌, ◌/◌, ◌<◌, ◌⊎◌, inl, inr, false, length, slice_index, replicate, arith, min, sym, subst}
+use Rattle.std.proofs.Common.{◌≡◌, ◌+◌, ◌*◌, inl, inr, false, length, slice_index, replicate, arith, min, sym, subst}
 use Rattle.oct_code.specs.Code.{len}
 use Rattle.oct_mex.specs.Marks.{AddsMarks, IsBelow, IsRareBy}
 use Rattle.oct_mex.proofs.Marking.{rounds_more, mex_from_marks}

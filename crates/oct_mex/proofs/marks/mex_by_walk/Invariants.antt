@@ -1,4 +1,4 @@
-use Rattle.std.proofs.Common.{ℕ, ◌<◌, length, slice_index}
+use Rattle.std.proofs.Common.{length, slice_index}
 use Rattle.oct_mex.specs.Marks.{AddsMarks, IsBelow, IsOptionBy}
 use Rattle.oct_mex.proofs.marks.mex_by_walk.Given as goal
 

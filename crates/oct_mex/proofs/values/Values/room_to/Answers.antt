@@ -23,6 +23,7 @@ invariant_of-self-then-self-count g c =
       limited = c.requires;
       rare = rw (c.in_ok-reserve.ensures.items, c.in_ok-reserve.ensures.len, c.in_ok-room_to.ensures.mask, c.in_ok-room_to.ensures.heaps) kept.rare;
       rare_room = c.in_ok-room_to.ensures.room;
+      periodic = rw c.in_ok-reserve.ensures.len kept.periodic;
     }
 
 pub returns-in_ok-room_to-clause-ok : goal.returns-in_ok-room_to-clause-ok

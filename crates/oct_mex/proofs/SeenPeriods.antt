@@ -1,0 +1,38 @@
+-- A period that a list of nim-values shows.
+use Rattle.std.proofs.Common.{◌≡◌, ℕ, suc, ◌+◌, ◌-◌, ◌*◌, ◌<◌, ◌≤◌, ◌++◌, ◌∷◌, [], List, length, slice_index, sym, ap, ap₂, ◌∙◌, arith}
+use Rattle.oct_code.specs.Code.{Code, len}
+use Rattle.oct_mex.specs.NimValues.{nim_values, nim_value}
+use Rattle.oct_mex.specs.Periods.{GoesOn, IsPeriodicFrom}
+use Rattle.oct_mex.proofs.NimValues.{nim_values-at, nim_value-eq}
+use Rattle.oct_mex.proofs.Periods.{seen_periods_hold}
+
+-- a value of the list
+value_at : (c : Code) (values : List ℕ) → values ≡ nim_values c (length values) → (n : ℕ) → n < length values → slice_index values n ≡ nim_value c n
+value_at c values are n low = ap (λ xs. slice_index xs n) are ∙ nim_values-at c (length values) n low
+
+pub shown_holds : (c : Code) (values : List ℕ) (start period : ℕ) → values ≡ nim_values c (length values) → 1 ≤ start
+    → 2 * start + 2 * period + len c ≤ length values
+    → ((n : ℕ) → start ≤ n → n + period < length values → slice_index values (n + period) ≡ slice_index values n)
+    → IsPeriodicFrom c start period
+shown_holds c values start period are some far again =
+    seen_periods_hold c start period some
+    (λ n low near.
+    sym (value_at c values are (n + period) (omega arith)) ∙ again n low (omega arith) ∙ value_at c values are n (omega arith))
+
+-- a period that holds from a heap on goes on behind one that is a period later
+pub goes_on : (c : Code) (start period held : ℕ) → start + period ≤ held → IsPeriodicFrom c start period → GoesOn c held period
+goes_on c start period held far holds = (omega arith, λ n low. holds n (omega arith))
+
+pub goes_on_further : (c : Code) (held more period : ℕ) → held ≤ more → GoesOn c held period → GoesOn c more period
+goes_on_further c held more period far on = (omega (arith, on.0), λ n low. on.1 n (omega arith))
+
+-- the value one period before is the next one
+pub nim_values-copied : (c : Code) (values : List ℕ) (n period v : ℕ) → values ≡ nim_values c n → 1 ≤ period → GoesOn c n period
+    → v ≡ slice_index values (n - period) → values ++ v ∷ [] ≡ nim_values c (n + 1)
+nim_values-copied c values n period v are some on is =
+    let back : n - period + period ≡ n = omega (arith, on.0) in
+    let value : v ≡ nim_value c n =
+    is ∙ ap (λ xs. slice_index xs (n - period)) are ∙ nim_values-at c n (n - period) (omega (arith, on.0))
+    ∙ sym (on.1 (n - period) (omega arith)) ∙ ap (nim_value c) back in
+    let next : n + 1 ≡ suc n = omega arith in
+    ap₂ (λ xs x. xs ++ x ∷ []) are (value ∙ nim_value-eq c n) ∙ ap (nim_values c) (sym next)
