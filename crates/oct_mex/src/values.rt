@@ -90,11 +90,13 @@ impl<A: Allocator + Copy> Values<A> {
         self.room
     }
 
-    /// Makes room for the nim-values of `count` heaps, at most `LIMIT`. Without memory nothing changes.
+    /// Makes room for the nim-values of `count` heaps, at most `LIMIT`. Without memory nothing changes; within the room that
+    /// is there none is taken.
     pub fn room_to(&mut self, count: usize) -> Result<(), AllocError>
         requires { count ≤ LIMIT }
         ensures ok { OnOk result (self.new ≡ record self.old { room = max count self.old.room }) }
         ensures err { OnErr result (self.new ≡ self.old) }
+        ensures short { OnErr result (self.old.room < count) }
     {
         if self.room < count {
             self.values.reserve(count - self.values.len())?;
@@ -153,11 +155,13 @@ impl<A: Allocator + Copy> Values<A> {
         }
     }
 
-    /// Computes the nim-values of `count` heaps, at most `LIMIT`. Without memory nothing changes.
+    /// Computes the nim-values of `count` heaps, at most `LIMIT`. Without memory nothing changes; within the room that is
+    /// there none is taken.
     pub fn extend_to(&mut self, count: usize) -> Result<(), AllocError>
         requires { count ≤ LIMIT }
         ensures ok { OnOk result (self.new ≡ record { code = self.old.code; len = max count self.old.len; room = max count self.old.room }) }
         ensures err { OnErr result (self.new ≡ self.old) }
+        ensures short { OnErr result (self.old.room < count) }
     {
         self.room_to(count)?;
         self.extend_within(count);
