@@ -1,10 +1,10 @@
 -- Bytes of any number of frames, taken one part after another.
-use Rattle.std.proofs.Common.{◌≡◌, [], ◌∷◌, ◌++◌, length, refl, sym, ap, ◌∙◌, subst, append_assoc}
+use Rattle.std.proofs.Common.{◌≡◌, ◌≤◌, [], ◌∷◌, ◌++◌, length, refl, sym, ap, ◌∙◌, subst, append_assoc}
 use Rattle.std.proofs.lemmas.List.{append-nil}
 use Rattle.oct_delta.specs.Text.{Bytes}
 use Rattle.oct_ops.specs.Operations.{Operations}
 use Rattle.oct_sync.specs.Frames.{split_frames}
-use Rattle.oct_sync.specs.Session.{IsDone, Session, Point, fed, on_split}
+use Rattle.oct_sync.specs.Session.{IsDone, Session, Point, fed, on_split, wanted}
 use Rattle.oct_sync.specs.SessionState.{Fails, IsState, standing_of}
 use Rattle.oct_sync.specs.Standing.{Ends, IsAt, IsRest, Known, Standing, ended}
 use Rattle.oct_sync.specs.declared.error.SyncError.{SyncError}
@@ -47,17 +47,17 @@ module _ (role : Role) (p : Point) (piece rest y later : Bytes) (s : Standing) (
       ∙ ap (λ (t : Session). on_split role t (split_frames (q.rest ++ later))) e
       ∙ split_failed role (ended f held' sent') f (split_frames (q.rest ++ later))
 
-  pub failed_there : (f : SyncError) (held' : Operations) (sent' : Bytes) → Fails role (fed role p m.front) y f held' sent' → Ends role p piece f held' sent'
-  failed_there fault.Frame held' sent' e = ends_with fault.Frame held' sent' e
-  failed_there fault.Order held' sent' e = ends_with fault.Order held' sent' e
-  failed_there fault.Clock held' sent' e = ends_with fault.Clock held' sent' e
-  failed_there fault.Delta held' sent' e = ends_with fault.Delta held' sent' e
-  failed_there fault.OutOfMemory held' sent' e = record { before = m.front; here = y; after = later; cut = cut_in; held_is = e.held_is; sent_is = e.sent_is }
-  failed_there fault.Failed held' sent' e = e
-  failed_there fault.Cut held' sent' e = ends_with fault.Cut held' sent' e
-  failed_there fault.Read held' sent' e = ends_with fault.Read held' sent' e
-  failed_there fault.Write held' sent' e = ends_with fault.Write held' sent' e
-  failed_there fault.Turns held' sent' e = ends_with fault.Turns held' sent' e
+  pub failed_there : 1 ≤ length y → length y ≤ wanted (fed role p m.front) → (f : SyncError) (held' : Operations) (sent' : Bytes) → Fails role (fed role p m.front) y f held' sent' → Ends role p piece f held' sent'
+  failed_there some fits fault.Frame held' sent' e = ends_with fault.Frame held' sent' e
+  failed_there some fits fault.Order held' sent' e = ends_with fault.Order held' sent' e
+  failed_there some fits fault.Clock held' sent' e = ends_with fault.Clock held' sent' e
+  failed_there some fits fault.Delta held' sent' e = ends_with fault.Delta held' sent' e
+  failed_there some fits fault.OutOfMemory held' sent' e = record { before = m.front; here = y; after = later; cut = cut_in; some = some; fits = fits; held_is = e.held_is; sent_is = e.sent_is }
+  failed_there some fits fault.Failed held' sent' e = e
+  failed_there some fits fault.Cut held' sent' e = e
+  failed_there some fits fault.Read held' sent' e = e
+  failed_there some fits fault.Write held' sent' e = e
+  failed_there some fits fault.Turns held' sent' e = e
 
 pub arrived : (role : Role) (p : Point) (piece rest : Bytes) (s : Standing) (held : Operations) (sent : Bytes) → Moved role p piece rest s held sent → rest ≡ [] → IsAt role s held sent (fed role p piece)
 arrived role p piece rest s held sent m none = subst (λ z. IsAt role s held sent (fed role p z)) (sym (append-nil m.front) ∙ ap (λ z. m.front ++ z) (sym none) ∙ sym m.cut) m.at

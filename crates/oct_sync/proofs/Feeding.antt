@@ -3,11 +3,20 @@ use Rattle.std.proofs.Common.{◌≡◌, Option, Some, None, sym, subst}
 use Rattle.oct_delta.specs.Text.{Bytes}
 use Rattle.oct_ops.specs.Operations.{Operations}
 use Rattle.oct_sync.specs.Session.{Point, fed}
-use Rattle.oct_sync.specs.SessionState.{standing_of}
-use Rattle.oct_sync.specs.Standing.{Ends, IsAt, Standing, StandsAt}
+use Rattle.oct_sync.specs.SessionState.{phase_of, standing_of}
+use Rattle.oct_sync.specs.Standing.{Ends, HasNotFailed, IsAt, Standing, StandsAt}
 use Rattle.oct_sync.specs.declared.error.SyncError.{SyncError}
 use Rattle.oct_sync.specs.declared.role.Role.{Role}
+use Rattle.oct_sync.specs.declared.state.Due.{Due}
+use Rattle.oct_sync.specs.declared.state.Due.TheVariants as due
 use Rattle.oct_sync.specs.declared.state.State.{State}
+
+-- what is due shows no fault
+pub due_sound : {A : Type 0} (d : Due A) → HasNotFailed (phase_of d)
+due_sound due.Clock = tt
+due_sound (due.Deltas t) = tt
+due_sound due.End = tt
+due_sound due.Nothing = tt
 
 -- after a refusal it stands nowhere
 pub nowhere : (old : Option Standing) (held : Operations) (sent : Bytes) {X : Type 0} → old ≡ None → (role : Role) (p : Point) → StandsAt role old held sent p → X

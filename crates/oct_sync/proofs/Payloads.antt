@@ -16,10 +16,10 @@ use Rattle.oct_ops.specs.Body.{Operation}
 use Rattle.oct_ops.specs.Operations.{Operations, set_of, union}
 use Rattle.oct_sync.specs.Session.{Phase, Session, Point, fed, on_due, on_delta}
 use Rattle.oct_sync.specs.SessionState.{IsCounted, IsDeltaFront, IsOpenPhase, kept_by, point}
-use Rattle.oct_sync.specs.Standing.{IsLost, IsRest, ended}
+use Rattle.oct_sync.specs.Standing.{EndsDelta, IsLost, IsRest, ended}
 use Rattle.oct_sync.specs.declared.error.SyncError.TheVariants as fault
 use Rattle.oct_sync.specs.declared.role.Role.{Role}
-use Rattle.oct_sync.proofs.Stepping.{HasPayload, has_payload, payload_is, delta_tagged, delta_whole, fed_whole}
+use Rattle.oct_sync.proofs.Stepping.{HasPayload, has_payload, payload_is, delta_tagged, delta_whole, fed_whole, split_whole}
 
 -- ---- bytes with more bytes after them
 
@@ -123,6 +123,21 @@ pub end_ok : (law : Law) (role : Role) (phase : Phase) (held : Operations) (sent
 end_ok law role phase held sent r y head missing (Some bytes) ops is_open front none rest text some =
     ends law role phase held sent r y head missing (Some bytes) is_open front none (has_payload phase head (r ++ y) missing (Some bytes) front rest) (Some ops) ((law bytes ops front.counted.1).1 text)
 end_ok law role phase held sent r y head missing None ops is_open front none rest text some = absurd (some refl)
+
+-- the frame that it ends, and the operations of its payload
+pub ends_delta : (law : Law) (role : Role) (phase : Phase) (held : Operations) (sent r y head : Bytes) (missing : ℕ) (known : Option Bytes) (ops : List Operation) → IsOpenPhase phase → IsDeltaFront phase head missing known → missing ≡ 0
+    → IsRest (kept_by head missing known) (r ++ y) → IfSome known (λ bytes. IsDeltaText bytes ops) → (known ≡ None → ⊥) → EndsDelta role (point phase held sent r) y ops
+ends_delta law role phase held sent r y head missing (Some bytes) ops is_open front none rest text some =
+    let b = r ++ y in
+    let has = has_payload phase head b missing (Some bytes) front rest in
+    record {
+      payload = bytes;
+      frame = split_whole phase b (delta_whole phase head b missing (Some bytes) front has none)
+          ∙ (λ i. record { frames = record { tag = delta_tagged phase head b missing (Some bytes) front has i; payload = payload_is phase head b missing (Some bytes) front has i } ∷ []; rest = [] });
+      reads = (law bytes ops front.counted.1).1 text;
+      taken = ap (λ (p : Point). p.session.held) (end_ok law role phase held sent r y head missing (Some bytes) ops is_open front none rest text some);
+    }
+ends_delta law role phase held sent r y head missing None ops is_open front none rest text some = absurd (some refl)
 
 -- a delta counts its operations
 pub few_of : (known : Option Bytes) (ops : List Operation) → IfSome known (λ bytes. IsDeltaText bytes ops) → (known ≡ None → ⊥) → length ops < 2 ^ 32

@@ -1,15 +1,16 @@
 -- What holds at each turn of a driver.
-use Rattle.std.proofs.Common.{◌≡◌, ℕ, ◌+◌, [], ◌++◌, take, length, Option, Some, None, refl, sym, ◌∙◌, ap, subst}
+use Rattle.std.proofs.Common.{◌≡◌, ℕ, ◌+◌, ◌≤◌, [], ◌++◌, take, length, Option, Some, None, refl, sym, ◌∙◌, ap, subst, append_assoc, inl, inr}
 use Rattle.std.specs.Io.KnownBytes.{Appends, Consumes, Keeps}
 use Rattle.std.proofs.KnownBytes.{Appends-nil, Appends-trans, Consumes-nil, Consumes-trans, Consumes-kept}
 use Rattle.std.proofs.lemmas.List.{append-nil, take_at, drop_at}
 use Rattle.std.proofs.Math.Seq.{take-add}
 use Rattle.oct_delta.specs.Text.{Bytes}
 use Rattle.oct_ops.specs.Operations.{Operations}
-use Rattle.oct_sync.specs.Driven.{Breaks, Completes, IsOutside, Tells, begun}
+use Rattle.oct_sync.specs.Driven.{Breaks, Completes, IsOutside, RunsOut, Tells, begun}
 use Rattle.oct_sync.specs.Output.{AppendsPrefix}
-use Rattle.oct_sync.specs.Session.{Phase, AwaitsClock, AwaitsDeltas, AwaitsEnd, IsDone, HasFailed, Session, Point, fed}
-use Rattle.oct_sync.specs.Standing.{Ends, IsAt, Standing, StandsAt, at_start, ended, progress_in, progress_of}
+use Rattle.oct_sync.specs.Session.{Phase, AwaitsClock, AwaitsDeltas, AwaitsEnd, IsDone, HasFailed, Session, Point, fed, wanted}
+use Rattle.oct_sync.specs.SessionState.{IsOpenPhase}
+use Rattle.oct_sync.specs.Standing.{Ends, HasNotFailed, IsAt, Standing, StandsAt, StandsSound, StopsShort, TakesFirst, at_start, ended, progress_in, progress_of}
 use Rattle.oct_sync.specs.declared.error.SyncError.{SyncError}
 use Rattle.oct_sync.specs.declared.error.SyncError.TheVariants as fault
 use Rattle.oct_sync.specs.declared.progress.Progress.TheVariants.{Done}
@@ -61,17 +62,41 @@ done_at : (role : Role) (s : Option Standing) (held : Operations) (sent : Bytes)
 done_at role None held sent p done at = absurd at
 done_at role (Some s) held sent p done at = ap (λ (t : Session). t.phase) at.session ∙ done_phase s.phase done
 
-tells_outside : (e : SyncError) → IsOutside e → (phase : Phase) → Tells e phase
-tells_outside fault.Frame outside phase = absurd outside
-tells_outside fault.Order outside phase = absurd outside
-tells_outside fault.Clock outside phase = absurd outside
-tells_outside fault.Delta outside phase = absurd outside
-tells_outside fault.OutOfMemory outside phase = absurd outside
-tells_outside fault.Failed outside phase = absurd outside
-tells_outside fault.Cut outside phase = tt
-tells_outside fault.Read outside phase = tt
-tells_outside fault.Write outside phase = tt
-tells_outside fault.Turns outside phase = tt
+-- a frame is due
+open_phase : (phase : Phase) → HasNotFailed phase → (progress_in phase ≡ Done → ⊥) → IsOpenPhase phase
+open_phase AwaitsClock sound more = tt
+open_phase (AwaitsDeltas t) sound more = tt
+open_phase AwaitsEnd sound more = tt
+open_phase IsDone sound more = absurd (more refl)
+open_phase (HasFailed f) sound more = absurd sound
+
+open_at : (role : Role) (s : Option Standing) (held : Operations) (sent : Bytes) (p : Point) → StandsAt role s held sent p → StandsSound s → (progress_of s ≡ Done → ⊥) → IsOpenPhase p.session.phase
+open_at role None held sent p at sound more = absurd at
+open_at role (Some s) held sent p at sound more = subst IsOpenPhase (sym (ap (λ (t : Session). t.phase) at.session)) (open_phase s.phase sound more)
+
+-- no fault was shown
+sound_at : (role : Role) (s : Option Standing) (held : Operations) (sent : Bytes) (p : Point) → StandsAt role s held sent p → StandsSound s → HasNotFailed p.session.phase
+sound_at role None held sent p at sound = absurd at
+sound_at role (Some s) held sent p at sound = subst HasNotFailed (sym (ap (λ (t : Session). t.phase) at.session)) sound
+
+open_sound : (phase : Phase) → IsOpenPhase phase → HasNotFailed phase
+open_sound AwaitsClock is = tt
+open_sound (AwaitsDeltas t) is = tt
+open_sound AwaitsEnd is = tt
+open_sound IsDone is = absurd is
+open_sound (HasFailed f) is = absurd is
+
+tells_outside : (e : SyncError) → IsOutside e → (phase : Phase) → IsOpenPhase phase → Tells e phase
+tells_outside fault.Frame outside phase is = absurd outside
+tells_outside fault.Order outside phase is = absurd outside
+tells_outside fault.Clock outside phase is = absurd outside
+tells_outside fault.Delta outside phase is = absurd outside
+tells_outside fault.OutOfMemory outside phase is = absurd outside
+tells_outside fault.Failed outside phase is = absurd outside
+tells_outside fault.Cut outside phase is = is
+tells_outside fault.Read outside phase is = is
+tells_outside fault.Write outside phase is = open_sound phase is
+tells_outside fault.Turns outside phase is = is
 
 module _ (role : Role) (r r' w w' : Option Bytes) (before : Operations) (s : Option Standing) (held : Operations) (owed : Bytes) (running : IsRunning role r r' w w' before s held owed) where
   abbrev here : Point
@@ -88,11 +113,11 @@ module _ (role : Role) (r r' w w' : Option Bytes) (before : Operations) (s : Opt
   }
 
   -- a part of what is owed is written, and the writer fails
-  pub Breaks-sending : (w'' : Option Bytes) → AppendsPrefix w' w'' owed → Breaks role fault.Write r r' w w'' before held
-  Breaks-sending w'' put = record {
+  pub Breaks-sending : StandsSound s → (w'' : Option Bytes) → AppendsPrefix w' w'' owed → Breaks role fault.Write r r' w w'' before held
+  Breaks-sending sound w'' put = record {
     bytes = running.bytes;
     read = running.read;
-    told = tt;
+    told = sound_at role s held (running.written ++ owed) here running.at sound;
     held_is = sym (held_at role s held (running.written ++ owed) here running.at).0;
     written = (
       length running.written + put.0,
@@ -102,11 +127,11 @@ module _ (role : Role) (r r' w w' : Option Bytes) (before : Operations) (s : Opt
   }
 
   -- the reader fails, and keeps what it has
-  pub Breaks-reading : (e : SyncError) → IsOutside e → (r'' : Option Bytes) → Keeps r' r'' → Breaks role e r r'' w w' before held
-  Breaks-reading e outside r'' kept = record {
+  pub Breaks-reading : StandsSound s → (progress_of s ≡ Done → ⊥) → (e : SyncError) → IsOutside e → (r'' : Option Bytes) → Keeps r' r'' → Breaks role e r r'' w w' before held
+  Breaks-reading sound more e outside r'' kept = record {
     bytes = running.bytes;
     read = Consumes-kept r r' r'' running.bytes running.read kept;
-    told = tells_outside e outside here.session.phase;
+    told = tells_outside e outside here.session.phase (open_at role s held (running.written ++ owed) here running.at sound more);
     held_is = sym (held_at role s held (running.written ++ owed) here running.at).0;
     written = (
       length running.written,
@@ -147,6 +172,26 @@ past_at : (role : Role) (s : Option Standing) (held : Operations) (written owed 
 past_at role None held written owed q at = at
 past_at role (Some s) held written owed q at = record { role_is = at.role_is; session = ap (past written) at.session; rest = at.rest }
 
+-- the same point, of a session that had sent these bytes before
+abbrev with_written : Bytes → Point → Point
+with_written written q = record { session = past written q.session; rest = q.rest }
+
+first_with : (role : Role) (written : Bytes) (q : Point) (bytes : Bytes) (held : Operations) → TakesFirst role q bytes held → TakesFirst role (with_written written q) bytes held
+first_with role written q bytes held first = record {
+  ops = first.ops;
+  count = first.count;
+  is = first.is;
+  whole = elim first.whole [
+    | inl none ↦ inl none
+    | inr ends ↦ inr (record {
+      payload = ends.payload;
+      frame = ends.frame;
+      reads = ends.reads;
+      taken = ap (λ (p : Point). p.session.held) (fed_past written role q.session q.rest bytes) ∙ ends.taken;
+    })
+  ];
+}
+
 pub ends_session : (role : Role) (q : Point) (piece : Bytes) (e : SyncError) (held : Operations) (sent : Bytes) → (e ≡ fault.OutOfMemory → ⊥) → Ends role q piece e held sent → (fed role q piece).session ≡ ended e held sent
 ends_session role q piece fault.Frame held sent m h = h
 ends_session role q piece fault.Order held sent m h = h
@@ -154,10 +199,10 @@ ends_session role q piece fault.Clock held sent m h = h
 ends_session role q piece fault.Delta held sent m h = h
 ends_session role q piece fault.OutOfMemory held sent m h = absurd (m refl)
 ends_session role q piece fault.Failed held sent m h = absurd h
-ends_session role q piece fault.Cut held sent m h = h
-ends_session role q piece fault.Read held sent m h = h
-ends_session role q piece fault.Write held sent m h = h
-ends_session role q piece fault.Turns held sent m h = h
+ends_session role q piece fault.Cut held sent m h = absurd h
+ends_session role q piece fault.Read held sent m h = absurd h
+ends_session role q piece fault.Write held sent m h = absurd h
+ends_session role q piece fault.Turns held sent m h = absurd h
 
 tells_ended : (role : Role) (q : Point) (piece : Bytes) (e : SyncError) (held : Operations) (sent : Bytes) → (e ≡ fault.OutOfMemory → ⊥) → Ends role q piece e held sent
     → (phase : Phase) → phase ≡ HasFailed e → Tells e phase
@@ -167,18 +212,21 @@ tells_ended role q piece fault.Clock held sent m h phase is = is
 tells_ended role q piece fault.Delta held sent m h phase is = is
 tells_ended role q piece fault.OutOfMemory held sent m h phase is = absurd (m refl)
 tells_ended role q piece fault.Failed held sent m h phase is = absurd h
-tells_ended role q piece fault.Cut held sent m h phase is = tt
-tells_ended role q piece fault.Read held sent m h phase is = tt
-tells_ended role q piece fault.Write held sent m h phase is = tt
-tells_ended role q piece fault.Turns held sent m h phase is = tt
+tells_ended role q piece fault.Cut held sent m h phase is = absurd h
+tells_ended role q piece fault.Read held sent m h phase is = absurd h
+tells_ended role q piece fault.Write held sent m h phase is = absurd h
+tells_ended role q piece fault.Turns held sent m h phase is = absurd h
 
 module _ (role : Role) (r r' r'' w w' : Option Bytes) (before : Operations) (s : Option Standing) (held : Operations) (none piece : Bytes) (running : IsRunning role r r' w w' before s held []) (quiet : none ≡ []) (read : Consumes r' r'' piece) where
   abbrev now : Point
   now = fed role (record { session = begun role before; rest = [] }) running.bytes
 
-  whole : fed role (record { session = begun role before; rest = [] }) (running.bytes ++ piece) ≡ record { session = past running.written (fed role (unsent none now) piece).session; rest = (fed role (unsent none now) piece).rest }
-  whole = sym (any_cutting role (record { session = begun role before; rest = [] }) running.bytes piece)
-      ∙ with_past role running.written none now piece quiet (held_at role s held (running.written ++ []) now running.at).1
+  whole_of : (part : Bytes) → fed role (record { session = begun role before; rest = [] }) (running.bytes ++ part) ≡ with_written running.written (fed role (unsent none now) part)
+  whole_of part = sym (any_cutting role (record { session = begun role before; rest = [] }) running.bytes part)
+      ∙ with_past role running.written none now part quiet (held_at role s held (running.written ++ []) now running.at).1
+
+  whole : fed role (record { session = begun role before; rest = [] }) (running.bytes ++ piece) ≡ with_written running.written (fed role (unsent none now) piece)
+  whole = whole_of piece
 
   pub IsRunning-fed : (s' : Option Standing) (held' : Operations) (owed : Bytes) → ((t : Role) (p : Point) → StandsAt t s held none p → StandsAt t s' held' owed (fed t p piece)) → IsRunning role r r'' w w' before s' held' owed
   IsRunning-fed s' held' owed feeds = record {
@@ -189,6 +237,32 @@ module _ (role : Role) (r r' r'' w w' : Option Bytes) (before : Operations) (s :
     at = subst (λ p. StandsAt role s' held' (running.written ++ owed) p) (sym whole)
         (past_at role s' held' running.written owed (fed role (unsent none now) piece) (feeds role (unsent none now) (unsent_at role s held (running.written ++ []) none now running.at)));
   }
+
+  pub RunsOut-feeding : (e : SyncError) (held' : Operations) (owed : Bytes) → e ≡ fault.OutOfMemory → ((t : Role) (p : Point) → StandsAt t s held none p → Ends t p piece e held' owed) → RunsOut role r r'' w w' before held'
+  RunsOut-feeding e held' owed memory feeds =
+      let stop : StopsShort role (unsent none now) piece held' owed = subst (λ e. Ends role (unsent none now) piece e held' owed) memory (feeds role (unsent none now) (unsent_at role s held (running.written ++ []) none now running.at)) in
+      let q : Point = fed role (unsent none now) stop.before in
+      let there : fed role (record { session = begun role before; rest = [] }) (running.bytes ++ stop.before) ≡ with_written running.written q = whole_of stop.before in
+      let sent = (fed role (record { session = begun role before; rest = [] }) (running.bytes ++ stop.before)).session.sent in
+      record {
+        bytes = running.bytes ++ piece;
+        sent = sent;
+        read = Consumes-trans r r' r'' running.bytes piece running.read read;
+        stops = record {
+          before = running.bytes ++ stop.before;
+          here = stop.here;
+          after = stop.after;
+          cut = ap (λ z. running.bytes ++ z) stop.cut ∙ sym (append_assoc running.bytes stop.before (stop.here ++ stop.after));
+          some = stop.some;
+          fits = subst (λ (p : Point). length stop.here ≤ wanted p) (sym there) stop.fits;
+          held_is = subst (λ (p : Point). TakesFirst role p stop.here held') (sym there) (first_with role running.written q stop.here held' stop.held_is);
+          sent_is = refl;
+        };
+        written = (
+          length running.written,
+          subst (λ z. Appends w w' z) (sym (ap (λ (p : Point). take (length running.written) p.session.sent) there ∙ take_at running.written q.session.sent (length running.written) refl)) running.put,
+        );
+      }
 
   pub Breaks-feeding : (e : SyncError) (held' : Operations) (owed : Bytes) → (e ≡ fault.OutOfMemory → ⊥) → ((t : Role) (p : Point) → StandsAt t s held none p → Ends t p piece e held' owed) → Breaks role e r r'' w w' before held'
   Breaks-feeding e held' owed memory feeds =

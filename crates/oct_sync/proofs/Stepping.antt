@@ -1,5 +1,5 @@
 -- What the bytes of one frame do, as they come.
-use Rattle.std.proofs.Common.{◌≡◌, ℕ, zero, suc, ◌+◌, ◌-◌, ◌<◌, ◌≤◌, Bool, true, false, ◌&&◌, [], ◌++◌, length, take, drop, leb, ltb, Option, Some, None, refl, sym, ap, ◌∙◌, subst, inl, arith}
+use Rattle.std.proofs.Common.{◌≡◌, ℕ, zero, suc, ◌+◌, ◌-◌, ◌<◌, ◌≤◌, Bool, true, false, ◌&&◌, [], ◌∷◌, ◌++◌, length, take, drop, leb, ltb, Option, Some, None, refl, sym, ap, ◌∙◌, subst, inl, arith}
 use Rattle.std.proofs.lemmas.Bool.{leb-true, leb-false, le-leb}
 use Rattle.std.proofs.lemmas.List.{length-drop, length-append, take_all, drop_all, append-nil}
 use Rattle.std.proofs.Math.Seq.{drop-append_seam}
@@ -60,6 +60,25 @@ open_where (HasFailed f) frame n some fits = absurd (omega (arith, some, fits))
 after_split : Role → Session → Split → Point
 after_split role s split = record { session = on_split role s split; rest = split.rest }
 
+-- a whole frame has some length
+w_some : (phase : Phase) (b : Bytes) → IsWholeFrame phase b → 1 ≤ length_field b
+w_some phase b w = let long = w.long in let ends = w.ends in omega (arith, long, ends)
+
+begun : (phase : Phase) (b : Bytes) → IsWholeFrame phase b → begins_whole b ≡ true
+begun phase b w = parts_whole b (record { long = w.long; is = w.is; some = w_some phase b w; fits = let ends = w.ends in omega (arith, ends) })
+
+-- one frame, and nothing after it
+pub split_whole : (phase : Phase) (b : Bytes) → IsWholeFrame phase b → split_frames b ≡ record { frames = record { tag = tag_field b; payload = drop 5 b } ∷ []; rest = [] }
+split_whole phase b w =
+    let long = w.long in
+    let ends = w.ends in
+    let left : length (drop 5 b) ≡ length b - 5 = length-drop 5 b in
+    let payload : take (length_field b - 1) (drop 5 b) ≡ drop 5 b = take_all (length_field b - 1) (drop 5 b) (omega (arith, left, ends)) in
+    let nothing : drop (4 + length_field b) b ≡ [] = drop_all (4 + length_field b) b (omega (arith, ends)) in
+    split_is b ∙ ap (step (length b) b) (begun phase b w)
+    ∙ (λ i. with_first (record { tag = tag_field b; payload = payload i }) (split_within (length b) (nothing i)))
+    ∙ ap (with_first (record { tag = tag_field b; payload = drop 5 b })) (split_nothing (length b))
+
 module _ (role : Role) (phase : Phase) (held : Operations) (sent r y b : Bytes) (is_open : IsOpenPhase phase) (whole : r ++ y ≡ b) where
   abbrev now : Session
   now = record { phase = phase; held = held; sent = sent }
@@ -79,27 +98,13 @@ module _ (role : Role) (phase : Phase) (held : Operations) (sent r y b : Bytes) 
       let is = opened phase role held sent is_open in
       let long = w.long in
       let ends = w.ends in
-      let lengths = w.is in
       let left : length (drop 5 b) ≡ length b - 5 = length-drop 5 b in
-      let is_whole : begins_whole b ≡ true = begun b w in
-      let payload : take (length_field b - 1) (drop 5 b) ≡ drop 5 b = take_all (length_field b - 1) (drop 5 b) (omega (arith, left, ends)) in
-      let nothing : drop (4 + length_field b) b ≡ [] = drop_all (4 + length_field b) b (omega (arith, ends)) in
       let f : Frame = record { tag = tag_field b; payload = drop 5 b } in
-      let splits : split_frames b ≡ with_first f (record { frames = []; rest = [] }) =
-      split_is b ∙ ap (step (length b) b) is_whole
-      ∙ (λ i. with_first (record { tag = tag_field b; payload = payload i }) (split_within (length b) (nothing i)))
-      ∙ ap (with_first f) (split_nothing (length b)) in
-      let some : 1 ≤ length_field b = w_some b w in
+      let some : 1 ≤ length_field b = w_some phase b w in
       let counted : 1 + length (drop 5 b) ≡ length_field b = omega (arith, left, ends, some) in
       let acts : on_frame role now f ≡ u = is.frame f ∙ ap (λ n. on_head role now f (head_fault phase n (tag_field b))) counted ∙ ap (on_head role now f) w.due ∙ does in
-      ap (after_split role now) (ap split_frames whole ∙ splits)
+      ap (after_split role now) (ap split_frames whole ∙ split_whole phase b w)
       ∙ (λ i. record { session = (ap (λ (t : Session). on_rest_in t.phase t []) acts ∙ rest_nothing u.phase u) i; rest = [] })
-    where
-      w_some : (b : Bytes) → IsWholeFrame phase b → 1 ≤ length_field b
-      w_some b w = let long = w.long in let ends = w.ends in omega (arith, long, ends)
-
-      begun : (b : Bytes) → IsWholeFrame phase b → begins_whole b ≡ true
-      begun b w = parts_whole b (record { long = w.long; is = w.is; some = w_some b w; fits = let ends = w.ends in omega (arith, ends) })
 
   -- a frame's first bytes show a fault
   pub fed_faulty : (f : SyncError) → rest_fault phase b ≡ Some f → (fed role (point phase held sent r) y).session ≡ ended f held sent

@@ -116,6 +116,10 @@ pub record Stops (role : Role) (p : Point) (bytes : Bytes) (held : Operations) (
 abbrev pub Fails : Role → Point → Bytes → SyncError → Operations → Bytes → Type 0
 Fails role p bytes fault.OutOfMemory held sent = Stops role p bytes held sent
 Fails role p bytes fault.Failed held sent = ⊥
+Fails role p bytes fault.Cut held sent = ⊥
+Fails role p bytes fault.Read held sent = ⊥
+Fails role p bytes fault.Write held sent = ⊥
+Fails role p bytes fault.Turns held sent = ⊥
 Fails role p bytes e held sent = (fed role p bytes).session ≡ ended e held sent
 
 abbrev pub Steps : {A : Type 0} → Role → Point → Bytes → Result (State A) SyncError → Operations → Bytes → Type 0

@@ -1,16 +1,17 @@
 -- What a session keeps of the point at which it is.
-use Rattle.std.specs.Prelude.{◌≡◌, ◌⊎◌, ℕ, ◌+◌, ◌==◌, Bool, true, false, List, [], ◌++◌, length, take, Option, Some, None, if◌then◌else◌, refl}
+use Rattle.std.specs.Prelude.{◌≡◌, ◌⊎◌, ℕ, ◌+◌, ◌≤◌, ◌==◌, Bool, true, false, List, [], ◌∷◌, ◌++◌, length, take, Option, Some, None, if◌then◌else◌, refl}
 use mathlib.Core.Logic.{inl, inr}
 use base.Stored.{coded_unit}
 use Rattle.std.specs.Coded.{Coded, code_by, coded×, coded⊎, coded_ℕ, coded_bool, coded_list, coded_option}
 use Rattle.oct_delta.specs.Bytes.{IsBytes}
+use Rattle.oct_delta.specs.Decoding.{read_delta}
 use Rattle.oct_delta.specs.ReaderState.{IsHopeless}
 use Rattle.oct_delta.specs.Text.{Bytes}
 use Rattle.oct_join.specs.Clock.{Clock, clock_code}
 use Rattle.oct_ops.specs.Body.{Operation}
 use Rattle.oct_ops.specs.Operations.{Operations, set_of, union}
-use Rattle.oct_sync.specs.Frames.{length_field}
-use Rattle.oct_sync.specs.Session.{Phase, AwaitsClock, AwaitsDeltas, AwaitsEnd, IsDone, HasFailed, Session, Point, fed}
+use Rattle.oct_sync.specs.Frames.{delta_tag, length_field, split_frames}
+use Rattle.oct_sync.specs.Session.{Phase, AwaitsClock, AwaitsDeltas, AwaitsEnd, IsDone, HasFailed, Session, Point, fed, wanted}
 use Rattle.oct_sync.specs.declared.error.SyncError.{SyncError}
 use Rattle.oct_sync.specs.declared.error.SyncError.TheVariants as fault
 use Rattle.oct_sync.specs.declared.role.Role.{Role}
@@ -68,32 +69,58 @@ abbrev pub progress_of : Option Standing → Progress
 progress_of None = More
 progress_of (Some s) = progress_in s.phase
 
+-- no fault was shown
+abbrev pub HasNotFailed : Phase → Type 0
+HasNotFailed AwaitsClock = Unit {0}
+HasNotFailed (AwaitsDeltas t) = Unit {0}
+HasNotFailed AwaitsEnd = Unit {0}
+HasNotFailed IsDone = Unit {0}
+HasNotFailed (HasFailed f) = ⊥
+
+-- it is somewhere, and no fault was shown
+abbrev pub StandsSound : Option Standing → Type 0
+StandsSound None = ⊥
+StandsSound (Some s) = HasNotFailed s.phase
+
 -- ---- where it ended early
 
 -- a session that failed, with what it held and had sent
 abbrev pub ended : SyncError → Operations → Bytes → Session
 ended f held sent = record { phase = HasFailed f; held = held; sent = sent }
 
--- one set is the other with the first so many operations of a delta that these bytes end
+-- these bytes end a delta frame, and it takes in these operations, in the order of its payload
+pub record EndsDelta (role : Role) (p : Point) (bytes : Bytes) (ops : List Operation) : Type 0 where
+  pub payload : Bytes
+  pub frame : split_frames (p.rest ++ bytes) ≡ record { frames = record { tag = delta_tag; payload = payload } ∷ []; rest = [] }
+  pub reads : read_delta payload ≡ Some ops
+  pub taken : (fed role p bytes).session.held ≡ union p.session.held (set_of ops)
+
+-- one set is the other with the first so many operations of a delta frame that these bytes end
 pub record TakesFirst (role : Role) (p : Point) (bytes : Bytes) (held : Operations) : Type 0 where
   pub ops : List Operation
   pub count : ℕ
   pub is : held ≡ union p.session.held (set_of (take count ops))
-  pub whole : (ops ≡ []) ⊎ ((fed role p bytes).session.held ≡ union p.session.held (set_of ops))
+  pub whole : (ops ≡ []) ⊎ EndsDelta role p bytes ops
 
--- Memory was refused at one of the bytes: the frames before it have done what they do. Its own frame sent nothing, and of its delta the first so many operations are in.
+-- Memory was refused at some of the bytes, which are of one frame that is due: the frames before it have done what they do. Its own frame sent nothing, and of its delta the first so many operations are in.
 pub record StopsShort (role : Role) (p : Point) (bytes : Bytes) (held : Operations) (sent : Bytes) : Type 0 where
   pub before : Bytes
   pub here : Bytes
   pub after : Bytes
   pub cut : bytes ≡ before ++ (here ++ after)
+  pub some : 1 ≤ length here
+  pub fits : length here ≤ wanted (fed role p before)
   pub held_is : TakesFirst role (fed role p before) here held
   pub sent_is : sent ≡ (fed role p before).session.sent
 
--- what a refusal tells of the bytes: it is the fault that they show, unless memory was refused
+-- what a refusal tells of the bytes: it is the fault of a frame that they show, unless memory was refused
 abbrev pub Ends : Role → Point → Bytes → SyncError → Operations → Bytes → Type 0
 Ends role p bytes fault.OutOfMemory held sent = StopsShort role p bytes held sent
 Ends role p bytes fault.Failed held sent = ⊥
+Ends role p bytes fault.Cut held sent = ⊥
+Ends role p bytes fault.Read held sent = ⊥
+Ends role p bytes fault.Write held sent = ⊥
+Ends role p bytes fault.Turns held sent = ⊥
 Ends role p bytes e held sent = (fed role p bytes).session ≡ ended e held sent
 
 -- ---- standings as numbers and lists

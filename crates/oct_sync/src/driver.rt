@@ -2,7 +2,7 @@
 
 ghost use Rattle.std.specs.Prelude.{◌≡◌, ◌≢◌, ◌++◌, ◌≤◌, [], Some, length, vec_len, IfOk, IfErr, OnOk, OnErr};
 ghost use Rattle.std.specs.Io.KnownBytes.{Appends, Consumes, Keeps};
-ghost use Rattle.oct_sync.specs.Driven.{Breaks, Completes, IsOutside, begun};
+ghost use Rattle.oct_sync.specs.Driven.{Breaks, Completes, IsOutside, LacksMemory, RunsOut, begun};
 ghost use Rattle.oct_sync.specs.Output.{AppendsPrefix};
 ghost use Rattle.oct_sync.specs.Standing.{at_start};
 
@@ -27,8 +27,9 @@ const MAX_READ: usize = 65_536;
 ///
 /// Besides what a session refuses, the answer is `Cut` where the input ended before the session was done, `Read` where a
 /// read failed, `Write` where a write or a flush failed or a write took no byte, and `Turns` where more than `MAX_READS`
-/// reads would be needed. What the peer holds then is what the bytes that were read say, and what was written is a prefix
-/// of what the session sends. The peer's author stays.
+/// reads would be needed. None of these four is answered where the bytes that were read show a fault of a frame. What the
+/// peer holds then is what those bytes say, and what was written is a prefix of what the session sends. After `OutOfMemory`
+/// the same holds of the frames that were taken, with the first so many operations of the one that came. The peer's author stays.
 ///
 /// Where it is done and the bytes that were read are what the other side sends for those that were written, the peer holds
 /// what `laws::both_sides_hold_all` says.
@@ -41,6 +42,7 @@ pub fn drive<A: Allocator + Copy, P: Peer<A>, R: Read, W: Write>(
 ) -> Result<(), SyncError>
     ensures ok { OnOk result (Completes role (R.remaining reader.old) (R.remaining reader.new) (W.contents writer.old) (W.contents writer.new) (P.held peer.old) (P.held peer.new)) }
     ensures err { IfErr result (λ e. e ≢ SyncError.OutOfMemory → Breaks role e (R.remaining reader.old) (R.remaining reader.new) (W.contents writer.old) (W.contents writer.new) (P.held peer.old) (P.held peer.new)) }
+    ensures memory { IfErr result (λ e. e ≡ SyncError.OutOfMemory → LacksMemory role (R.remaining reader.old) (R.remaining reader.new) (W.contents writer.old) (W.contents writer.new) (P.held peer.old) (P.held peer.new)) }
     ensures author { P.author peer.new ≡ P.author peer.old }
 {
     let mut buffer = zeros(alloc, MAX_READ)?;
@@ -71,6 +73,7 @@ fn take_turns<A: Allocator + Copy, P: Peer<A>, R: Read, W: Write>(
     requires owed { owed.now.items ≡ (begun role (P.held peer.now)).sent }
     ensures ok { OnOk result (Completes role (R.remaining reader.old) (R.remaining reader.new) (W.contents writer.old) (W.contents writer.new) (P.held peer.old) (P.held peer.new)) }
     ensures err { IfErr result (λ e. e ≢ SyncError.OutOfMemory → Breaks role e (R.remaining reader.old) (R.remaining reader.new) (W.contents writer.old) (W.contents writer.new) (P.held peer.old) (P.held peer.new)) }
+    ensures memory { IfErr result (λ e. e ≡ SyncError.OutOfMemory → RunsOut role (R.remaining reader.old) (R.remaining reader.new) (W.contents writer.old) (W.contents writer.new) (P.held peer.old) (P.held peer.new)) }
     ensures author { P.author peer.new ≡ P.author peer.old }
 {
     let mut progress = Progress::More;

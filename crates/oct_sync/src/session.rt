@@ -6,7 +6,7 @@ ghost use Rattle.oct_ops.specs.Operations.{Operations};
 ghost use Rattle.oct_sync.specs.Frames.{max_frame};
 ghost use Rattle.oct_sync.specs.Session.{Point, clock_frame, fed, wanted};
 ghost use Rattle.oct_sync.specs.SessionState.{phase_of};
-ghost use Rattle.oct_sync.specs.Standing.{Ends, StandsAt, at_start, progress_in, progress_of};
+ghost use Rattle.oct_sync.specs.Standing.{Ends, StandsAt, StandsSound, at_start, progress_in, progress_of};
 ghost use Rattle.oct_sync.specs.declared.role.Role.TheVariants as roles;
 
 use crate::error::SyncError;
@@ -91,6 +91,7 @@ impl<A: Allocator + Copy> Session<A> {
     ) -> Result<Progress, SyncError>
         ensures ok { OnOk result ((role : Role) (p : Point) → StandsAt role self.old (P.held peer.old) out.old.items p → StandsAt role self.new (P.held peer.new) out.new.items (fed role p piece.now)) }
         ensures progress { IfOk result (λ progress. progress ≡ progress_of self.new) }
+        ensures sound { OnOk result (StandsSound self.new) }
         ensures err { IfErr result (λ e. (role : Role) (p : Point) → StandsAt role self.old (P.held peer.old) out.old.items p → Ends role p piece.now e (P.held peer.new) out.new.items) }
         ensures author { P.author peer.new ≡ P.author peer.old }
         ensures failed { IsErrOf result SyncError.Failed ↔ (self.old ≡ None) }

@@ -1,21 +1,26 @@
-use Rattle.std.proofs.Common.{[], refl, sym, ap, ◌∙◌}
+use Rattle.std.proofs.Common.{◌≡◌, [], refl, sym, ap, subst, ◌∙◌}
 use Rattle.std.proofs.KnownBytes.{Keeps-refl}
 use Rattle.std.proofs.lemmas.Result.{err_from_is_err_and}
-use Rattle.oct_sync.specs.Standing.{progress_of}
-use Rattle.oct_sync.proofs.Running.{IsRunning-begun, IsRunning-sent, IsRunning-fed, Breaks-sending, Breaks-reading, Breaks-feeding, completed}
+use Rattle.oct_sync.specs.Standing.{StandsSound, progress_of}
+use Rattle.oct_sync.specs.declared.progress.Progress.TheVariants as Progress
+use Rattle.oct_sync.proofs.Running.{IsRunning-begun, IsRunning-sent, IsRunning-fed, Breaks-sending, Breaks-reading, Breaks-feeding, RunsOut-feeding, completed}
 use Rattle.oct_sync.proofs.driver.take_turns.Goals as goal
+
+more_done : Progress.More ≡ Progress.Done → ⊥
+more_done e = cc
 
 pub loop-init : goal.loop-init
 loop-init g c = record {
   running = IsRunning-begun c.args.role _ _ (g.P.Peer.held c.args.peer.now) c.args.session.now [] c.args.owed.now.items c.requires.at refl c.requires.owed;
   author = refl;
+  sound = subst StandsSound (sym c.requires.at) tt;
   progress = sym (ap progress_of c.requires.at);
 }
 
 pub returns-in_err-send-clause-err : goal.returns-in_err-send-clause-err
 returns-in_err-send-clause-err g c =
     let p = err_from_is_err_and c.from_residual.result c.from_residual.ensures.1 in
-    rw (p.1, p.2) (λ _. Breaks-sending _ _ _ _ _ _ _ _ _ c.loop.invariant.running _ c.in_err-send.ensures.err)
+    rw (p.1, p.2) (λ _. Breaks-sending _ _ _ _ _ _ _ _ _ c.loop.invariant.running c.loop.invariant.sound _ c.in_err-send.ensures.err)
 
 pub returns-in-Done-clause-ok : goal.returns-in-Done-clause-ok
 returns-in-Done-clause-ok g c =
@@ -24,7 +29,7 @@ returns-in-Done-clause-ok g c =
 pub returns-in_err-piece-clause-err : goal.returns-in_err-piece-clause-err
 returns-in_err-piece-clause-err g c =
     let p = err_from_is_err_and c.from_residual-in_err-piece.result c.from_residual-in_err-piece.ensures.1 in
-    rw (p.1, p.2) (λ _. Breaks-reading _ _ _ _ _ _ _ _ _ (IsRunning-sent _ _ _ _ _ _ _ _ _ c.loop.invariant.running _ c.in_ok-send.ensures.ok) _ c.in_err-piece.ensures.outside _ c.in_err-piece.ensures.err)
+    rw (p.1, p.2) (λ _. Breaks-reading _ _ _ _ _ _ _ _ _ (IsRunning-sent _ _ _ _ _ _ _ _ _ c.loop.invariant.running _ c.in_ok-send.ensures.ok) c.loop.invariant.sound (λ done. c.in_default.not-Done (c.loop.invariant.progress ∙ done)) _ c.in_err-piece.ensures.outside _ c.in_err-piece.ensures.err)
 
 pub returns-in_err-progress-clause-err : goal.returns-in_err-progress-clause-err
 returns-in_err-progress-clause-err g c =
@@ -37,13 +42,14 @@ loop-preserved g c = record {
   running = IsRunning-fed _ _ _ _ _ _ _ _ _ _ _ (IsRunning-sent _ _ _ _ _ _ _ _ _ c.loop.invariant.running _ c.in_ok-send.ensures.ok) c.in_ok-send.ensures.empty c.in_ok-piece.ensures.ok
       _ _ _ c.in_ok-progress.ensures.ok;
   author = c.in_ok-progress.ensures.author ∙ c.loop.invariant.author;
+  sound = c.in_ok-progress.ensures.sound;
   progress = c.in_ok-progress.ensures.progress;
 }
 
 pub returns-in_err-send-2-clause-err : goal.returns-in_err-send-2-clause-err
 returns-in_err-send-2-clause-err g c =
     let p = err_from_is_err_and c.from_residual-in_err-send-2.result c.from_residual-in_err-send-2.ensures.1 in
-    rw (p.1, p.2) (λ _. Breaks-sending _ _ _ _ _ _ _ _ _ c.loop.invariant.running _ c.in_err-send-2.ensures.err)
+    rw (p.1, p.2) (λ _. Breaks-sending _ _ _ _ _ _ _ _ _ c.loop.invariant.running c.loop.invariant.sound _ c.in_err-send-2.ensures.err)
 
 pub returns-in-Done-progress-clause-ok : goal.returns-in-Done-progress-clause-ok
 returns-in-Done-progress-clause-ok g c =
@@ -51,4 +57,10 @@ returns-in-Done-progress-clause-ok g c =
 
 pub returns-in-More-clause-err : goal.returns-in-More-clause-err
 returns-in-More-clause-err g c _ =
-    Breaks-reading _ _ _ _ _ _ _ _ _ (IsRunning-sent _ _ _ _ _ _ _ _ _ c.loop.invariant.running _ c.in_ok-send-2.ensures.ok) _ tt _ (Keeps-refl _)
+    Breaks-reading _ _ _ _ _ _ _ _ _ (IsRunning-sent _ _ _ _ _ _ _ _ _ c.loop.invariant.running _ c.in_ok-send-2.ensures.ok) c.loop.invariant.sound (λ done. more_done (sym c.in-More.is ∙ c.loop.invariant.progress ∙ done)) _ tt _ (Keeps-refl _)
+
+pub returns-in_err-progress-clause-memory : goal.returns-in_err-progress-clause-memory
+returns-in_err-progress-clause-memory g c =
+    let p = err_from_is_err_and c.from_residual-in_err-progress.result c.from_residual-in_err-progress.ensures.1 in
+    rw (p.1, p.2) (λ memory. RunsOut-feeding _ _ _ _ _ _ _ _ _ _ _ (IsRunning-sent _ _ _ _ _ _ _ _ _ c.loop.invariant.running _ c.in_ok-send.ensures.ok) c.in_ok-send.ensures.empty c.in_ok-piece.ensures.ok
+    c.in_err-progress.field-0.0 _ _ memory c.in_err-progress.ensures.err)

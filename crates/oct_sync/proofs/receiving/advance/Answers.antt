@@ -1,9 +1,10 @@
-use Rattle.std.proofs.Common.{◌≡◌, ℕ, Bool, false, eqb, refl, sym, ◌∙◌}
+use Rattle.std.proofs.Common.{◌≡◌, ℕ, Bool, false, eqb, refl, sym, ◌∙◌, arith}
 use Rattle.std.proofs.lemmas.Bool.{eq-eqb, eqb-true}
 use Rattle.std.proofs.lemmas.List.{nil_from_length}
+use Rattle.oct_sync.specs.Session.{fed, wanted}
 use Rattle.oct_sync.specs.SessionState.{standing_of}
 use Rattle.oct_sync.proofs.Advancing.{begin, moved, failed_there, arrived, beyond_end}
-use Rattle.oct_sync.proofs.Stepping.{done_from, done_kept}
+use Rattle.oct_sync.proofs.Stepping.{done_from, done_kept, wanted_at}
 use Rattle.oct_sync.proofs.receiving.advance.Goals as goal
 
 nonempty : (n : ℕ) (b : Bool) → b ≡ eqb n 0 → b ≡ false → n ≡ 0 → ⊥
@@ -25,7 +26,10 @@ returns-then-most-eq0-clause-err g c p at =
 pub returns-in-Err-clause-err : goal.returns-in-Err-clause-err
 returns-in-Err-clause-err g c p at =
     let m = c.loop-rest.invariant.moved p at in
+    let wants : c.wanted-most.result ≡ wanted (fed c.args.role p m.front) = c.wanted-most.ensures.value ∙ wanted_at c.args.role c.args.role c.loop-rest.state _ _ _ c.loop-rest.invariant.valid m.at in
+    let size = c.split_at.ensures.front_len in
     failed_there c.args.role p c.args.piece.now c.loop-rest.rest.now c.split_at.result.0.now c.split_at.result.1.now (standing_of c.args.role c.loop-rest.state) (g.P.Peer.held c.loop-rest.peer) c.loop-rest.out.items m c.split_at.ensures.by_index.0
+    (omega (arith, size, c.min.ensures, c.if-most-eq0.false, nonempty _ c.is_empty.result c.is_empty.ensures c.loop-rest-test.true)) (omega (arith, size, c.min.ensures, wants))
     c.in-Err.fault (g.P.Peer.held c.step.new.peer) c.step.new.out.items (c.in-Err.ensures.steps _ m.at)
 
 pub loop-rest-preserved : goal.loop-rest-preserved

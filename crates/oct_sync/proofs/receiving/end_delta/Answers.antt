@@ -1,8 +1,8 @@
 use Rattle.std.proofs.Common.{◌≡◌, ◌<◌, ◌≤◌, ◌^◌, [], ◌++◌, length, Ok, Err, refl, sym, ap, ◌∙◌, subst, inr, arith}
 use Rattle.oct_ops.specs.Operations.{IsRising, set_of, union}
-use Rattle.oct_sync.specs.Session.{Point}
-use Rattle.oct_sync.specs.SessionState.{kept_of_delta, phase_of}
-use Rattle.oct_sync.proofs.Payloads.{end_ok, end_err, few_of}
+use Rattle.oct_sync.specs.SessionState.{kept_of_delta, phase_of, point}
+use Rattle.oct_sync.specs.Standing.{EndsDelta}
+use Rattle.oct_sync.proofs.Payloads.{end_ok, end_err, ends_delta, few_of}
 use Rattle.oct_sync.proofs.Stepping.{has_payload, delta_unfinished, delta_faultless, fed_front, is_at, starts_at}
 use Rattle.oct_sync.proofs.receiving.end_delta.Goals as goal
 
@@ -49,9 +49,8 @@ returns-in-Err-append-clause-steps g c sent r y rest =
         ops = c.into_vec-ops.result.items;
         count = c.in-Err-append.ensures.err.0;
         is = c.in-Err-append.ensures.err.1;
-        whole = inr (ap (λ (p : Point). p.session.held)
-            (end_ok c.texts_are_read.ensures c.args.role (phase_of c.args.due) held sent r y d.head.items d.missing d.reader c.in-Ok.list c.requires.open c.requires.front none rest c.in-Ok.ensures.ok (λ gone. ok_err (c.in-Ok.ensures.failed.1 gone)))
-            ∙ ap (λ xs. union held (set_of xs)) (sym c.into_vec-ops.ensures.value));
+        whole = inr (subst (λ xs. EndsDelta c.args.role (point (phase_of c.args.due) held sent r) y xs) (sym c.into_vec-ops.ensures.value)
+            (ends_delta c.texts_are_read.ensures c.args.role (phase_of c.args.due) held sent r y d.head.items d.missing d.reader c.in-Ok.list c.requires.open c.requires.front none rest c.in-Ok.ensures.ok (λ gone. ok_err (c.in-Ok.ensures.failed.1 gone))));
       };
       sent_is = refl;
     }

@@ -1,5 +1,5 @@
 use Rattle.std.proofs.Common.{sym, ap, ◌∙◌}
-use Rattle.oct_sync.specs.Session.{AwaitsDeltas, Session, on_clock}
+use Rattle.oct_sync.specs.Session.{AwaitsDeltas, on_clock}
 use Rattle.oct_sync.proofs.receiving.on_clock.Goals as goal
 
 pub returns-in-Client-clause-ok : goal.returns-in-Client-clause-ok

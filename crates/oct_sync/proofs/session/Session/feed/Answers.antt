@@ -1,7 +1,7 @@
 use Rattle.std.proofs.Common.{◌≡◌, Ok, Err, Result, refl, sym, ap, ◌∙◌}
 use Rattle.std.proofs.lemmas.Option.{none-some}
 use Rattle.oct_sync.specs.SessionState.{standing_if}
-use Rattle.oct_sync.proofs.Feeding.{nowhere, stands_on, ends_so}
+use Rattle.oct_sync.proofs.Feeding.{due_sound, nowhere, stands_on, ends_so}
 use Rattle.oct_sync.proofs.session.Session.feed.Goals as goal
 
 same_err : {T E : Type 0} {x y : E} → (let r : Result T E = Err x in r ≡ Err y) → x ≡ y
@@ -33,6 +33,9 @@ returns-in-Ok-clause-ok g c = stands_on c.self.inside.role c.in-Some.state c.arg
 
 pub returns-in-Ok-clause-progress : goal.returns-in-Ok-clause-progress
 returns-in-Ok-clause-progress g c = c.progress_of-progress.ensures
+
+pub returns-in-Ok-clause-sound : goal.returns-in-Ok-clause-sound
+returns-in-Ok-clause-sound g c = due_sound c.in-Ok.state.due
 
 pub returns-in-Ok-clause-author : goal.returns-in-Ok-clause-author
 returns-in-Ok-clause-author g c = c.in-Ok.ensures.author
