@@ -1,5 +1,7 @@
-//! Sessions over bytes in memory; `driven` has those over a reader and a writer.
+//! Sessions over bytes in memory; `deltas` has those to which a delta of several operations comes, `driven` those over a
+//! reader and a writer.
 
+mod deltas;
 mod driven;
 
 use crate::replica::{ALONE, BOTH, shows};
