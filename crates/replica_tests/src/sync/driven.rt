@@ -1,6 +1,7 @@
 //! Sessions over readers and writers: in memory, slow, failing, and over the loopback.
 
 use super::*;
+use std::cmp::Ordering;
 use std::io::{self, ErrorKind, Read, Write};
 use std::net::{TcpListener, TcpStream};
 use std::test::Fail;
@@ -62,13 +63,15 @@ impl Read for Source<'_> {
     }
 }
 
-/// Takes the bytes that it expects, at most so many a write, and fails or takes none at the write after so many others.
+/// Takes the bytes that it expects, at most so many a write, and fails or takes none at the write after so many others. It
+/// notes whether others came.
 #[derive(Clone, Copy)]
 struct Sink<'a> {
     expected: &'a [u8],
     most: usize,
     left: u32,
     fails: bool,
+    is_right: bool,
 }
 
 impl Write for Sink<'_> {
@@ -83,7 +86,8 @@ impl Write for Sink<'_> {
         self.left -= 1;
         let count = self.most.min(buf.len()).min(self.expected.len());
         let (front, rest) = self.expected.split_at(count);
-        if front != &buf[..count] {
+        if count == 0 || front != &buf[..count] {
+            self.is_right = false;
             return Ok(0);
         }
         self.expected = rest;
@@ -111,6 +115,7 @@ fn sink_of(side: &Side) -> Sink<'static> {
         most: usize::MAX,
         left: u32::MAX,
         fails: false,
+        is_right: true,
     }
 }
 
@@ -183,6 +188,80 @@ fn devices_may_be_slow_or_end_or_fail(rt: HostRuntime) {
         assert!(rt; is_answered(rt.alloc(), &side_of(role)));
     }
     assert!(rt; keeps_what_came(rt.alloc(), &side_of(Role::Client)));
+}
+
+// What the side's session answers where so many requests for memory are granted, and how many operations are then held.
+fn drives_short<A: Allocator + Copy>(
+    heap: &Metered<Global>,
+    alloc: A,
+    grants: u64,
+    side: &Side,
+    source: &mut Source<'static>,
+    sink: &mut Sink<'static>,
+) -> (Result<(), SyncError>, usize) {
+    match Replica::new(alloc, side.author) {
+        Ok(mut replica) => {
+            let is_taken = replica.take(side.holds).is_ok();
+            heap.arm(grants);
+            let answer = drive(alloc, side.role, &mut replica, source, sink);
+            heap.arm(u64::MAX);
+            let held = replica.len();
+            drop(replica);
+            (
+                if is_taken {
+                    answer
+                } else {
+                    Err(SyncError::Failed)
+                },
+                held,
+            )
+        }
+        Err(_) => (Err(SyncError::Failed), 0),
+    }
+}
+
+// Whether so many bytes of the exchange may have been read and written, and so many operations be held, where memory ends:
+// the clock takes 17 bytes, and the ends after the delta the last 10 of a client, the last 5 of a server. What a frame is
+// answered is owed while it comes.
+fn is_cut_short(side: &Side, read: usize, written: usize, held: usize) -> bool {
+    let (ends, owed) = match side.role {
+        Role::Client if read == 0 => (10, 0),
+        Role::Client if read < side.comes.len() => (10, side.first),
+        Role::Client => (10, side.sends.len()),
+        Role::Server if read <= 17 => (5, 0),
+        Role::Server => (5, side.first),
+    };
+    let is_held = match read.saturating_add(ends).cmp(&side.comes.len()) {
+        Ordering::Less => held == 1,
+        Ordering::Equal => held == 1 || held == 2,
+        Ordering::Greater => held == 2,
+    };
+    is_held && written == owed
+}
+
+// Whether the driven side leaves what it promises where each request for memory is refused in turn, and is done in the end.
+fn keeps_its_promise<A: Allocator + Copy>(heap: &Metered<Global>, alloc: A, side: &Side) -> bool {
+    for grants in 0..200u64 {
+        let (mut source, mut sink) = (source_of(side), sink_of(side));
+        let (answer, held) = drives_short(heap, alloc, grants, side, &mut source, &mut sink);
+        if answer == Ok(()) {
+            return grants > 0 && held == 2 && sink.is_right && sink.expected.is_empty();
+        }
+        let read = side.comes.len().saturating_sub(source.bytes.len());
+        let written = side.sends.len().saturating_sub(sink.expected.len());
+        let is_kept = sink.is_right && is_cut_short(side, read, written, held);
+        if answer != Err(SyncError::OutOfMemory) || !is_kept {
+            return false;
+        }
+    }
+    false
+}
+
+#[test]
+fn a_driver_writes_nothing_more_where_memory_ends(rt: HostRuntime) {
+    let heap = Metered::new(rt.alloc());
+    assert!(rt; keeps_its_promise(&heap, &heap, &side_of(Role::Client)));
+    assert!(rt; keeps_its_promise(&heap, &heap, &side_of(Role::Server)));
 }
 
 /// Gives one byte a read: the first bytes of a clock frame of the greatest length, and then zeros without end.
