@@ -78,12 +78,13 @@ impl<A: Allocator> Clock<A> {
         dot.number() <= self.through(dot.author())
     }
 
-    /// Makes the author's number at least `number`: the greater one stays, and 0 changes nothing. Without memory for a
-    /// new author the clock stays as it is.
+    /// Makes the author's number at least `number`: the greater one stays, and 0 changes nothing. Memory can be refused only
+    /// for an author that is absent, raised to 1 or more; then the clock stays as it is.
     pub fn raise(&mut self, author: u32, number: u32) -> Result<(), AllocError>
         requires { 1 ≤ author }
         ensures ok { OnOk result (self.new ≡ clock.raised self.old author number) }
         ensures err { OnErr result (self.new ≡ self.old) }
+        ensures absent { OnErr result ((1 ≤ number) × (clock.through self.old author ≡ 0)) }
     {
         if number == 0 {
             return Ok(());

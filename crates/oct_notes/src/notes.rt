@@ -1,6 +1,6 @@
 //! A set of notes and their removals.
 
-ghost use Rattle.std.specs.Prelude.{◌≡◌, ◌↔◌, length, IsTrue, IfOk, OnOk, OnErr};
+ghost use Rattle.std.specs.Prelude.{◌≡◌, ◌↔◌, length, false, IsTrue, IfOk, OnOk, OnErr};
 ghost use Rattle.oct_ops.specs.Operations.{empty, insert, remove, contains, listed, union, IsSubset};
 ghost use Rattle.oct_ops.specs.OrderLaws.{op_cmp_total, op_cmp_exact};
 ghost use Rattle.oct_ops.specs.Views.{content};
@@ -80,11 +80,13 @@ impl<A: Allocator + Copy> Notes<A> {
         self.ops.contains(op)
     }
 
-    /// Takes in a copy of the operation, which has to be a note or a removal. Without memory the set stays as it is.
+    /// Takes in a copy of the operation, which has to be a note or a removal. Memory can be refused only where it is not
+    /// there; then the set stays as it is.
     pub fn add(&mut self, op: &Op<A>) -> Result<(), AllocError>
         requires { IsTrue (spec.concerns_notes op.now.body) }
         ensures ok { OnOk result (self.new ≡ insert self.old op.now) }
         ensures err { OnErr result (self.new ≡ self.old) }
+        ensures absent { OnErr result (contains self.old op.now ≡ false) }
     {
         if self.contains(op) {
             return Ok(());

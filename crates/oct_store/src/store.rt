@@ -1,6 +1,6 @@
 //! A finite set of operations.
 
-ghost use Rattle.std.specs.Prelude.{◌≡◌, ◌↔◌, ◌++◌, not, length, IsTrue, IfOk, IfErr, OnOk, OnErr};
+ghost use Rattle.std.specs.Prelude.{◌≡◌, ◌↔◌, ◌++◌, not, false, length, IsTrue, IfOk, IfErr, OnOk, OnErr};
 ghost use Rattle.oct_ops.specs.Operations.{empty, insert, remove, contains, listed, union, IsSubset};
 ghost use Rattle.oct_ops.specs.OrderLaws.{op_cmp_total, op_cmp_exact};
 ghost use Rattle.oct_ops.specs.Views.{content};
@@ -79,12 +79,13 @@ impl<A: Allocator + Copy> Store<A> {
         self.ops.contains(op)
     }
 
-    /// Takes the operation in, and says whether it is new. Without memory the set stays as it is, and the operation comes
-    /// back.
+    /// Takes the operation in, and says whether it is new. Memory can be refused only for one that is not there; then the
+    /// set stays as it is, and the operation comes back.
     pub fn insert(&mut self, op: Op<A>) -> Result<bool, (AllocError, Op<A>)>
         ensures added { IfOk result (λ added. added ≡ not (contains self.old op)) }
         ensures ok { OnOk result (self.new ≡ insert self.old op) }
         ensures err { OnErr result (self.new ≡ self.old) }
+        ensures absent { OnErr result (contains self.old op ≡ false) }
         ensures returned { IfErr result (λ refused. refused.1 ≡ op) }
     {
         match self.ops.insert(op) {

@@ -1,6 +1,6 @@
 //! The ledger of a game.
 
-ghost use Rattle.std.specs.Prelude.{◌≡◌, ◌+◌, ◌<◌, ◌≤◌, true, Some, None, nat_le, nat_lt, if◌then◌else◌, count_by, length, OnOk, OnErr, IfOk, IfErr};
+ghost use Rattle.std.specs.Prelude.{◌≡◌, ◌+◌, ◌<◌, ◌≤◌, true, false, Some, None, nat_le, nat_lt, if◌then◌else◌, count_by, length, OnOk, OnErr, IfOk, IfErr};
 ghost use Rattle.oct_mex.specs.NimValues.{nim_value, nim_values};
 ghost use Rattle.oct_ops.specs.Sets as sets;
 ghost use Rattle.oct_verify.specs.Filing.{Filing, blocks_in};
@@ -51,12 +51,13 @@ impl<A: Allocator + Copy> Ledger<A> {
     }
 
     /// Adds a block of the game under its dot, and settles blocks that waited until none of them starts at or below the known
-    /// length. A pair that is there changes nothing. All memory is asked for first: where it is refused, nothing changes,
-    /// and the block is handed back.
+    /// length. A pair that is there changes nothing, and asks for no memory. All memory is asked for first: where it is
+    /// refused, nothing changes, and the block is handed back.
     pub fn add(&mut self, dot: Dot, block: Block<A>) -> Result<(), (AllocError, Block<A>)>
         requires { block.code ≡ self.old.code }
         ensures ok { OnOk result (self.new ≡ record self.old { blocks = sets.insert self.old.blocks (dot, block) }) }
         ensures err { OnErr result (self.new ≡ self.old) }
+        ensures absent { OnErr result (sets.contains self.old.blocks (dot, block) ≡ false) }
         ensures returned { IfErr result (λ refused. refused.1 ≡ block) }
     {
         self.shelf.add(dot, block)

@@ -1,6 +1,6 @@
 //! The blocks of a ledger in the order of their first places, with their statuses.
 
-ghost use Rattle.std.specs.Prelude.{◌≡◌, ◌+◌, ◌<◌, ◌≤◌, ◌^◌, true, [], vec_len, OnOk, OnErr, IfOk, IfErr, MatchResult, MatchOption};
+ghost use Rattle.std.specs.Prelude.{◌≡◌, ◌+◌, ◌<◌, ◌≤◌, ◌^◌, true, false, [], vec_len, OnOk, OnErr, IfOk, IfErr, MatchResult, MatchOption};
 ghost use Rattle.oct_ops.specs.Sets as sets;
 ghost use Rattle.oct_verify.specs.Kept.{grown, IsGap, IsPlaceOf};
 ghost use Rattle.oct_verify.specs.Paged.{paged, index_of, IsInside, IsNear};
@@ -113,6 +113,7 @@ impl<A: Allocator + Copy> Shelf<A> {
         ensures code { self.new.comparer.values.code ≡ self.old.comparer.values.code }
         ensures filings { shelved self.new ≡ shelved self.old }
         ensures ok { IfOk result (λ found. MatchOption found (sets.contains (shelved self.new) (dot.now, block.now) ≡ true) (IsOpen self.new (dot.now, block.now))) }
+        ensures absent { OnErr result (sets.contains (shelved self.old) (dot.now, block.now) ≡ false) }
     {
         let Err(place) = self.place(dot, block) else {
             return Ok(None);
@@ -148,7 +149,7 @@ impl<A: Allocator + Copy> Shelf<A> {
             .put(place, Entry::new(dot, block, Status::Pending));
     }
 
-    /// Adds a block. A refusal hands it back, and leaves what is filed as it was.
+    /// Adds a block. A refusal hands it back, which is not filed, and leaves what is filed as it was.
     pub(crate) fn add(&mut self, dot: Dot, block: Block<A>) -> Result<(), (AllocError, Block<A>)>
         requires kept { IsKept self.old }
         requires game { block.code ≡ self.old.comparer.values.code }
@@ -156,6 +157,7 @@ impl<A: Allocator + Copy> Shelf<A> {
         ensures code { self.new.comparer.values.code ≡ self.old.comparer.values.code }
         ensures ok { OnOk result (shelved self.new ≡ sets.insert (shelved self.old) (dot, block)) }
         ensures err { OnErr result (shelved self.new ≡ shelved self.old) }
+        ensures absent { OnErr result (sets.contains (shelved self.old) (dot, block) ≡ false) }
         ensures returned { IfErr result (λ refusal. refusal.1 ≡ block) }
     {
         let place = match self.open(&dot, &block) {
