@@ -1,6 +1,6 @@
 //! What is known of a game.
 
-ghost use Rattle.std.specs.Prelude.{◌≡◌, true, IfErr, IfOk, IfSome, OnErr, OnOk};
+ghost use Rattle.std.specs.Prelude.{◌≡◌, true, false, IfErr, IfOk, IfSome, OnErr, OnOk};
 ghost use Rattle.oct_mex.specs.NimValues.{nim_value, position_value as nim_sum};
 ghost use Rattle.oct_ops.specs.Sets as sets;
 ghost use Rattle.oct_period.specs.Claims.{AreOfGame, claims_in, first_proved};
@@ -64,23 +64,25 @@ impl<A: Allocator + Copy> Game<A> {
         self.ledger.code()
     }
 
-    /// Adds a block of the game under its dot. A pair that is there changes nothing. Where memory is refused, nothing changes,
-    /// and the block is handed back.
+    /// Adds a block of the game under its dot. A pair that is there changes nothing, and asks for no memory. Where memory is
+    /// refused, nothing changes, and the block is handed back.
     pub fn add_block(&mut self, dot: Dot, block: Block<A>) -> Result<(), (AllocError, Block<A>)>
         requires { block.code ≡ self.old.code }
         ensures ok { OnOk result (self.new ≡ record self.old { blocks = sets.insert self.old.blocks (dot, block) }) }
         ensures err { OnErr result (self.new ≡ self.old) }
+        ensures absent { OnErr result (sets.contains self.old.blocks (dot, block) ≡ false) }
         ensures returned { IfErr result (λ refused. refused.1 ≡ block) }
     {
         self.ledger.add(dot, block)
     }
 
-    /// Adds a claim of the game under its dot. A pair that is there changes nothing. Where memory is refused, nothing changes,
-    /// and the claim is handed back.
+    /// Adds a claim of the game under its dot. A pair that is there changes nothing, and asks for no memory. Where memory is
+    /// refused, nothing changes, and the claim is handed back.
     pub fn add_period(&mut self, dot: Dot, period: Period) -> Result<(), (AllocError, Period)>
         requires { period.code ≡ self.old.code }
         ensures ok { OnOk result (self.new ≡ record self.old { claims = sets.insert self.old.claims (dot, period) }) }
         ensures err { OnErr result (self.new ≡ self.old) }
+        ensures absent { OnErr result (sets.contains self.old.claims (dot, period) ≡ false) }
         ensures returned { IfErr result (λ refused. refused.1 ≡ period) }
     {
         match self.claims.insert(PeriodClaim { dot, period }) {

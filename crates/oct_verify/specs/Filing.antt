@@ -1,5 +1,6 @@
 -- Blocks under their dots, and finite sets of them.
-use Rattle.std.specs.Prelude.{List, map, refl}
+use Rattle.std.specs.Prelude.{◌≡◌, List, map, refl}
+use Rattle.std.specs.List.{All}
 use Rattle.std.specs.Ordering.{nat_cmp, on, then_cmp}
 use Rattle.std.specs.declared.cmp.Ordering.{Ordering}
 use Rattle.std.specs.Coded.{Coded, code_by, coded×}
@@ -24,6 +25,10 @@ Filings = sets.Set filing_cmp
 -- the blocks alone
 abbrev pub blocks_in : Filings → List Block
 blocks_in filings = map (λ (f : Filing). f.1) (sets.listed filings)
+
+-- blocks of this game
+abbrev pub AreBlocksOf : Code → List Filing → Type 0
+AreBlocksOf code = All (λ (f : Filing). f.1.code ≡ code)
 
 -- the code of a game, and blocks of it under their dots
 pub record GameBlocks : Type 0 where

@@ -3,7 +3,7 @@
 ghost use Rattle.std.specs.Prelude.{◌≡◌, ◌+◌, ◌<◌, ◌≤◌, true, false, Some, None, nat_le, nat_lt, if◌then◌else◌, count_by, length, OnOk, OnErr, IfOk, IfErr};
 ghost use Rattle.oct_mex.specs.NimValues.{nim_value, nim_values};
 ghost use Rattle.oct_ops.specs.Sets as sets;
-ghost use Rattle.oct_verify.specs.Filing.{Filing, blocks_in};
+ghost use Rattle.oct_verify.specs.Filing.{AreBlocksOf, Filing, blocks_in};
 ghost use Rattle.oct_verify.specs.Known.{known, status, IsKnownLength};
 ghost use Rattle.oct_verify.specs.Next.{next_values};
 
@@ -43,9 +43,10 @@ impl<A: Allocator + Copy> Ledger<A> {
         }
     }
 
-    /// The code of the game.
+    /// The code of the game, which each block here has.
     pub fn code(&self) -> Code
-        ensures { result ≡ self.now.code }
+        ensures value { result ≡ self.now.code }
+        ensures game { AreBlocksOf self.now.code (sets.listed self.now.blocks) }
     {
         self.shelf.comparer.values.code()
     }

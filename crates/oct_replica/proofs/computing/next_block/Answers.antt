@@ -28,13 +28,13 @@ faultless held start n some few is left =
 pub returns-clause-right : goal.returns-clause-right
 returns-clause-right g c =
     let game = c.args.ledger.now in
-    rw (c.in-Ok-new.ensures.ok, c.code.ensures, c.known-start.ensures.value, c.in-Ok.ensures.values) (next_is_true game.code (blocks_in game.blocks) c.min.result)
+    rw (c.in-Ok-new.ensures.ok, c.code.ensures.value, c.known-start.ensures.value, c.in-Ok.ensures.values) (next_is_true game.code (blocks_in game.blocks) c.min.result)
 
 pub returns-then-count-eq0-clause-error : goal.returns-then-count-eq0-clause-error
 returns-then-count-eq0-clause-error g c = sym (ap (λ n. unwrap_or (compute_fault (known (blocks_in c.args.ledger.now.blocks)) n) OutOfMemory) c.if-count-eq0.true)
 
 pub returns-clause-ok : goal.returns-clause-ok
-returns-clause-ok g c = rw (c.in-Ok-new.ensures.ok, c.code.ensures, c.in-Ok.ensures.values, c.min.ensures, c.known-start.ensures.value) refl
+returns-clause-ok g c = rw (c.in-Ok-new.ensures.ok, c.code.ensures.value, c.in-Ok.ensures.values, c.min.ensures, c.known-start.ensures.value) refl
 
 pub returns-clause-accepted : goal.returns-clause-accepted
 returns-clause-accepted g c = faultless _ _ _ c.if-count-eq0.false c.if-count-gt-MAX_ITEMS.false c.known-start.ensures.value c.if-left-eq0.false

@@ -1,6 +1,6 @@
 use Rattle.std.proofs.Common.{List, sym, ap, ◌∙◌, subst}
 use Rattle.oct_ops.specs.Sets as sets
-use Rattle.oct_ops.specs.SetLaws.{keys_added}
+use Rattle.oct_ops.specs.SetLaws.{contains-keys, keys_added}
 use Rattle.oct_period.specs.Claims.{Claim, Claims, claim_cmp}
 use Rattle.oct_period.specs.ClaimLaws.{claim_cmp_total, claim_cmp_exact}
 use Rattle.oct_period.specs.GameContent.{GameContent}
@@ -33,4 +33,13 @@ returns-clause-ok g c =
           (ap (λ (claims : Claims). record { code = ledger.code; blocks = ledger.blocks; claims = claims }) (keys_added claim_cmp_total claim_cmp_exact c.self.inside.claims c.insert.new.self claim w.in-Ok.ensures.updates)
           ∙ ap (λ (h : GameContent). record h { claims = sets.insert h.claims claim }) c.self.view_is)
       | in-Err w ↦ rw w.result-is tt
+    ]
+
+pub returns-clause-absent : goal.returns-clause-absent
+returns-clause-absent g c =
+    let claim : Claim = (c.args.dot, c.args.period) in
+    let seen = sym (contains-keys claim_cmp_total claim_cmp_exact c.self.inside.claims claim) ∙ ap (λ (h : GameContent). sets.contains h.claims claim) c.self.view_is in
+    elim c.match-insert.branch [
+      | in-Ok w ↦ rw w.result-is tt
+      | in-Err w ↦ rw w.result-is (sym seen ∙ w.in-Err.ensures.absent)
     ]
