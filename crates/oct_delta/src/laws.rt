@@ -4,6 +4,7 @@ ghost use Rattle.std.specs.Prelude.{◌≡◌, ◌↔◌, ◌++◌, List, [], So
 ghost use Rattle.std.specs.Ordering.{nat_cmp};
 ghost use Rattle.std.specs.Cmp.Lexicographic.{slice_cmp};
 ghost use Rattle.oct_code.specs.declared.limits.TheConstants.{LIMIT};
+ghost use Rattle.oct_delta.specs.declared.encoding.TheConstants.{MAX_OP_SIZE};
 ghost use Rattle.oct_ops.specs.Body.{Operation};
 ghost use Rattle.oct_ops.specs.Order.{op_cmp};
 ghost use Rattle.oct_join.specs.Clock.{Clock, IsClock};
@@ -51,4 +52,9 @@ pub fn clock_texts_are_read()
 /// A clock has one text.
 pub fn a_clock_has_one_text()
     ensures { (bytes : Bytes) (t : Clock) → IsClock t → IsClockText bytes t ↔ (bytes ≡ clock_bytes t) }
+{}
+
+/// The longest text of an operation has 8,203 bytes.
+pub fn the_longest_operation_has_this_size()
+    ensures { MAX_OP_SIZE ≡ 8203 }
 {}
