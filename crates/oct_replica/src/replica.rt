@@ -380,11 +380,13 @@ impl<A: Allocator + Copy> Replica<A> {
         self.add(&op)
     }
 
-    // Takes in a copy of the operation, and says whether it is new. Without memory nothing changes.
+    // Takes in a copy of the operation, and says whether it is new. Memory can be refused only where it is; then nothing
+    // changes.
     fn add(&mut self, op: &Op<A>) -> Result<bool, AllocError>
         ensures added { IfOk result (λ added. added ≡ not (contains self.old.ops op.now)) }
         ensures ok { OnOk result (self.new ≡ record self.old { ops = insert self.old.ops op.now }) }
         ensures err { OnErr result (self.new ≡ self.old) }
+        ensures absent { OnErr result (contains self.old.ops op.now ≡ false) }
     {
         if self.store.contains(op) {
             return Ok(false);
