@@ -8,18 +8,10 @@
 //! What it does with its words is `census_run::run`.
 #![tactic(auto)]
 
-use census_run::run;
-use std::env;
+use census_run::run_called;
 use std::process::ExitCode;
 
 fn main(rt: HostRuntime) -> ExitCode {
-    let alloc = rt.alloc();
-    let Ok(all_words) = env::args(&rt) else {
-        return ExitCode::from(2);
-    };
-    let Ok(words) = all_words.skip(1).collect::<Vec<String>>(alloc) else {
-        return ExitCode::from(4);
-    };
     let (mut input, mut output, mut errors) = (rt.stdin(), rt.stdout(), rt.stderr());
-    ExitCode::from(run(&rt, &words, &mut input, &mut output, &mut errors))
+    ExitCode::from(run_called(&rt, &mut input, &mut output, &mut errors))
 }

@@ -1,8 +1,156 @@
-//! The words of a command line.
+//! The command line of the program.
 
 use crate::help::{self, Help};
+use crate::words::{self, Choice, Word};
 use clap::{Arg, ArgAction, Command};
 use std::alloc::{AllocError, Global};
+
+/// A command of the program.
+#[derive(Clone, Copy)]
+pub(crate) enum CommandName {
+    Fold,
+    Init,
+    Import,
+    Compute,
+    Period,
+    Note,
+    Unnote,
+    Merge,
+    Delta,
+    Value,
+    Page,
+    Show,
+    Serve,
+    Sync,
+    Hub,
+}
+
+// A command: what it is called, its words in the order in which they stand, its options, and what is said of it.
+struct Form {
+    command: CommandName,
+    name: &'static str,
+    words: &'static [Word],
+    choices: &'static [Choice],
+    help: Help,
+}
+
+const FORMS: &[Form] = &[
+    Form {
+        command: CommandName::Fold,
+        name: "fold",
+        words: &[],
+        choices: &[],
+        help: help::FOLD,
+    },
+    Form {
+        command: CommandName::Init,
+        name: "init",
+        words: &[words::STATE, words::ID],
+        choices: &[],
+        help: help::INIT,
+    },
+    Form {
+        command: CommandName::Import,
+        name: "import",
+        words: &[words::STATE, words::FILE],
+        choices: &[],
+        help: help::IMPORT,
+    },
+    Form {
+        command: CommandName::Compute,
+        name: "compute",
+        words: &[words::STATE, words::CODE, words::COUNT],
+        choices: &[],
+        help: help::COMPUTE,
+    },
+    Form {
+        command: CommandName::Period,
+        name: "period",
+        words: &[words::STATE, words::CODE, words::E, words::P],
+        choices: &[],
+        help: help::PERIOD,
+    },
+    Form {
+        command: CommandName::Note,
+        name: "note",
+        words: &[words::STATE, words::NAME, words::TEXT],
+        choices: &[],
+        help: help::NOTE,
+    },
+    Form {
+        command: CommandName::Unnote,
+        name: "unnote",
+        words: &[words::STATE, words::NAME],
+        choices: &[],
+        help: help::UNNOTE,
+    },
+    Form {
+        command: CommandName::Merge,
+        name: "merge",
+        words: &[words::STATE, words::DELTA],
+        choices: &[],
+        help: help::MERGE,
+    },
+    Form {
+        command: CommandName::Delta,
+        name: "delta",
+        words: &[words::STATE, words::OUT],
+        choices: &[],
+        help: help::DELTA,
+    },
+    Form {
+        command: CommandName::Value,
+        name: "value",
+        words: &[words::STATE, words::CODE, words::HEAP],
+        choices: &[],
+        help: help::VALUE,
+    },
+    Form {
+        command: CommandName::Page,
+        name: "page",
+        words: &[words::STATE, words::NUMBER],
+        choices: &[],
+        help: help::PAGE,
+    },
+    Form {
+        command: CommandName::Show,
+        name: "show",
+        words: &[words::STATE],
+        choices: &[],
+        help: help::SHOW,
+    },
+    Form {
+        command: CommandName::Serve,
+        name: "serve",
+        words: &[words::STATE, words::ADDR],
+        choices: &[words::PATIENCE],
+        help: help::SERVE,
+    },
+    Form {
+        command: CommandName::Sync,
+        name: "sync",
+        words: &[words::STATE, words::ADDR],
+        choices: &[words::PATIENCE],
+        help: help::SYNC,
+    },
+    Form {
+        command: CommandName::Hub,
+        name: "hub",
+        words: &[words::STATE, words::ADDR],
+        choices: &[words::PATIENCE, words::LONGEST, words::PEERS],
+        help: help::HUB,
+    },
+];
+
+/// The command that is called so.
+pub(crate) fn command_named(name: &str) -> Option<CommandName> {
+    for form in FORMS {
+        if form.name == name {
+            return Some(form.command);
+        }
+    }
+    None
+}
 
 /// The command line of the program.
 pub(crate) fn command<'a>(alloc: Global) -> Result<Command<'a>, AllocError> {
@@ -25,141 +173,39 @@ fn bare<'a>(alloc: Global) -> Result<Command<'a>, AllocError> {
     )
 }
 
-// A command: its name and its words, in the order in which they stand, and what is said of it.
-struct Form {
-    usage: &'static str,
-    help: Help,
-}
-
-const FORMS: &[Form] = &[
-    Form {
-        usage: "fold",
-        help: help::FOLD,
-    },
-    Form {
-        usage: "init STATE ID",
-        help: help::INIT,
-    },
-    Form {
-        usage: "import STATE FILE",
-        help: help::IMPORT,
-    },
-    Form {
-        usage: "compute STATE CODE COUNT",
-        help: help::COMPUTE,
-    },
-    Form {
-        usage: "period STATE CODE E P",
-        help: help::PERIOD,
-    },
-    Form {
-        usage: "note STATE NAME TEXT",
-        help: help::NOTE,
-    },
-    Form {
-        usage: "unnote STATE NAME",
-        help: help::UNNOTE,
-    },
-    Form {
-        usage: "merge STATE DELTA",
-        help: help::MERGE,
-    },
-    Form {
-        usage: "delta STATE OUT",
-        help: help::DELTA,
-    },
-    Form {
-        usage: "value STATE CODE HEAP",
-        help: help::VALUE,
-    },
-    Form {
-        usage: "page STATE NUMBER",
-        help: help::PAGE,
-    },
-    Form {
-        usage: "show STATE",
-        help: help::SHOW,
-    },
-    Form {
-        usage: "serve STATE ADDR",
-        help: help::SERVE,
-    },
-    Form {
-        usage: "sync STATE ADDR",
-        help: help::SYNC,
-    },
-];
-
-// The word that stands any number of times. Each other one stands once.
-const HEAP: &str = "HEAP";
-
-// What the words mean.
-const MEANINGS: &[(&str, &str)] = &[
-    ("STATE", "The state file"),
-    (
-        "ID",
-        "The author of what is issued there, 1 to 4294967295; no two people may have one",
-    ),
-    (
-        "FILE",
-        "A JSON file such as {\"code\":\"0.07\",\"start\":0,\"values\":[0,0,1,1,2,0,3]}",
-    ),
-    ("DELTA", "A delta file, as `census delta` writes it"),
-    (
-        "OUT",
-        "The file that is written, in place of what stands there",
-    ),
-    ("ADDR", "An address such as 127.0.0.1:4000"),
-    (
-        "CODE",
-        "An octal code such as 0.77: head 0 or 4, a point, digits 0 to 7, at most 16 that count",
-    ),
-    (
-        "COUNT",
-        "How many values, 1 to 1024; fewer where heap 65535 comes first",
-    ),
-    ("E", "The heap from which on the values repeat, 1 to 65536"),
-    ("P", "The period, 1 to 65536"),
-    ("NAME", "The note's name, 1 to 32 bytes of a-z, 0-9 and -"),
-    (
-        "TEXT",
-        "The note's text, at most 200 bytes from the space to the tilde",
-    ),
-    ("NUMBER", "The page's number, 0 and up; a page has 64 lines"),
-    (
-        HEAP,
-        "The heaps of the position, each 0 to 18446744073709551615; none is the empty position",
-    ),
-];
-
 // The command of this form.
 fn command_of<'a>(alloc: Global, form: &Form) -> Result<Command<'a>, AllocError> {
-    let mut words = form.usage.split(' ');
-    let mut command = Command::new(alloc, words.next().unwrap_or(""))
+    let mut command = Command::new(alloc, form.name)
         .about(form.help.about)
         .after_help(form.help.after);
-    for word in words {
+    for &word in form.words {
         command = command.arg(argument_of(alloc, word))?;
+    }
+    for &choice in form.choices {
+        command = command.arg(option_of(alloc, choice))?;
     }
     Ok(command)
 }
 
 // The argument that this word is.
-fn argument_of<'a>(alloc: Global, word: &'static str) -> Arg<'a> {
-    let argument = Arg::new(alloc, word).help(meaning_of(word));
-    if word == HEAP {
+fn argument_of<'a>(alloc: Global, word: Word) -> Arg<'a> {
+    let argument = Arg::new(alloc, word.name).help(word.meaning);
+    if word.is_repeated {
         argument.action(ArgAction::Append).num_args(0..)
     } else {
         argument.required(true)
     }
 }
 
-// What the word means.
-fn meaning_of(word: &str) -> &'static str {
-    for &(name, meaning) in MEANINGS {
-        if name == word {
-            return meaning;
-        }
+// The argument that this option is.
+fn option_of<'a>(alloc: Global, choice: Choice) -> Arg<'a> {
+    let option = Arg::new(alloc, choice.name)
+        .long(choice.name)
+        .value_name(choice.value)
+        .help(choice.meaning)
+        .action(ArgAction::Set);
+    match choice.default {
+        Some(value) => option.default_value(value),
+        None => option,
     }
-    ""
 }

@@ -5,6 +5,7 @@ use oct_sync::write_out;
 use std::alloc::{AllocError, Global};
 use std::fs;
 use std::io::ErrorKind;
+use std::os::unix::fs::MetadataExt;
 use std::rt::Files;
 
 /// All the bytes of a file. The fault is `File` where it can't be read, `TooLong` where it has more than `INPUT_LIMIT`
@@ -28,27 +29,18 @@ pub(crate) fn exists<R: Files>(rt: &R, path: &str) -> Result<bool, Fault> {
     }
 }
 
-/// Writes the bytes to the path with `.new` behind it, and renames that file to the path. The fault is `TooLong` before
-/// anything is written, `File`, and `OutOfMemory`.
-pub(crate) fn replace_file<R: Files + AllocGlobal>(
-    rt: &R,
-    path: &str,
-    bytes: &[u8],
-) -> Result<(), Fault> {
-    let new_path = beside(rt.alloc(), path)?;
-    write_file(rt, new_path.as_str(), bytes)?;
-    match fs::rename(rt, new_path.as_str(), path) {
-        Ok(()) => Ok(()),
-        Err(_) => Err(Fault::File),
+/// Whether both paths lead to one file.
+pub(crate) fn is_same_file<R: Files>(rt: &R, left: &str, right: &str) -> bool {
+    match (fs::metadata(rt, left), fs::metadata(rt, right)) {
+        (Ok(one), Ok(other)) => one.dev() == other.dev() && one.ino() == other.ino(),
+        _ => false,
     }
 }
 
 /// Writes the bytes to the path, in place of what stands there. The fault is `TooLong` before anything is written, and
 /// `File`.
 pub(crate) fn write_file<R: Files>(rt: &R, path: &str, bytes: &[u8]) -> Result<(), Fault> {
-    if bytes.len() as u64 > INPUT_LIMIT {
-        return Err(Fault::TooLong);
-    }
+    check_length(bytes)?;
     let Ok(mut file) = fs::create(rt, path) else {
         return Err(Fault::File);
     };
@@ -58,7 +50,15 @@ pub(crate) fn write_file<R: Files>(rt: &R, path: &str, bytes: &[u8]) -> Result<(
     }
 }
 
-// The name of the file that is written first.
-fn beside(alloc: Global, path: &str) -> Result<String, AllocError> {
-    format!(in alloc; "{path}.new")
+/// Refuses what no file may hold. The fault is `TooLong`.
+pub(crate) fn check_length(bytes: &[u8]) -> Result<(), Fault> {
+    if bytes.len() as u64 > INPUT_LIMIT {
+        return Err(Fault::TooLong);
+    }
+    Ok(())
+}
+
+/// The name of a file beside another: that name, with an end.
+pub(crate) fn beside(alloc: Global, path: &str, end: &str) -> Result<String, AllocError> {
+    format!(in alloc; "{path}{end}")
 }

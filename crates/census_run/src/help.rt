@@ -30,7 +30,8 @@ With others:
   delta STATE OUT            Writes all operations as a file
   merge STATE DELTA          Takes such a file in
   serve STATE ADDR           Waits for one `sync`, and exchanges all that is new
-  sync STATE ADDR            Exchanges all that is new with a `serve`
+  sync STATE ADDR            Exchanges all that is new with a `serve` or a `hub`
+  hub STATE ADDR             Serves one `sync` after another, for a whole group
 
 Options:
   -h, --help     Print help; `census COMMAND --help` says more of a command
@@ -62,7 +63,8 @@ Example:
 pub(crate) const INIT: Help = Help {
     about: "Makes a state file, and prints its author",
     after: "\
-Exit status: 0 done, 1 the author is 0, 2 command line, 3 there is such a file, or it can't be written, 4 memory
+Exit status: 0 done, 1 Zero (the author is 0), 2 command line, 3 Exists, or the file can't be
+written, 4 memory
 
 Example:
   census init anna.state 1",
@@ -74,7 +76,8 @@ pub(crate) const IMPORT: Help = Help {
 The object has exactly the keys code, start (the heap of the first value) and values, 1 to 1024 of
 them. The values may be wrong: the catalogue says at which heap.
 
-Exit status: 0 done, 1 the file is no state or no block, 2 command line, 3 file, 4 memory
+Exit status: 0 done, 1 refused: Load (the state), Json or Import (the block), Issue, TooMany;
+2 command line, 3 file, 4 memory
 
 Example:
   census import anna.state examples/dawson.json",
@@ -85,7 +88,8 @@ pub(crate) const COMPUTE: Help = Help {
     after: "\
 The values begin where those known of the game end.
 
-Exit status: 0 done, 1 refused, 2 command line, 3 file, 4 memory
+Exit status: 0 done, 1 refused: Load (the state), Code, Compute, Issue, TooMany; 2 command line,
+3 file, 4 memory
 
 Example:
   census compute anna.state 0.77 168",
@@ -97,7 +101,8 @@ pub(crate) const PERIOD: Help = Help {
 The claim says that each heap from E on has the value of the heap that is P larger. It is proved
 when 2 E + 2 P and as many values as the code has digits are known, and then holds for all heaps.
 
-Exit status: 0 done, 1 refused, 2 command line, 3 file, 4 memory
+Exit status: 0 done, 1 refused: Load (the state), Code, Period, Issue, TooMany; 2 command line,
+3 file, 4 memory
 
 Example:
   census period anna.state 0.77 71 12",
@@ -106,7 +111,8 @@ Example:
 pub(crate) const NOTE: Help = Help {
     about: "Issues a note, and prints its author and number",
     after: "\
-Exit status: 0 done, 1 refused, 2 command line, 3 file, 4 memory
+Exit status: 0 done, 1 refused: Load (the state), Note, Issue, TooMany; 2 command line, 3 file,
+4 memory
 
 Example:
   census note anna.state kayles 'period 12 from heap 71'",
@@ -117,7 +123,8 @@ pub(crate) const UNNOTE: Help = Help {
     after: "\
 Notes of the name that come later stay.
 
-Exit status: 0 done, 1 there is no such note, 2 command line, 3 file, 4 memory
+Exit status: 0 done, 1 refused: Load (the state), Removal (there is no such note), Issue, TooMany;
+2 command line, 3 file, 4 memory
 
 Example:
   census unnote anna.state kayles",
@@ -126,7 +133,8 @@ Example:
 pub(crate) const MERGE: Help = Help {
     about: "Takes a delta file in, and prints how many of its operations are new",
     after: "\
-Exit status: 0 done (also where nothing is new), 1 the file is no state or no delta, 2 command line, 3 file, 4 memory
+Exit status: 0 done (also where nothing is new), 1 refused: Load (the state), Merge (the delta),
+TooMany; 2 command line, 3 file, 4 memory
 
 Example:
   census merge anna.state ben.delta",
@@ -135,7 +143,9 @@ Example:
 pub(crate) const DELTA: Help = Help {
     about: "Writes all operations as one delta file, and prints how many there are",
     after: "\
-Exit status: 0 done, 1 the file is no state, 2 command line, 3 file, 4 memory
+The state itself is not written over: that is the fault Same.
+
+Exit status: 0 done, 1 refused: Load (the state), TooMany; 2 command line, 3 file, 4 memory
 
 Example:
   census delta ben.state ben.delta",
@@ -144,23 +154,46 @@ Example:
 pub(crate) const SERVE: Help = Help {
     about: "Waits for one connection to an address, and exchanges all that is new with its `sync`",
     after: "\
-The state is saved also where the session ends early.
+What other commands add to the state meanwhile stays. The state is saved also where the session
+ends early. The connection is neither encrypted nor authenticated: an address other than the
+loopback is for a trusted network or a tunnel.
 
-Exit status: 0 done, 1 the other side's bytes are refused, 2 command line, 3 file or network, 4 memory
+Exit status: 0 done, 1 refused: Load (the state), Sync (the other side's bytes), Author, TooMany;
+2 command line, 3 file or network, 4 memory
 
 Example:
   census serve anna.state 127.0.0.1:4000",
 };
 
 pub(crate) const SYNC: Help = Help {
-    about: "Connects to an address, and exchanges all that is new with the `serve` there",
+    about: "Connects to an address, and exchanges all that is new with the `serve` or `hub` there",
     after: "\
-The state is saved also where the session ends early.
+What other commands add to the state meanwhile stays. The state is saved also where the session
+ends early. The connection is neither encrypted nor authenticated: an address other than the
+loopback is for a trusted network or a tunnel.
 
-Exit status: 0 done, 1 the other side's bytes are refused, 2 command line, 3 file or network, 4 memory
+Exit status: 0 done, 1 refused: Load (the state), Sync (the other side's bytes), Author, TooMany;
+2 command line, 3 file or network, 4 memory
 
 Example:
   census sync ben.state 127.0.0.1:4000",
+};
+
+pub(crate) const HUB: Help = Help {
+    about: "Serves one connection to an address after another, each with its `sync`, until it is ended",
+    after: "\
+It prints `listening on ADDR:PORT`, with the port that the system gave where 0 was asked for, and
+after each session `peer ADDR:PORT new N operations M`: so many operations are new, so many there
+are. A session that ends early has its fault on standard error, and the hub goes on. The state is
+saved after each session, and what other commands add to it meanwhile stays. The connection is
+neither encrypted nor authenticated: an address other than the loopback is for a trusted network
+or a tunnel.
+
+Exit status: 0 so many peers were served, 1 Load (the file is no state), 2 command line, 3 file,
+stream or network, 4 memory
+
+Example:
+  census hub group.state 127.0.0.1:4000",
 };
 
 pub(crate) const VALUE: Help = Help {
@@ -169,7 +202,8 @@ pub(crate) const VALUE: Help = Help {
 The nim-value is the exclusive or of the heaps' values. Where one is not known, `unknown at` names
 the first such heap, counted from 0.
 
-Exit status: 0 done (also where it is unknown), 1 refused, 2 command line, 3 file, 4 memory
+Exit status: 0 done (also where it is unknown), 1 refused: Load (the state), Code; 2 command line,
+3 file, 4 memory
 
 Example:
   census value anna.state 0.77 5 6",
@@ -178,7 +212,7 @@ Example:
 pub(crate) const PAGE: Help = Help {
     about: "Prints one page of the catalogue",
     after: "\
-Exit status: 0 done, 1 there is no such page, 2 command line, 3 file, 4 memory
+Exit status: 0 done, 1 refused: Load (the state), NoPage; 2 command line, 3 file, 4 memory
 
 Example:
   census page anna.state 0",
@@ -187,7 +221,7 @@ Example:
 pub(crate) const SHOW: Help = Help {
     about: "Prints the catalogue",
     after: "\
-Exit status: 0 done, 1 the file is no state, 2 command line, 3 file, 4 memory
+Exit status: 0 done, 1 Load (the file is no state), 2 command line, 3 file, 4 memory
 
 Example:
   census show anna.state",

@@ -1,69 +1,188 @@
 //! Sessions over TCP.
 
-use crate::files::{read_file, replace_file};
-use census_core::Fault;
+use crate::connection::{Connection, Patience};
+use crate::files::read_file;
+use crate::state_file::StateFile;
+use census_core::{Fault, rejoin};
 use oct_replica::Replica;
-use oct_sync::{Role, drive};
+use oct_sync::{Role, drive, write_out};
 use std::alloc::Global;
-use std::net::{Net, TcpListener, TcpStream};
+use std::fs::File;
+use std::io::Write;
+use std::net::{Net, SocketAddr, TcpListener, TcpStream};
 use std::rt::Files;
+use std::time::Clock;
 
-/// Brings the state file and its peer up to date over one connection to the address: as the server, which waits for it, or
-/// as the client, which makes it. The state is saved also where the session ended early.
-pub(crate) fn exchange<R>(rt: &R, role: Role, state: &str, address: &str) -> Result<(), Fault>
+// How many attempts in a row to take a peer may fail before a hub ends.
+const ATTEMPTS: u32 = 100;
+
+/// A state, the address at which it meets its peers, and how long it waits for them there.
+#[derive(Clone, Copy)]
+pub(crate) struct Place<'a> {
+    pub(crate) state: &'a str,
+    pub(crate) address: &'a str,
+    pub(crate) patience: Patience,
+}
+
+/// Waits for one connection to the address, without end, and serves its session. The state is saved also where the session
+/// ended early. The fault is that of the state, as it is read first; then `Net`; then that of the session, or else of the
+/// state, as it is saved.
+pub(crate) fn serve<R>(rt: &R, place: Place<'_>) -> Result<(), Fault>
 where
-    R: Files + AllocGlobal + Net<Stream = TcpStream, Listener = TcpListener>,
+    R: Files<File = File> + AllocGlobal + Net<Stream = TcpStream, Listener = TcpListener> + Clock,
 {
+    let replica = load(rt, place.state)?;
+    let listener = bound(rt, place.address)?;
+    let (stream, _) = accepted(&listener)?;
+    meet(rt, Role::Server, place, replica, &stream)?;
+    Ok(())
+}
+
+/// Connects to the address, and has one session with what serves there. Its faults are those of `serve`.
+pub(crate) fn sync<R>(rt: &R, place: Place<'_>) -> Result<(), Fault>
+where
+    R: Files<File = File> + AllocGlobal + Net<Stream = TcpStream, Listener = TcpListener> + Clock,
+{
+    let replica = load(rt, place.state)?;
+    let Ok(stream) = TcpStream::connect(rt, place.address) else {
+        return Err(Fault::Net);
+    };
+    meet(rt, Role::Client, place, replica, &stream)?;
+    Ok(())
+}
+
+/// Serves so many connections to the address, one after another, and says where it listens and how each session ended.
+/// What ends a session early does not end the hub. The fault is that of the state, as it is read first; then `Net`, also
+/// where no connection can be taken any more; and `Write`.
+pub(crate) fn hub<R, O, E>(
+    rt: &R,
+    place: Place<'_>,
+    peers: u64,
+    output: &mut O,
+    errors: &mut E,
+) -> Result<(), Fault>
+where
+    R: Files<File = File> + AllocGlobal + Net<Stream = TcpStream, Listener = TcpListener> + Clock,
+    O: Write,
+    E: Write,
+{
+    load(rt, place.state)?;
+    let listener = bound(rt, place.address)?;
+    let Ok(address) = listener.local_addr() else {
+        return Err(Fault::Net);
+    };
+    let line = format!(in rt.alloc(); "listening on {address}\n")?;
+    write_out(output, line.as_bytes())?;
+    for _ in 0..peers {
+        let (stream, peer) = accepted(&listener)?;
+        match host(rt, place, &stream) {
+            Ok(text) => say(rt.alloc(), peer, &text, output)?,
+            Err(fault) => {
+                let _ = writeln!(errors, "census: peer {peer} {fault}");
+            }
+        }
+    }
+    Ok(())
+}
+
+// Serves one connection of a hub. The text is that of the union.
+fn host<R>(rt: &R, place: Place<'_>, stream: &TcpStream) -> Result<Vec<u8>, Fault>
+where
+    R: Files<File = File> + AllocGlobal + Clock,
+{
+    let replica = load(rt, place.state)?;
+    meet(rt, Role::Server, place, replica, stream)
+}
+
+// Says how a session ended.
+fn say<O: Write>(
+    alloc: Global,
+    peer: SocketAddr,
+    text: &[u8],
+    output: &mut O,
+) -> Result<(), Fault> {
+    let front = format!(in alloc; "peer {peer} ")?;
+    let mut line = Vec::from_slice(alloc, front.as_bytes())?;
+    line.extend_from_slice(text)?;
+    Ok(write_out(output, &line)?)
+}
+
+// The replica of a state file.
+fn load<R: Files + AllocGlobal>(rt: &R, state: &str) -> Result<Replica<Global>, Fault> {
     let bytes = read_file(rt, state)?;
-    let mut replica = Replica::load(rt.alloc(), &bytes)?;
-    let stream = connected(rt, role, address)?;
-    let done = session(rt.alloc(), role, &mut replica, &stream);
-    match done {
-        Ok(()) => save(rt, &replica, state),
+    Ok(Replica::load(rt.alloc(), &bytes)?)
+}
+
+// Listens at the address. The fault is `Net`.
+fn bound<R>(rt: &R, address: &str) -> Result<TcpListener, Fault>
+where
+    R: Net<Stream = TcpStream, Listener = TcpListener>,
+{
+    TcpListener::bind(rt, address).or(Err(Fault::Net))
+}
+
+// The next connection, and who made it. The fault is `Net`.
+fn accepted(listener: &TcpListener) -> Result<(TcpStream, SocketAddr), Fault> {
+    for _ in 0..ATTEMPTS {
+        if let Ok(connection) = listener.accept() {
+            return Ok(connection);
+        }
+    }
+    Err(Fault::Net)
+}
+
+// Runs a session to its end over the connection, and saves what the replica holds then, also after a fault of the session.
+// The text is that of the union.
+fn meet<R>(
+    rt: &R,
+    role: Role,
+    place: Place<'_>,
+    mut replica: Replica<Global>,
+    stream: &TcpStream,
+) -> Result<Vec<u8>, Fault>
+where
+    R: Files<File = File> + AllocGlobal + Clock,
+{
+    match exchange(rt, role, place.patience, &mut replica, stream) {
+        Ok(()) => save(rt, place.state, &replica),
         Err(Fault::Sync(fault)) => {
-            let _ = save(rt, &replica, state);
+            let _ = save(rt, place.state, &replica);
             Err(Fault::Sync(fault))
         }
         Err(fault) => Err(fault),
     }
 }
 
-// One connection of the role. The fault is `Net`.
-fn connected<R>(rt: &R, role: Role, address: &str) -> Result<TcpStream, Fault>
-where
-    R: Net<Stream = TcpStream, Listener = TcpListener>,
-{
-    match role {
-        Role::Client => TcpStream::connect(rt, address).or(Err(Fault::Net)),
-        Role::Server => {
-            let Ok(listener) = TcpListener::bind(rt, address) else {
-                return Err(Fault::Net);
-            };
-            match listener.accept() {
-                Ok((stream, _)) => Ok(stream),
-                Err(_) => Err(Fault::Net),
-            }
-        }
-    }
-}
-
-// Runs a session to its end over the connection.
-fn session(
-    alloc: Global,
+// The session alone.
+fn exchange<R>(
+    rt: &R,
     role: Role,
+    patience: Patience,
     replica: &mut Replica<Global>,
     stream: &TcpStream,
-) -> Result<(), Fault> {
-    Ok(drive(alloc, role, replica, &mut &*stream, &mut &*stream)?)
+) -> Result<(), Fault>
+where
+    R: AllocGlobal + Clock,
+{
+    let (Ok(mut reader), Ok(mut writer)) = (
+        Connection::new(rt, stream, patience),
+        Connection::new(rt, stream, patience),
+    ) else {
+        return Err(Fault::Net);
+    };
+    Ok(drive(rt.alloc(), role, replica, &mut reader, &mut writer)?)
 }
 
-// Writes the state file.
-fn save<R: Files + AllocGlobal>(
-    rt: &R,
-    replica: &Replica<Global>,
-    state: &str,
-) -> Result<(), Fault> {
-    let mut text = Vec::new(rt.alloc());
-    replica.save(&mut text)?;
-    replace_file(rt, state, &text)
+// Saves the union of what the state file holds now and what the replica holds, while no other command changes the file.
+fn save<R>(rt: &R, state: &str, replica: &Replica<Global>) -> Result<Vec<u8>, Fault>
+where
+    R: Files<File = File> + AllocGlobal,
+{
+    let file = StateFile::wait(rt, state)?;
+    let bytes = read_file(rt, state)?;
+    let reply = rejoin(rt.alloc(), &bytes, replica)?;
+    if let Some(text) = &reply.state {
+        file.replace(rt, text)?;
+    }
+    Ok(reply.text)
 }

@@ -1,24 +1,27 @@
 //! The program over any three streams.
 
 use crate::command_line::command;
-use crate::files::{exists, read_file, replace_file, write_file};
-use crate::network::exchange;
+use crate::files::{exists, is_same_file, read_file, write_file};
+use crate::network::{hub, serve, sync};
+use crate::state_file::StateFile;
 use crate::task::{Task, read_task};
 use census_core::{Fault, Reply, Request, fold_lines, perform};
 use clap::error::ErrorKind;
 use oct_sync::write_out;
 use std::alloc::Global;
 use std::convert::AsStr;
+use std::fs::File;
 use std::io::{Read, Write};
 use std::net::{Net, TcpListener, TcpStream};
 use std::rt::Files;
+use std::time::Clock;
 
 /// Does the command line of these words, among which the program's name is not: reads the first stream, writes its output
-/// and help to the second, and the count of refused lines, its fault or the text of a refused command line to the third.
+/// and help to the second, and the count of refused lines, its faults or the text of a refused command line to the third.
 /// Answers the exit status: 0 done, 1 refused, 2 command line, 3 file, stream or network, 4 memory.
 pub fn run<R, S, I, O, E>(rt: &R, words: &[S], input: &mut I, output: &mut O, errors: &mut E) -> u8
 where
-    R: Files + AllocGlobal + Net<Stream = TcpStream, Listener = TcpListener>,
+    R: Files<File = File> + AllocGlobal + Net<Stream = TcpStream, Listener = TcpListener> + Clock,
     S: AsStr,
     I: Read,
     O: Write,
@@ -40,8 +43,8 @@ where
     }
 }
 
-// Writes the fault's line, and gives its status.
-fn refuse<E: Write>(errors: &mut E, fault: Fault) -> u8 {
+/// Writes the fault's line, and gives its status.
+pub(crate) fn refuse<E: Write>(errors: &mut E, fault: Fault) -> u8 {
     let _ = writeln!(errors, "census: {fault}");
     fault.status()
 }
@@ -78,7 +81,7 @@ fn done<R, I, O, E>(
     errors: &mut E,
 ) -> Result<(), Fault>
 where
-    R: Files + AllocGlobal + Net<Stream = TcpStream, Listener = TcpListener>,
+    R: Files<File = File> + AllocGlobal + Net<Stream = TcpStream, Listener = TcpListener> + Clock,
     I: Read,
     O: Write,
     E: Write,
@@ -86,23 +89,25 @@ where
     match task {
         Task::Fold => fold(rt.alloc(), input, output, errors),
         Task::Init { state, id } => init(rt, state, *id, output),
-        Task::Perform {
+        Task::Change {
             state,
             read,
+            request,
+        } => change(rt, state, *read, request, output),
+        Task::Ask {
+            state,
             written,
             request,
-        } => {
-            let reply = reply_to(rt, state, *read, request)?;
-            finish(rt, &reply, state, *written, output)
-        }
-        Task::Exchange {
-            role,
-            state,
-            address,
-        } => {
-            exchange(rt, *role, state, address)?;
+        } => ask(rt, state, *written, request, output),
+        Task::Serve { place } => {
+            serve(rt, *place)?;
             Ok(write_out(output, b"done\n")?)
         }
+        Task::Sync { place } => {
+            sync(rt, *place)?;
+            Ok(write_out(output, b"done\n")?)
+        }
+        Task::Hub { place, peers } => hub(rt, *place, *peers, output, errors),
     }
 }
 
@@ -119,17 +124,81 @@ fn fold<I: Read, O: Write, E: Write>(
 }
 
 // Makes a state file, where nothing stands in its place.
-fn init<R: Files + AllocGlobal, O: Write>(
-    rt: &R,
-    state: &str,
-    id: u32,
-    output: &mut O,
-) -> Result<(), Fault> {
+fn init<R, O>(rt: &R, state: &str, id: u32, output: &mut O) -> Result<(), Fault>
+where
+    R: Files<File = File> + AllocGlobal,
+    O: Write,
+{
     if exists(rt, state)? {
         return Err(Fault::Exists);
     }
     let reply = perform(rt.alloc(), &Request::Init { id }, b"", b"")?;
-    finish(rt, &reply, state, None, output)
+    make(rt, state, &reply)?;
+    Ok(write_out(output, &reply.text)?)
+}
+
+// Writes the new state, unless another command has made one meanwhile.
+fn make<R: Files<File = File> + AllocGlobal>(
+    rt: &R,
+    state: &str,
+    reply: &Reply,
+) -> Result<(), Fault> {
+    let file = StateFile::wait(rt, state)?;
+    if exists(rt, state)? {
+        return Err(Fault::Exists);
+    }
+    replace(rt, &file, reply)
+}
+
+// Changes a state file, and prints the text of the reply once other commands may change it again.
+fn change<R, O>(
+    rt: &R,
+    state: &str,
+    read: Option<&str>,
+    request: &Request,
+    output: &mut O,
+) -> Result<(), Fault>
+where
+    R: Files<File = File> + AllocGlobal,
+    O: Write,
+{
+    let reply = changed(rt, state, read, request)?;
+    Ok(write_out(output, &reply.text)?)
+}
+
+// Changes a state file, and holds its lock from before it is read until it is replaced.
+fn changed<R: Files<File = File> + AllocGlobal>(
+    rt: &R,
+    state: &str,
+    read: Option<&str>,
+    request: &Request,
+) -> Result<Reply, Fault> {
+    let file = StateFile::wait(rt, state)?;
+    let reply = reply_to(rt, state, read, request)?;
+    replace(rt, &file, &reply)?;
+    Ok(reply)
+}
+
+// Asks a state file, and writes the file of the reply and then its text. The state file is not written over.
+fn ask<R, O>(
+    rt: &R,
+    state: &str,
+    written: Option<&str>,
+    request: &Request,
+    output: &mut O,
+) -> Result<(), Fault>
+where
+    R: Files<File = File> + AllocGlobal,
+    O: Write,
+{
+    let reply = reply_to(rt, state, None, request)?;
+    if let (Some(bytes), Some(path)) = (&reply.file, written) {
+        if is_same_file(rt, state, path) {
+            return Err(Fault::Same);
+        }
+        write_file(rt, path, bytes)?;
+    }
+    Ok(write_out(output, &reply.text)?)
 }
 
 // What the request gives over the bytes of its files.
@@ -147,19 +216,14 @@ fn reply_to<R: Files + AllocGlobal>(
     perform(rt.alloc(), request, &state, &file)
 }
 
-// Writes the files of a reply, and then its text.
-fn finish<R: Files + AllocGlobal, O: Write>(
+// Replaces the state by that of a reply.
+fn replace<R: Files<File = File> + AllocGlobal>(
     rt: &R,
+    file: &StateFile,
     reply: &Reply,
-    state: &str,
-    written: Option<&str>,
-    output: &mut O,
 ) -> Result<(), Fault> {
-    if let Some(text) = &reply.state {
-        replace_file(rt, state, text)?;
+    match &reply.state {
+        Some(text) => file.replace(rt, text),
+        None => Ok(()),
     }
-    if let (Some(bytes), Some(path)) = (&reply.file, written) {
-        write_file(rt, path, bytes)?;
-    }
-    Ok(write_out(output, &reply.text)?)
 }

@@ -1,9 +1,13 @@
 //! What a command line asks for.
 
+use crate::command_line::{CommandName, command_named};
+use crate::connection::Patience;
+use crate::network::Place;
+use crate::words::{self, Choice, Word};
 use census_core::{Fault, Request, number};
 use clap::ArgMatches;
-use oct_sync::Role;
 use std::alloc::Global;
+use std::time::Duration;
 
 /// What a command line asks for. Names of files and addresses are as they stand there.
 #[derive(Drop)]
@@ -15,121 +19,213 @@ pub(crate) enum Task<'a> {
         state: &'a str,
         id: u32,
     },
-    /// A command over a state file.
-    Perform {
+    /// A command that changes a state file, and the file that it reads beside it.
+    Change {
         state: &'a str,
-        /// The file that the command reads beside it.
         read: Option<&'a str>,
-        /// The file that the command writes beside it.
+        request: Request,
+    },
+    /// A command that reads a state file, and the file that it writes beside it.
+    Ask {
+        state: &'a str,
         written: Option<&'a str>,
         request: Request,
     },
-    /// One session with another replica: as the server, which waits for it, or as the client, which begins it.
-    Exchange {
-        role: Role,
-        state: &'a str,
-        address: &'a str,
+    /// One session with a replica that connects.
+    Serve {
+        place: Place<'a>,
+    },
+    /// One session with a replica that serves.
+    Sync {
+        place: Place<'a>,
+    },
+    /// A session with each of so many replicas that connect.
+    Hub {
+        place: Place<'a>,
+        peers: u64,
     },
 }
 
-/// What the matches of a command line ask for. The fault is `Number` where a word is no number of its range, and
-/// `OutOfMemory`.
+/// What the matches of a command line ask for. The fault is `Number` where a word is no number of its range, `Words` where
+/// one is missing, and `OutOfMemory`.
 pub(crate) fn read_task<'a>(alloc: Global, matches: &ArgMatches<'a>) -> Result<Task<'a>, Fault> {
     let Some((name, found)) = matches.subcommand() else {
-        return Ok(Task::Fold);
+        return Err(Fault::Words);
     };
-    let state = word(found, "STATE");
-    match name {
-        "init" => Ok(Task::Init {
-            state,
-            id: number_of(found, "ID")?,
-        }),
-        "import" => Ok(over(state, Some(word(found, "FILE")), None, Request::Import)),
-        "merge" => Ok(over(state, Some(word(found, "DELTA")), None, Request::Merge)),
-        "delta" => Ok(over(state, None, Some(word(found, "OUT")), Request::Delta)),
-        "show" => Ok(over(state, None, None, Request::Show)),
-        "serve" => Ok(exchange(Role::Server, state, found)),
-        "sync" => Ok(exchange(Role::Client, state, found)),
-        "fold" => Ok(Task::Fold),
-        _ => Ok(over(state, None, None, request_of(alloc, name, found)?)),
+    match command_named(name) {
+        Some(command) => task_of(alloc, command, found),
+        None => Err(Fault::Words),
     }
 }
 
-// A command over a state file.
-fn over<'a>(
-    state: &'a str,
-    read: Option<&'a str>,
-    written: Option<&'a str>,
+// What a command asks for with these words.
+fn task_of<'a>(
+    alloc: Global,
+    command: CommandName,
+    found: &ArgMatches<'a>,
+) -> Result<Task<'a>, Fault> {
+    match command {
+        CommandName::Fold => Ok(Task::Fold),
+        CommandName::Init => Ok(Task::Init {
+            state: word(found, words::STATE)?,
+            id: number_of(found, words::ID)?,
+        }),
+        CommandName::Import => change(found, Some(words::FILE), Request::Import),
+        CommandName::Merge => change(found, Some(words::DELTA), Request::Merge),
+        CommandName::Compute => change(found, None, compute(alloc, found)?),
+        CommandName::Period => change(found, None, period(alloc, found)?),
+        CommandName::Note => change(found, None, note(alloc, found)?),
+        CommandName::Unnote => change(found, None, unnote(alloc, found)?),
+        CommandName::Delta => ask(found, Some(words::OUT), Request::Delta),
+        CommandName::Value => ask(found, None, value(alloc, found)?),
+        CommandName::Page => ask(found, None, page(found)?),
+        CommandName::Show => ask(found, None, Request::Show),
+        CommandName::Serve => Ok(Task::Serve {
+            place: place(found, None)?,
+        }),
+        CommandName::Sync => Ok(Task::Sync {
+            place: place(found, None)?,
+        }),
+        CommandName::Hub => Ok(Task::Hub {
+            place: place(found, Some(seconds(found, words::LONGEST)?))?,
+            peers: peers(found)?,
+        }),
+    }
+}
+
+// A command that changes a state file.
+fn change<'a>(
+    found: &ArgMatches<'a>,
+    read: Option<Word>,
     request: Request,
-) -> Task<'a> {
-    Task::Perform {
-        state,
-        read,
-        written,
+) -> Result<Task<'a>, Fault> {
+    Ok(Task::Change {
+        state: word(found, words::STATE)?,
+        read: maybe_word(found, read)?,
         request,
-    }
+    })
 }
 
-// A session of this role.
-fn exchange<'a>(role: Role, state: &'a str, found: &ArgMatches<'a>) -> Task<'a> {
-    Task::Exchange {
-        role,
-        state,
-        address: word(found, "ADDR"),
-    }
+// A command that reads a state file.
+fn ask<'a>(
+    found: &ArgMatches<'a>,
+    written: Option<Word>,
+    request: Request,
+) -> Result<Task<'a>, Fault> {
+    Ok(Task::Ask {
+        state: word(found, words::STATE)?,
+        written: maybe_word(found, written)?,
+        request,
+    })
 }
 
-// The request of a command that names what it issues or asks for.
-fn request_of(alloc: Global, name: &str, found: &ArgMatches<'_>) -> Result<Request, Fault> {
-    match name {
-        "compute" => Ok(Request::Compute {
-            count: number_of(found, "COUNT")?,
-            code: bytes(alloc, found, "CODE")?,
-        }),
-        "period" => Ok(Request::Period {
-            start: number_of(found, "E")?,
-            period: number_of(found, "P")?,
-            code: bytes(alloc, found, "CODE")?,
-        }),
-        "note" => Ok(Request::Note {
-            name: bytes(alloc, found, "NAME")?,
-            text: bytes(alloc, found, "TEXT")?,
-        }),
-        "unnote" => Ok(Request::Unnote {
-            name: bytes(alloc, found, "NAME")?,
-        }),
-        "value" => Ok(Request::Value {
-            heaps: heaps(alloc, found)?,
-            code: bytes(alloc, found, "CODE")?,
-        }),
-        _ => Ok(Request::Page {
-            number: number_of(found, "NUMBER")?,
-        }),
-    }
+// Where a state meets its peers; a session lasts no longer than this, where it is said.
+fn place<'a>(found: &ArgMatches<'a>, session: Option<Duration>) -> Result<Place<'a>, Fault> {
+    Ok(Place {
+        state: word(found, words::STATE)?,
+        address: word(found, words::ADDR)?,
+        patience: Patience {
+            silence: seconds(found, words::PATIENCE)?,
+            session,
+        },
+    })
+}
+
+fn compute(alloc: Global, found: &ArgMatches<'_>) -> Result<Request, Fault> {
+    Ok(Request::Compute {
+        count: number_of(found, words::COUNT)?,
+        code: bytes(alloc, found, words::CODE)?,
+    })
+}
+
+fn period(alloc: Global, found: &ArgMatches<'_>) -> Result<Request, Fault> {
+    Ok(Request::Period {
+        start: number_of(found, words::E)?,
+        period: number_of(found, words::P)?,
+        code: bytes(alloc, found, words::CODE)?,
+    })
+}
+
+fn note(alloc: Global, found: &ArgMatches<'_>) -> Result<Request, Fault> {
+    Ok(Request::Note {
+        name: bytes(alloc, found, words::NAME)?,
+        text: bytes(alloc, found, words::TEXT)?,
+    })
+}
+
+fn unnote(alloc: Global, found: &ArgMatches<'_>) -> Result<Request, Fault> {
+    Ok(Request::Unnote {
+        name: bytes(alloc, found, words::NAME)?,
+    })
+}
+
+fn value(alloc: Global, found: &ArgMatches<'_>) -> Result<Request, Fault> {
+    Ok(Request::Value {
+        heaps: heaps(alloc, found)?,
+        code: bytes(alloc, found, words::CODE)?,
+    })
+}
+
+fn page(found: &ArgMatches<'_>) -> Result<Request, Fault> {
+    Ok(Request::Page {
+        number: number_of(found, words::NUMBER)?,
+    })
 }
 
 // A word of the command line.
-fn word<'a>(found: &ArgMatches<'a>, id: &str) -> &'a str {
-    found.get_str(id).unwrap_or("")
+fn word<'a>(found: &ArgMatches<'a>, word: Word) -> Result<&'a str, Fault> {
+    found.get_str(word.name).ok_or(Fault::Words)
+}
+
+// The same of a word that a command may lack.
+fn maybe_word<'a>(found: &ArgMatches<'a>, which: Option<Word>) -> Result<Option<&'a str>, Fault> {
+    match which {
+        Some(which) => Ok(Some(word(found, which)?)),
+        None => Ok(None),
+    }
 }
 
 // A copy of a word's bytes.
-fn bytes(alloc: Global, found: &ArgMatches<'_>, id: &str) -> Result<Vec<u8>, Fault> {
-    Ok(Vec::from_slice(alloc, word(found, id).as_bytes())?)
+fn bytes(alloc: Global, found: &ArgMatches<'_>, which: Word) -> Result<Vec<u8>, Fault> {
+    Ok(Vec::from_slice(alloc, word(found, which)?.as_bytes())?)
 }
 
 // A word as a number of 32 bits.
-fn number_of(found: &ArgMatches<'_>, id: &str) -> Result<u32, Fault> {
-    let Some(n) = number(word(found, id), u64::from(u32::MAX)) else {
+fn number_of(found: &ArgMatches<'_>, which: Word) -> Result<u32, Fault> {
+    number_in(word(found, which)?)
+}
+
+// A text as a number of 32 bits.
+fn number_in(text: &str) -> Result<u32, Fault> {
+    let Some(n) = number(text, u64::from(u32::MAX)) else {
         return Err(Fault::Number);
     };
     u32::try_from(n).or(Err(Fault::Number))
 }
 
+// The seconds of an option, at least one.
+fn seconds(found: &ArgMatches<'_>, choice: Choice) -> Result<Duration, Fault> {
+    let Some(text) = found.get_str(choice.name) else {
+        return Err(Fault::Words);
+    };
+    match number_in(text)? {
+        0 => Err(Fault::Number),
+        seconds => Ok(Duration::from_secs(u64::from(seconds))),
+    }
+}
+
+// How many peers a hub serves.
+fn peers(found: &ArgMatches<'_>) -> Result<u64, Fault> {
+    match found.get_str(words::PEERS.name) {
+        Some(text) => Ok(u64::from(number_in(text)?)),
+        None => Ok(u64::MAX),
+    }
+}
+
 // The heaps of a position.
 fn heaps(alloc: Global, found: &ArgMatches<'_>) -> Result<Vec<u64>, Fault> {
     let mut heaps = Vec::new(alloc);
-    if let Some(words) = found.get_strs("HEAP") {
+    if let Some(words) = found.get_strs(words::HEAP.name) {
         for word in words {
             let Some(heap) = number(word, u64::MAX) else {
                 return Err(Fault::Number);

@@ -1,0 +1,40 @@
+//! The program over the words that it was called with.
+
+use crate::program::{refuse, run};
+use census_core::Fault;
+use std::alloc::Global;
+use std::env::{self, Env};
+use std::fs::File;
+use std::io::{ErrorKind, Read, Write};
+use std::net::{Net, TcpListener, TcpStream};
+use std::rt::Files;
+use std::time::Clock;
+
+/// Does the command line that the program was called with, as `run` does its words. The fault is `Words` where one is not
+/// UTF-8.
+pub fn run_called<R, I, O, E>(rt: &R, input: &mut I, output: &mut O, errors: &mut E) -> u8
+where
+    R: Env
+        + Files<File = File>
+        + AllocGlobal
+        + Net<Stream = TcpStream, Listener = TcpListener>
+        + Clock,
+    I: Read,
+    O: Write,
+    E: Write,
+{
+    match words_of(rt) {
+        Ok(words) => run(rt, &words, input, output, errors),
+        Err(fault) => refuse(errors, fault),
+    }
+}
+
+// The words, without the program's name.
+fn words_of<R: Env + AllocGlobal>(rt: &R) -> Result<Vec<String>, Fault> {
+    let alloc: Global = rt.alloc();
+    match env::args(rt) {
+        Ok(all) => Ok(all.skip(1).collect::<Vec<String>>(alloc)?),
+        Err(e) if e.kind() == ErrorKind::OutOfMemory => Err(Fault::OutOfMemory),
+        Err(_) => Err(Fault::Words),
+    }
+}

@@ -1,0 +1,125 @@
+//! The words of a command line: what stands in their place in its help, and what they mean.
+
+/// A word that a command takes in its place.
+#[derive(Clone, Copy)]
+pub(crate) struct Word {
+    pub(crate) name: &'static str,
+    pub(crate) meaning: &'static str,
+    /// Whether it stands any number of times. Else it stands once.
+    pub(crate) is_repeated: bool,
+}
+
+/// An option that a command takes, with one value.
+#[derive(Clone, Copy)]
+pub(crate) struct Choice {
+    pub(crate) name: &'static str,
+    pub(crate) value: &'static str,
+    pub(crate) meaning: &'static str,
+    /// The value where the option is left out; none where it may be left out.
+    pub(crate) default: Option<&'static str>,
+}
+
+pub(crate) const STATE: Word = Word {
+    name: "STATE",
+    meaning: "The state file",
+    is_repeated: false,
+};
+
+pub(crate) const ID: Word = Word {
+    name: "ID",
+    meaning: "The author of what is issued there, 1 to 4294967295; no two people may have one",
+    is_repeated: false,
+};
+
+pub(crate) const FILE: Word = Word {
+    name: "FILE",
+    meaning: "A JSON file such as {\"code\":\"0.07\",\"start\":0,\"values\":[0,0,1,1,2,0,3]}",
+    is_repeated: false,
+};
+
+pub(crate) const DELTA: Word = Word {
+    name: "DELTA",
+    meaning: "A delta file, as `census delta` writes it",
+    is_repeated: false,
+};
+
+pub(crate) const OUT: Word = Word {
+    name: "OUT",
+    meaning: "The file that is written, in place of what stands there; not the state file",
+    is_repeated: false,
+};
+
+pub(crate) const ADDR: Word = Word {
+    name: "ADDR",
+    meaning: "An address such as 127.0.0.1:4000",
+    is_repeated: false,
+};
+
+pub(crate) const CODE: Word = Word {
+    name: "CODE",
+    meaning: "An octal code such as 0.77: head 0 or 4, a point, digits 0 to 7, at most 16 that count",
+    is_repeated: false,
+};
+
+pub(crate) const COUNT: Word = Word {
+    name: "COUNT",
+    meaning: "How many values, 1 to 1024; fewer where heap 65535 comes first",
+    is_repeated: false,
+};
+
+pub(crate) const E: Word = Word {
+    name: "E",
+    meaning: "The heap from which on the values repeat, 1 to 65536",
+    is_repeated: false,
+};
+
+pub(crate) const P: Word = Word {
+    name: "P",
+    meaning: "The period, 1 to 65536",
+    is_repeated: false,
+};
+
+pub(crate) const NAME: Word = Word {
+    name: "NAME",
+    meaning: "The note's name, 1 to 32 bytes of a-z, 0-9 and -",
+    is_repeated: false,
+};
+
+pub(crate) const TEXT: Word = Word {
+    name: "TEXT",
+    meaning: "The note's text, at most 200 bytes from the space to the tilde",
+    is_repeated: false,
+};
+
+pub(crate) const NUMBER: Word = Word {
+    name: "NUMBER",
+    meaning: "The page's number, 0 and up; a page has 64 lines",
+    is_repeated: false,
+};
+
+pub(crate) const HEAP: Word = Word {
+    name: "HEAP",
+    meaning: "The heaps of the position, each 0 to 18446744073709551615; none is the empty position",
+    is_repeated: true,
+};
+
+pub(crate) const PATIENCE: Choice = Choice {
+    name: "patience",
+    value: "SECONDS",
+    meaning: "How long the other side may be silent in a session, 1 to 4294967295 seconds",
+    default: Some("60"),
+};
+
+pub(crate) const LONGEST: Choice = Choice {
+    name: "longest",
+    value: "SECONDS",
+    meaning: "How long one session may last, 1 to 4294967295 seconds",
+    default: Some("600"),
+};
+
+pub(crate) const PEERS: Choice = Choice {
+    name: "peers",
+    value: "N",
+    meaning: "Ends after so many connections, 0 to 4294967295; without it, not by itself",
+    default: None,
+};
