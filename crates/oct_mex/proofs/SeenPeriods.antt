@@ -1,8 +1,9 @@
 -- A period that a list of nim-values shows.
-use Rattle.std.proofs.Common.{◌≡◌, ℕ, suc, ◌+◌, ◌-◌, ◌*◌, ◌<◌, ◌≤◌, ◌++◌, ◌∷◌, [], List, length, slice_index, sym, ap, ap₂, ◌∙◌, arith}
+use Rattle.std.proofs.Common.{◌≡◌, ℕ, suc, ◌+◌, ◌-◌, ◌*◌, ◌<◌, ◌≤◌, ◌++◌, ◌∷◌, [], List, length, slice_index, inl, inr, subst, sym, ap, ap₂, ◌∙◌, arith}
+use Rattle.std.proofs.lemmas.Bool.{cases_lt}
 use Rattle.oct_code.specs.Code.{Code, len}
 use Rattle.oct_mex.specs.NimValues.{nim_values, nim_value}
-use Rattle.oct_mex.specs.Periods.{GoesOn, IsPeriodicFrom}
+use Rattle.oct_mex.specs.Periods.{GoesOn, IsPeriodicFrom, IsShown, NoneIsShown}
 use Rattle.oct_mex.proofs.NimValues.{nim_values-at, nim_value-eq}
 use Rattle.oct_mex.proofs.Periods.{seen_periods_hold}
 
@@ -18,6 +19,19 @@ shown_holds c values start period are some far again =
     seen_periods_hold c start period some
     (λ n low near.
     sym (value_at c values are (n + period) (omega arith)) ∙ again n low (omega arith) ∙ value_at c values are n (omega arith))
+
+-- what is shown from some heap on comes again from each later one on
+pub again_if_shown : (c : Code) (values : List ℕ) (start period from : ℕ) → values ≡ nim_values c (length values) → IsShown c (length values) start period → start ≤ from
+    → (n : ℕ) → from ≤ n → n + period < length values → slice_index values (n + period) ≡ slice_index values n
+again_if_shown c values start period from are shown late n low within =
+    value_at c values are (n + period) within ∙ seen_periods_hold c start period shown.first shown.seen n (omega arith) ∙ sym (value_at c values are n (omega arith))
+
+-- one period more that is not shown
+pub none_shown-next : (c : Code) (count period : ℕ) → NoneIsShown c count period → ((start : ℕ) → IsShown c count start period → ⊥) → NoneIsShown c count (period + 1)
+none_shown-next c count period none here start smaller low shown = elim (cases_lt smaller period) [
+  | inl less ↦ none start smaller less shown
+  | inr more ↦ let same : smaller ≡ period = omega arith in here start (subst (IsShown c count start) same shown)
+]
 
 -- a period that holds from a heap on goes on behind one that is a period later
 pub goes_on : (c : Code) (start period held : ℕ) → start + period ≤ held → IsPeriodicFrom c start period → GoesOn c held period

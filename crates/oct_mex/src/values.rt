@@ -1,10 +1,10 @@
 //! The first nim-values of a game.
 
-ghost use Rattle.std.specs.Prelude.{◌≡◌, ◌+◌, ◌*◌, ◌^◌, ◌<◌, ◌≤◌, max, length, IfOk, IfSome, OnErr, OnOk, SomeIff};
+ghost use Rattle.std.specs.Prelude.{◌≡◌, ◌+◌, ◌*◌, ◌^◌, ◌<◌, ◌≤◌, max, length, IfOk, IfSome, MatchOption, OnErr, OnOk, SomeIff};
 ghost use Rattle.std.specs.List.{All};
 ghost use Rattle.oct_code.specs.Code as octal;
 ghost use Rattle.oct_mex.specs.NimValues.{nim_values, nim_value};
-ghost use Rattle.oct_mex.specs.Periods.{IsPeriodicFrom};
+ghost use Rattle.oct_mex.specs.Periods.{IsPeriodicFrom, NoneIsShown};
 
 use crate::marks::{next_value, table_len};
 use crate::period::{SeenPeriod, seen_period};
@@ -168,12 +168,15 @@ impl<A: Allocator + Copy> Values<A> {
         Ok(())
     }
 
-    /// A period that the values show so far that it holds for ever: twice the heap from which on it is seen, twice the
-    /// period and the number of digits are at most as many as the values. `None` says only that the search found none.
+    /// The least period that the values show so far that it holds for ever: twice the heap from which on it is seen, twice the
+    /// period and the number of digits are at most as many as the values. That heap is the last that serves. `None` where they
+    /// show no period.
     pub fn find_period(&self) -> Option<SeenPeriod>
         ensures start { IfSome result (λ seen. 1 ≤ seen.start) }
         ensures period { IfSome result (λ seen. 1 ≤ seen.period) }
         ensures shown { IfSome result (λ seen. 2 * seen.start + 2 * seen.period + octal.len self.now.code ≤ self.now.len) }
+        ensures last { IfSome result (λ seen. self.now.len < 2 * (seen.start + 1) + 2 * seen.period + octal.len self.now.code) }
+        ensures least { MatchOption result (NoneIsShown self.now.code self.now.len self.now.len) (λ seen. NoneIsShown self.now.code self.now.len seen.period) }
         ensures holds { IfSome result (λ seen. IsPeriodicFrom self.now.code seen.start seen.period) }
     {
         seen_period(&self.code, &self.values)
