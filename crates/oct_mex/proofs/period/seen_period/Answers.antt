@@ -1,6 +1,5 @@
-use Rattle.std.proofs.Common.{◌+◌, ◌*◌, ◌≤◌, ◌-◌, ◌/◌, inl, inr, arith, refl, length}
+use Rattle.std.proofs.Common.{◌-◌, ◌/◌, inl, inr, arith, refl, length}
 use Rattle.std.proofs.lemmas.Bool.{cases_lt, false≢true}
-use Rattle.oct_code.specs.Code.{len}
 use Rattle.oct_mex.proofs.SeenPeriods.{again_if_shown, none_shown-next, shown_holds}
 use Rattle.oct_mex.proofs.period.seen_period.Goals as goal
 use Rattle.oct_mex.proofs.period.seen_period.Goals.{then-digits-period+else-comes_again, else-digits-period}
