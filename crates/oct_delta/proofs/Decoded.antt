@@ -1,5 +1,5 @@
 -- What reading a delta answers.
-use Rattle.std.proofs.Common.{◌≡◌, ◌↔◌, ℕ, List, ◌++◌, Some, None, Result, Ok, Err, refl, sym, subst}
+use Rattle.std.proofs.Common.{◌≡◌, ◌↔◌, List, ◌++◌, Some, None, Result, Ok, Err, refl, sym, subst}
 use Rattle.std.specs.Prelude.{IfOk, IsErrOf, IsSome}
 use Rattle.std.proofs.lemmas.Bool.{false≢true}
 use Rattle.oct_ops.specs.Body.{Operation}

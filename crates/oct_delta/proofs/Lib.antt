@@ -20,3 +20,4 @@ mod Decoded
 mod Ended
 mod Fed
 mod Notes
+mod Cut

@@ -1,5 +1,6 @@
 -- What a reader of a text in pieces has, and what it tells of the bytes that were fed.
 use Rattle.std.specs.Prelude.{◌≡◌, ℕ, ◌<◌, ◌≤◌, ◌^◌, List, [], ◌++◌, length, Option, Some, None, IsSome, Result, Ok, Err}
+use denote.Ref.{Bor}
 use Rattle.std.specs.List.{flat_map, All}
 use Rattle.oct_ops.specs.Body.{Operation}
 use Rattle.oct_ops.specs.Operations.{IsRising}
@@ -56,6 +57,10 @@ IsHopeless bytes = (more : Bytes) (ops : List Operation) → ¬ IsDeltaText (byt
 -- the first four bytes are there, and are no tag
 abbrev pub IsForeign : Bytes → Type 0
 IsForeign bytes = (4 ≤ length bytes) × (format_at bytes ≡ None)
+
+-- the bytes of several pieces, one after the other
+abbrev pub together : List (Bor Bytes) → Bytes
+together pieces = flat_map (λ (piece : Bor Bytes). piece.now) pieces
 
 -- what a step tells of the bytes that were fed
 abbrev pub Tells : {A : Type 0} → Result (State A) DeltaError → Bytes → Type 0

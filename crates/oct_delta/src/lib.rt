@@ -13,7 +13,7 @@
 //! places. Both are read; a list is written as `OGD1` where that can spell it.
 //!
 //! - `decode` reads a delta, `encode` writes one, and `op_size` says how long an operation's text is.
-//! - `Reader` reads a delta that comes in pieces, and gives the operations as they come whole.
+//! - `Reader` reads a delta that comes in pieces, and gives the operations as they come whole; `decode_pieces` feeds one.
 //! - `decode_clock` and `encode_clock` do the same for clocks: a count, and then so many authors with their numbers.
 //! - `put_bytes`, `put_u32` and `put_entries` write what other texts are made of beside deltas.
 //! - `laws` says what holds of all texts.
@@ -41,4 +41,4 @@ pub use encoding::{MAX_OP_SIZE, encode, op_size};
 pub use error::{ClockError, DeltaError, EncodeError};
 pub use oct_ops::OpList;
 pub use output::{put_bytes, put_u32};
-pub use reader::Reader;
+pub use reader::{Reader, decode_pieces};

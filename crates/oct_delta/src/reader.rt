@@ -6,7 +6,7 @@ ghost use Rattle.oct_delta.specs.Delta.{IsDeltaText};
 ghost use Rattle.oct_delta.specs.Formats.{format};
 ghost use Rattle.oct_delta.specs.Decoding.{format_at};
 ghost use Rattle.oct_delta.specs.Streaming.{AreWhole};
-ghost use Rattle.oct_delta.specs.ReaderState.{Tells, BeginsList, IsReaderState, HasTag, IsHopeless, IsForeign, begun_bytes, fed};
+ghost use Rattle.oct_delta.specs.ReaderState.{Tells, BeginsList, IsReaderState, HasTag, IsHopeless, IsForeign, begun_bytes, fed, together};
 
 use crate::error::DeltaError;
 use crate::fault::ReadError;
@@ -211,4 +211,25 @@ impl<A: Allocator + Copy> Reader<A> {
         let Reader { state, .. } = self;
         end(state)
     }
+}
+
+/// Reads a delta that was cut into these pieces, by feeding a `Reader` each in turn. However it is cut, the answer is that
+/// of `decode` for all of the bytes, want of memory aside: the list that they spell, or `Version`, or `Refused`.
+pub fn decode_pieces<A: Allocator + Copy>(
+    alloc: A,
+    pieces: &[&[u8]],
+) -> Result<OpList<A>, DeltaError>
+    ensures ok { IfOk result (λ ops. IsDeltaText (together pieces.now) ops) }
+    ensures version { IsErrOf result DeltaError.Version → format_at (together pieces.now) ≡ None }
+    ensures refused { IsErrOf result DeltaError.Refused → HasTag (together pieces.now) × ((ops : List Operation) → ¬ IsDeltaText (together pieces.now) ops) }
+    ensures failed { ¬ IsErrOf result DeltaError.Failed }
+{
+    let mut reader = Reader::new(alloc);
+    for piece in pieces {
+        match reader.feed(*piece) {
+            Ok(()) => {}
+            Err(refused) => return Err(refused),
+        }
+    }
+    reader.finish()
 }
