@@ -4,7 +4,7 @@ use crate::answers::are_same;
 use crate::deltas::is_refused;
 use crate::vectors::{A, ALL, D, F, H, SOME, long_block, many_notes};
 use metered::Metered;
-use oct_delta::{DeltaError, Reader, decode};
+use oct_delta::{DeltaError, Reader, decode, decode_pieces};
 use oct_ops::Op;
 use std::alloc::{Allocator, Global};
 
@@ -84,6 +84,24 @@ fn refused_texts_are_read_again_in_pieces(rt: HostRuntime) {
         all &= reads_after_refusals(&heap, &heap, text, 16);
     }
     assert!(rt; all);
+}
+
+// Whether the pieces are read as these operations.
+fn is_read_whole<A: Allocator + Copy>(alloc: A, pieces: &[&[u8]], ops: &[Op<A>]) -> bool {
+    match decode_pieces(alloc, pieces) {
+        Ok(list) => are_same(list.as_slice(), ops),
+        Err(_) => false,
+    }
+}
+
+#[test]
+fn a_text_in_pieces_is_read_as_the_whole(rt: HostRuntime) {
+    let alloc = rt.alloc();
+    let is_read = match decode(alloc, D) {
+        Ok(list) => is_read_whole(alloc, &[&D[..3], &[], &D[3..]], list.as_slice()),
+        Err(_) => false,
+    };
+    assert!(rt; is_read);
 }
 
 // A with one more byte.

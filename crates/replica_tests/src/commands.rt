@@ -2,10 +2,10 @@
 
 use crate::answers::are_same;
 use crate::replica::{FORKED, LAST, ONE, TWO, long_block};
-use census_core::{Fault, ImportError, Reply, Request, number, perform};
+use census_core::{Fault, ImportError, Reply, Request, number, perform, rejoin};
 use oct_code::CodeError;
 use oct_ops::{NoteError, PeriodError};
-use oct_replica::{ComputeError, IssueError, LoadError, RemovalError, TakeError};
+use oct_replica::{ComputeError, IssueError, LoadError, RemovalError, Replica, TakeError};
 use oct_sync::SyncError;
 use std::alloc::{AllocError, Global};
 
@@ -511,4 +511,45 @@ fn are_named(alloc: Global, faults: &[(Fault, &str, u8)]) -> bool {
 #[test]
 fn faults_are_named(rt: HostRuntime) {
     assert!(rt; are_named(rt.alloc(), FAULTS));
+}
+
+/// The state of author 8 without operations.
+const OTHER: &[u8] = b"OGS1\0\0\0\x08OGD1\0\0\0\0";
+
+/// A state file, the state that a session holds, and what is saved then, with its text.
+type Union<'a> = (&'a [u8], &'a [u8], Result<(&'a str, &'a [u8]), Fault>);
+
+const UNIONS: &[Union<'static>] = &[
+    (J, WITH_A, Ok(("new 1 operations 1\n", WITH_A))),
+    (WITH_A, J, Ok(("new 0 operations 1\n", WITH_A))),
+    (WITH_A, OTHER, Err(Fault::Author)),
+    (CUT_J, OTHER, Err(Fault::Load(LoadError::Refused))),
+    (b"", J, Err(Fault::Load(LoadError::Version))),
+];
+
+// Whether the reply is this state and this text.
+fn is_union(reply: Reply, text: &str, state: &[u8]) -> bool {
+    are_same(reply.text.as_slice(), text.as_bytes()) && reply.state.as_deref() == Some(state)
+}
+
+// Whether a session leaves what is told.
+fn leaves(alloc: Global, union: Union) -> bool {
+    let (file, held, wanted) = union;
+    let Ok(held) = Replica::load(alloc, held) else {
+        return false;
+    };
+    match (rejoin(alloc, file, &held), wanted) {
+        (Ok(reply), Ok((text, state))) => is_union(reply, text, state),
+        (Err(fault), Err(named)) => fault == named,
+        _ => false,
+    }
+}
+
+#[test]
+fn sessions_leave_the_union(rt: HostRuntime) {
+    let mut all = true;
+    for &union in UNIONS {
+        all &= leaves(rt.alloc(), union);
+    }
+    assert!(rt; all);
 }

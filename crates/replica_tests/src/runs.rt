@@ -44,10 +44,16 @@ fn all_end(rt: &HostRuntime, cases: &[Case]) -> bool {
 
 // Whether commands on a state, of which one reads a file of JSON, end as they should.
 fn commands_end(rt: &HostRuntime, state: &str, json: &str) -> bool {
-    let cases: [Case; 5] = [
+    let listening = "listening on 127.0.0.1:..";
+    let cases: [Case; 10] = [
         (&["init", state, "7"], 0, "author 7\n", ""),
         (&["init", state, "7"], 3, "", "census: Exists\n"),
         (&["sync", state, "nowhere"], 3, "", "census: Net\n"),
+        (&["hub", state, "nowhere"], 3, "", "census: Net\n"),
+        (&["hub", state, "nowhere", "--longest", "0"], 2, "", "census: Number\n"),
+        (&["hub", state, "127.0.0.1:0", "--peers", "0"], 0, listening, ""),
+        (&["unnote", state, "dawson"], 1, "", "census: Removal NoNote\n"),
+        (&["delta", state, state], 3, "", "census: Same\n"),
         (&["import", state, json], 0, "issued 7.1\n", ""),
         (&["show", state], 0, DAWSON, ""),
     ];
