@@ -4,7 +4,7 @@ code with a checksum of the values and the processor seconds, and says only wher
 
     values.py [TREE ..]           a tree is a checkout of this repository; this one where none is named
 
-For each tree a small program, values/main.rt, is built by the kit (`rt` on the path) in a copy of the crates that it stands on,
+For each tree a small program, values/program.txt, is built by the kit (`rt` on the path) in a copy of the crates that it stands on,
 which proves them where the tree keeps no proofs of them. The trees run by turns, and the least of three runs counts.
 """
 
@@ -33,7 +33,7 @@ def built(tree, room):
         shutil.copytree(os.path.join(tree, "crates", crate), os.path.join(room, "crates", crate), symlinks=True)
     program = os.path.join(room, "crates", "values")
     os.makedirs(os.path.join(program, "src"))
-    shutil.copy(os.path.join(HERE, "values", "main.rt"), os.path.join(program, "src"))
+    shutil.copy(os.path.join(HERE, "values", "program.txt"), os.path.join(program, "src", "main.rt"))
     for name, text in (("crates.txt", CRATES), ("HANDLES", "Handles allowed: none.\n")):
         with open(os.path.join(room, name), "w", encoding="utf-8") as file:
             file.write(text)
