@@ -179,6 +179,21 @@ where
     R: Files<File = File> + AllocGlobal,
 {
     let file = StateFile::wait(rt, state)?;
+    let saved = save_held(rt, &file, state, replica);
+    file.release(rt);
+    saved
+}
+
+// The same, while no other command changes the file.
+fn save_held<R>(
+    rt: &R,
+    file: &StateFile,
+    state: &str,
+    replica: &Replica<Global>,
+) -> Result<Vec<u8>, Fault>
+where
+    R: Files<File = File> + AllocGlobal,
+{
     let bytes = read_file(rt, state)?;
     let reply = rejoin(rt.alloc(), &bytes, replica)?;
     if let Some(text) = &reply.state {

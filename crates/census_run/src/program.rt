@@ -144,10 +144,22 @@ fn make<R: Files<File = File> + AllocGlobal>(
     reply: &Reply,
 ) -> Result<(), Fault> {
     let file = StateFile::wait(rt, state)?;
+    let made = make_held(rt, &file, state, reply);
+    file.release(rt);
+    made
+}
+
+// The same, while no other command changes the state.
+fn make_held<R: Files<File = File> + AllocGlobal>(
+    rt: &R,
+    file: &StateFile,
+    state: &str,
+    reply: &Reply,
+) -> Result<(), Fault> {
     if exists(rt, state)? {
         return Err(Fault::Exists);
     }
-    replace(rt, &file, reply)
+    replace(rt, file, reply)
 }
 
 // Changes a state file, and prints the text of the reply once other commands may change it again.
@@ -174,8 +186,21 @@ fn changed<R: Files<File = File> + AllocGlobal>(
     request: &Request,
 ) -> Result<Reply, Fault> {
     let file = StateFile::wait(rt, state)?;
+    let done = change_held(rt, &file, state, read, request);
+    file.release(rt);
+    done
+}
+
+// The same, while no other command changes the state.
+fn change_held<R: Files<File = File> + AllocGlobal>(
+    rt: &R,
+    file: &StateFile,
+    state: &str,
+    read: Option<&str>,
+    request: &Request,
+) -> Result<Reply, Fault> {
     let reply = reply_to(rt, state, read, request)?;
-    replace(rt, &file, &reply)?;
+    replace(rt, file, &reply)?;
     Ok(reply)
 }
 

@@ -1,6 +1,5 @@
 //! The file of a state, as one command at a time may change it.
 
-use crate::connection::SIGNALS;
 use crate::files::{beside, check_length};
 use census_core::Fault;
 use oct_sync::write_out;
@@ -11,16 +10,20 @@ use std::os::unix::fs::{MetadataExt, OpenOptionsExt, PermissionsExt, fchown};
 use std::path::Path;
 use std::rt::Files;
 
+// How often a lock is tried whose file is gone once it is had, or whose wait a signal interrupts.
+const TRIES: u32 = 1_000_000;
+
 // What everyone may do with a new file, as far as the umask leaves it.
 const SHARED: u32 = 0o666;
 // And with one that takes the place of another, until it has the permissions of that one.
 const PRIVATE: u32 = 0o600;
 
-/// The file of a state, which no other command changes while the value lives: it holds the exclusive lock of the system on
-/// the file of that name with `.lock` behind it. The system opens the lock where the value goes, or the process ends.
+/// The file of a state, which no other command changes until `release`: it holds the exclusive lock of the system on the
+/// file of that name with `.lock` behind it. The system opens the lock where the process ends.
 #[derive(Drop)]
 pub(crate) struct StateFile {
     path: String,
+    lock_path: String,
     lock: Option<File>,
 }
 
@@ -38,7 +41,18 @@ impl StateFile {
             Ok(file) => Some(file),
             Err(_) => None,
         };
-        Ok(StateFile { path, lock })
+        Ok(StateFile {
+            path,
+            lock_path,
+            lock,
+        })
+    }
+
+    /// Lets other commands change the state again, and removes the lock's file, which is still held then.
+    pub(crate) fn release<R: Files<File = File>>(self, rt: &R) {
+        if self.lock.is_some() {
+            let _ = fs::remove_file(rt, self.lock_path.as_str());
+        }
     }
 
     /// Replaces the state by these bytes, whole: they are written to the name with `.new` behind it, and flushed to the
@@ -81,21 +95,30 @@ fn mode_of<R: Files>(rt: &R, path: &str) -> u32 {
     }
 }
 
-// Opens the lock file, makes it where there is none, and waits for its lock.
+// Opens the lock file, makes it where there is none, and waits for its lock. Where another command removed the file
+// meanwhile, that lock holds nobody back, and the next file is tried.
 fn locked<R: Files<File = File>>(rt: &R, path: &str, mode: u32) -> io::Result<File> {
-    let file = OpenOptions::new()
-        .write(true)
-        .create(true)
-        .mode(mode | PRIVATE)
-        .open(rt, path)?;
-    for _ in 0..SIGNALS {
+    for _ in 0..TRIES {
+        let file = OpenOptions::new()
+            .write(true)
+            .create(true)
+            .mode(mode | PRIVATE)
+            .open(rt, path)?;
         match file.lock() {
-            Err(e) if e.kind() == ErrorKind::Interrupted => {}
-            Err(e) => return Err(e),
-            Ok(()) => return Ok(file),
+            Ok(()) if is_at(rt, &file, path) => return Ok(file),
+            Err(e) if e.kind() != ErrorKind::Interrupted => return Err(e),
+            _ => {}
         }
     }
     Err(io::Error::from(ErrorKind::Interrupted))
+}
+
+// Whether the file is the one that stands at the path.
+fn is_at<R: Files>(rt: &R, file: &File, path: &str) -> bool {
+    match (file.metadata(), fs::metadata(rt, path)) {
+        (Ok(held), Ok(there)) => held.dev() == there.dev() && held.ino() == there.ino(),
+        _ => false,
+    }
 }
 
 // Writes the bytes to the new path, and renames that file to the path.
