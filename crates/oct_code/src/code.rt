@@ -16,7 +16,7 @@ use std::marker::Model;
 
 /// The code `d0.d1d2..dk` of an octal game: a head 0 or 4, and at most `MAX_DIGITS` octal digits, of which the last is
 /// not 0. Codes are ordered by head, then by `k`, then by their digits.
-#[derive(Clone, Copy, Debug)]
+#[derive(Clone, Copy)]
 pub struct Code {
     head: u8,
     len: u8,

@@ -1,7 +1,7 @@
 //! Why digits or a text are no code. Where there are several faults, the first case in the order here is answered.
 
 /// Why digits are no code.
-#[derive(Clone, Copy, Debug, PartialEq, Eq, Drop)]
+#[derive(Clone, Copy, PartialEq, Eq, Drop)]
 pub enum DigitsError {
     /// The head is neither 0 nor 4.
     Head,

@@ -1,7 +1,7 @@
 -- The live notes of a set, as the loops gather them.
-use Rattle.std.proofs.Common.{◌≡◌, ℕ, ◌==◌, Bool, true, false, not, ◌&&◌, ◌||◌, cond, List, [], ◌∷◌, ◌++◌, map, sym, ap, ◌∙◌, subst, append_assoc}
+use Rattle.std.proofs.Common.{arith, ◌≡◌, ℕ, ◌+◌, ◌≤◌, ◌<◌, ◌==◌, Bool, true, false, not, ◌&&◌, ◌||◌, cond, List, [], ◌∷◌, ◌++◌, map, length, get_or, sym, ap, ◌∙◌, subst, append_assoc}
 use Rattle.std.proofs.lemmas.Cmp.{nat_list_cmp_total}
-use Rattle.std.proofs.lemmas.List.{append-nil}
+use Rattle.std.proofs.lemmas.List.{append-nil, get_or-map, length-map}
 use Rattle.std.proofs.lemmas.List.Folds.{list_any-append}
 use Rattle.std.specs.List.{filter, list_any, list_all, dedup, AllByRecursion}
 use Rattle.std.specs.List.Sorted.{IsSorted, IsPermutation}
@@ -58,17 +58,12 @@ sorted_are_live ops dots done notes rest are none before permuted sorted =
     ∙ same_test (leaves dots) (is_live (listed ops)) (live_left (listed ops) dots are) (listed ops) in
     sorted_is_arranged op_cmp note_order op_cmp_total op_cmp_exact note_order_total note_order_exact (filter (is_live (listed ops)) (listed ops)) notes (filter_rises (is_live (listed ops)) ops) (subst (λ l. IsPermutation l notes) is permuted) sorted
 
--- ---- a step of the loop over the set
-
-module _ (p : Operation → Bool) (all rest : List Operation) (o : Operation) (next : all ≡ o ∷ rest) (done whole : List Operation) (before : done ++ filter p all ≡ whole) where
-  pub one_more : (copy : Operation) (more : List Operation) → more ≡ done ++ (copy ∷ []) → copy ≡ o → p o ≡ true → more ++ filter p rest ≡ whole
-  one_more copy more added same passes =
-      ap (λ l. l ++ filter p rest) (added ∙ ap (λ x. done ++ (x ∷ [])) same) ∙ append_assoc done (o ∷ []) (filter p rest)
-      ∙ sym (ap (λ b. done ++ cond b (o ∷ filter p rest) (filter p rest)) passes)
-      ∙ sym (ap (λ l. done ++ filter p l) next) ∙ before
-
-  pub passed_over : p o ≡ false → done ++ filter p rest ≡ whole
-  passed_over fails = sym (ap (λ b. done ++ cond b (o ∷ filter p rest) (filter p rest)) fails) ∙ sym (ap (λ l. done ++ filter p l) next) ∙ before
+-- what is sorted by what is seen of each item is seen sorted
+pub sorted_values : {X : Type 0} (see : X → Operation) (xs : List X) → ((k : ℕ) (d : X) → 0 ≤ k → k + 1 < length xs → is_lt (note_order (see (get_or xs (k + 1) d)) (see (get_or xs k d))) ≡ false) → IsSorted note_order (map see xs)
+sorted_values see [] sorted k d low high = absurd (omega (arith, high))
+sorted_values see (x ∷ xs) sorted k d low high =
+    let within : k + 1 < length (x ∷ xs) = subst (λ n. k + 1 < n) (length-map (x ∷ xs) see) high in
+    rw (get_or-map see (x ∷ xs) (k + 1) x d within, get_or-map see (x ∷ xs) k x d (omega (arith, within))) (sorted k x low within)
 
 -- ---- the dots of the live notes of a name
 

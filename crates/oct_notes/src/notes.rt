@@ -1,6 +1,6 @@
 //! A set of notes and their removals.
 
-ghost use Rattle.std.specs.Prelude.{◌≡◌, ◌↔◌, length, false, IsTrue, IfOk, OnOk, OnErr};
+ghost use Rattle.std.specs.Prelude.{◌≡◌, ◌↔◌, length, map, false, IsTrue, IfOk, IfErr, OnOk, OnErr};
 ghost use Rattle.oct_ops.specs.Operations.{empty, insert, remove, contains, listed, union, IsSubset};
 ghost use Rattle.oct_ops.specs.OrderLaws.{op_cmp_total, op_cmp_exact};
 ghost use Rattle.oct_ops.specs.Views.{content};
@@ -21,11 +21,12 @@ use std::marker::Model;
 ///     let mut notes = Notes::new(alloc);
 ///     notes.add(&note)?;                    // nothing changes where it is there already
 ///     notes.join(&other)?;                  // the union; a refusal leaves a set between the old one and the union
-///     notes.live()?                         // copies of the live notes, by name
+///     notes.live_refs()?                    // the live notes, by name; `live` copies them
 ///     notes.take_back(&note);               // as if it had not been added
 ///
-/// `add` and `take_back` take a number of steps that grows with the logarithm of the set's size. `live` and `live_dots`
-/// read the whole set once; beside that they sort the dots that are removed, and look up the dot of each note.
+/// `insert`, `add` and `take_back` take a number of steps that grows with the logarithm of the set's size. `live_refs`,
+/// `live` and `live_dots` read the whole set once; beside that they sort the dots that are removed, and look up the dot of
+/// each note.
 #[derive(Drop)]
 pub struct Notes<A: Allocator + Copy> {
     ops: BTreeSet<Op<A>, A>,
@@ -80,6 +81,21 @@ impl<A: Allocator + Copy> Notes<A> {
         self.ops.contains(op)
     }
 
+    /// Takes in the operation, which has to be a note or a removal. Memory can be refused only where it is not there; then
+    /// the set stays as it is, and the operation comes back.
+    pub fn insert(&mut self, op: Op<A>) -> Result<(), (AllocError, Op<A>)>
+        requires { IsTrue (spec.concerns_notes op.body) }
+        ensures ok { OnOk result (self.new ≡ insert self.old op) }
+        ensures err { OnErr result (self.new ≡ self.old) }
+        ensures absent { OnErr result (contains self.old op ≡ false) }
+        ensures returned { IfErr result (λ refused. refused.1 ≡ op) }
+    {
+        match self.ops.insert(op) {
+            Ok(_) => Ok(()),
+            Err(refused) => Err((AllocError, refused.value)),
+        }
+    }
+
     /// Takes in a copy of the operation, which has to be a note or a removal. Memory can be refused only where it is not
     /// there; then the set stays as it is.
     pub fn add(&mut self, op: &Op<A>) -> Result<(), AllocError>
@@ -92,7 +108,10 @@ impl<A: Allocator + Copy> Notes<A> {
             return Ok(());
         }
         let copy = op.copy(self.alloc)?;
-        self.insert(copy)
+        match self.insert(copy) {
+            Ok(()) => Ok(()),
+            Err((refused, _)) => Err(refused),
+        }
     }
 
     /// Takes the operation out again, if it is there.
@@ -102,19 +121,32 @@ impl<A: Allocator + Copy> Notes<A> {
         self.ops.remove(op);
     }
 
-    /// Copies of the live notes, those whose dot no removal here names: by name in byte order, where a name comes before
-    /// those that it begins, and then in the order of operations.
-    pub fn live(&self) -> Result<Vec<Op<A>, A>, AllocError>
-        ensures { IfOk result (λ live. live.items ≡ spec.live_notes (listed self.now)) }
+    /// The live notes, those whose dot no removal here names: by name in byte order, where a name comes before those that
+    /// it begins, and then in the order of operations.
+    pub fn live_refs(&self) -> Result<Vec<&Op<A>, A>, AllocError>
+        ensures { IfOk result (λ live. map (λ op. op.now) live.items ≡ spec.live_notes (listed self.now)) }
     {
         let removed = self.removed()?;
         let mut live = Vec::new(self.alloc);
         for op in self.iter() {
-            if removed.leaves(op) {
-                live.push(op.copy(self.alloc)?)?;
+            if !removed.leaves(op) {
+                continue;
             }
+            live.push(op)?;
         }
         live.sort_unstable_by(|note, other| by_name(note, other));
+        Ok(live)
+    }
+
+    /// Copies of the live notes, in the same order.
+    pub fn live(&self) -> Result<Vec<Op<A>, A>, AllocError>
+        ensures { IfOk result (λ live. live.items ≡ spec.live_notes (listed self.now)) }
+    {
+        let refs = self.live_refs()?;
+        let mut live = Vec::with_capacity(self.alloc, refs.len())?;
+        for op in &refs {
+            live.push(op.copy(self.alloc)?)?;
+        }
         Ok(live)
     }
 
@@ -132,16 +164,6 @@ impl<A: Allocator + Copy> Notes<A> {
         }
         dots.dedup();
         Ok(dots)
-    }
-
-    // Takes in a note or a removal.
-    fn insert(&mut self, op: Op<A>) -> Result<(), AllocError>
-        requires { IsTrue (spec.concerns_notes op.body) }
-        ensures ok { OnOk result (self.new ≡ insert self.old op) }
-        ensures err { OnErr result (self.new ≡ self.old) }
-    {
-        self.ops.insert(op)?;
-        Ok(())
     }
 
     // The operations in their order.

@@ -10,7 +10,7 @@ use std::marker::Model;
 
 /// The author of an operation, and its number among the author's (Shapiro et al. 2011). Dots are ordered by author, then
 /// by number.
-#[derive(Clone, Copy, Debug, PartialEq, Eq, PartialOrd, Ord)]
+#[derive(Clone, Copy, PartialEq, Eq, PartialOrd, Ord)]
 pub struct Dot {
     author: u32,
     number: u32,

@@ -1,14 +1,14 @@
 //! Why values are no part of an operation. Where there are several faults, the first case in the order here is answered.
 
 /// Why numbers are no dot.
-#[derive(Clone, Copy, Debug, PartialEq, Eq)]
+#[derive(Clone, Copy, PartialEq, Eq)]
 pub enum DotError {
     /// The author or the number is 0.
     Zero,
 }
 
 /// Why values are no block.
-#[derive(Clone, Copy, Debug, PartialEq, Eq)]
+#[derive(Clone, Copy, PartialEq, Eq)]
 pub enum BlockError {
     /// There is no value.
     Empty,
@@ -39,7 +39,7 @@ pub enum NoteError {
 }
 
 /// Why dots are no removal.
-#[derive(Clone, Copy, Debug, PartialEq, Eq)]
+#[derive(Clone, Copy, PartialEq, Eq)]
 pub enum RemovalError {
     /// There is no dot.
     Empty,
@@ -50,7 +50,7 @@ pub enum RemovalError {
 }
 
 /// Why operations are no `OpList`.
-#[derive(Clone, Copy, Debug, PartialEq, Eq)]
+#[derive(Clone, Copy, PartialEq, Eq)]
 pub enum ListError {
     /// Some operation is not below the next.
     NotRising,

@@ -10,7 +10,7 @@ use oct_code::{Code, LIMIT};
 use std::marker::Model;
 
 /// The claim that from the heap `start` on each nim-value of the game comes again `period` heaps later.
-#[derive(Clone, Copy, Debug, PartialEq, Eq, PartialOrd, Ord)]
+#[derive(Clone, Copy, PartialEq, Eq, PartialOrd, Ord)]
 pub struct Period {
     code: Code,
     start: u32,

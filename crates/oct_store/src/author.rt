@@ -4,7 +4,7 @@ ghost use Rattle.std.specs.Prelude.{◌≡◌};
 ghost use Rattle.oct_store.specs.Rows.{unseen, with_number};
 
 /// An author of a set of operations.
-#[derive(Clone, Copy, Debug, PartialEq, Eq)]
+#[derive(Clone, Copy, PartialEq, Eq)]
 pub struct Author {
     /// The author's number, at least 1.
     pub author: u32,

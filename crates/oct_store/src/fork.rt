@@ -6,7 +6,7 @@ ghost use Rattle.oct_store.specs.Rows.{uncounted, with_content};
 use oct_ops::Dot;
 
 /// A dot of a set of operations, with how many contents it has there: two or more.
-#[derive(Clone, Copy, Debug, PartialEq, Eq)]
+#[derive(Clone, Copy, PartialEq, Eq)]
 pub struct Fork {
     /// The dot that the contents share.
     pub dot: Dot,

@@ -1,7 +1,7 @@
 //! What is known of a block.
 
 /// What the known values say of a block.
-#[derive(Clone, Copy, Debug, PartialEq, Eq)]
+#[derive(Clone, Copy, PartialEq, Eq)]
 pub enum Status {
     /// Each of its values is the heap's nim-value.
     Proved,

@@ -1,8 +1,5 @@
-use Rattle.std.proofs.Common.{◌≡◌, ◌++◌}
-use Rattle.std.specs.List.{filter}
-use Rattle.oct_ops.specs.Operations.{listed}
-use Rattle.oct_notes.specs.Notes.{leaves}
+use Rattle.std.proofs.Common.{◌≡◌, map, take}
 use Rattle.oct_notes.proofs.notes.Notes.live.Given as goal
 
 abbrev pub invariant-loop-op : goal.invariant-loop-op
-invariant-loop-op g l = l.live.items ++ filter (leaves l.removed-inside.dots.items) l.op-iterator ≡ filter (leaves l.removed-inside.dots.items) (listed l.self)
+invariant-loop-op g l = l.live.items ≡ map (λ r. r.now) (take l.op-index l.op-items)
