@@ -1,9 +1,11 @@
 -- A period that a list of nim-values shows.
-use Rattle.std.proofs.Common.{◌≡◌, ℕ, suc, ◌+◌, ◌-◌, ◌*◌, ◌<◌, ◌≤◌, ◌++◌, ◌∷◌, [], List, length, slice_index, inl, inr, subst, sym, ap, ap₂, ◌∙◌, arith}
+use Rattle.std.proofs.Common.{◌≡◌, ◌≢◌, ℕ, suc, ◌+◌, ◌-◌, ◌*◌, ◌<◌, ◌≤◌, ◌++◌, ◌∷◌, [], List, length, slice_index, take, drop, inl, inr, subst, sym, ap, ap₂, ◌∙◌, arith}
 use Rattle.std.proofs.lemmas.Bool.{cases_lt}
+use Rattle.std.proofs.lemmas.List.{get_or-drop, get_or-take, length-drop, length-take-le}
 use Rattle.oct_code.specs.Code.{Code, len}
+use Rattle.oct_mex.specs.Differences.{IsFirstDifference}
 use Rattle.oct_mex.specs.NimValues.{nim_values, nim_value}
-use Rattle.oct_mex.specs.Periods.{GoesOn, IsPeriodicFrom, IsShown, NoneIsShown}
+use Rattle.oct_mex.specs.Periods.{ComesAgain, GoesOn, IsBreak, IsPeriodicFrom, IsShown, NoneIsShown, NoneIsShownBefore}
 use Rattle.oct_mex.proofs.NimValues.{nim_values-at, nim_value-eq}
 use Rattle.oct_mex.proofs.Periods.{seen_periods_hold}
 
@@ -13,7 +15,7 @@ value_at c values are n low = ap (λ xs. slice_index xs n) are ∙ nim_values-at
 
 pub shown_holds : (c : Code) (values : List ℕ) (start period : ℕ) → values ≡ nim_values c (length values) → 1 ≤ start
     → 2 * start + 2 * period + len c ≤ length values
-    → ((n : ℕ) → start ≤ n → n + period < length values → slice_index values (n + period) ≡ slice_index values n)
+    → ComesAgain values start period
     → IsPeriodicFrom c start period
 shown_holds c values start period are some far again =
     seen_periods_hold c start period some
@@ -21,10 +23,52 @@ shown_holds c values start period are some far again =
     sym (value_at c values are (n + period) (omega arith)) ∙ again n low (omega arith) ∙ value_at c values are n (omega arith))
 
 -- what is shown from some heap on comes again from each later one on
-pub again_if_shown : (c : Code) (values : List ℕ) (start period from : ℕ) → values ≡ nim_values c (length values) → IsShown c (length values) start period → start ≤ from
-    → (n : ℕ) → from ≤ n → n + period < length values → slice_index values (n + period) ≡ slice_index values n
+pub again_if_shown : (c : Code) (values : List ℕ) (start period from : ℕ) → values ≡ nim_values c (length values) → IsShown c (length values) start period → start ≤ from → ComesAgain values from period
 again_if_shown c values start period from are shown late n low within =
     value_at c values are (n + period) within ∙ seen_periods_hold c start period shown.first shown.seen n (omega arith) ∙ sym (value_at c values are n (omega arith))
+
+-- what does not come again from the heap before is not shown from an earlier one
+pub not_shown_before : (c : Code) (values : List ℕ) (start period : ℕ) → values ≡ nim_values c (length values) → start + period ≤ length values
+    → (1 < start → slice_index values (start - 1 + period) ≢ slice_index values (start - 1)) → NoneIsShownBefore c (length values) start period
+not_shown_before c values start period are within first earlier low shown =
+    first (omega (arith, shown.first)) (again_if_shown c values earlier period (start - 1) are shown (omega arith) (start - 1) (omega arith) (omega (arith, shown.first)))
+
+-- ---- two slices of a list: its values from the start on, and those one period later
+
+module _ (values : List ℕ) (start period : ℕ) (within : start + period ≤ length values) where
+  abbrev count : ℕ
+  count = length values - period - start
+
+  abbrev earlier : List ℕ
+  earlier = take (start + count - start) (drop start values)
+
+  abbrev later : List ℕ
+  later = take (length values - (start + period)) (drop (start + period) values)
+
+  at_earlier : (n : ℕ) → n < count → slice_index earlier n ≡ slice_index values (start + n)
+  at_earlier n low = get_or-take (start + count - start) (drop start values) n 0 (omega arith) ∙ get_or-drop start values n 0
+
+  at_later : (n : ℕ) → n < count → slice_index later n ≡ slice_index values (start + n + period)
+  at_later n low =
+      let there : start + period + n ≡ start + n + period = omega arith in
+      get_or-take (length values - (start + period)) (drop (start + period) values) n 0 (omega arith) ∙ get_or-drop (start + period) values n 0 ∙ ap (slice_index values) there
+
+  pub comes_again-same : earlier ≡ later → ComesAgain values start period
+  comes_again-same same n low near =
+      let at : start + (n - start) ≡ n = omega arith in
+      ap (λ m. slice_index values (m + period)) (sym at) ∙ sym (at_later (n - start) (omega arith)) ∙ ap (λ xs. slice_index xs (n - start)) (sym same)
+      ∙ at_earlier (n - start) (omega arith) ∙ ap (slice_index values) at
+
+  pub break_differs : (index : ℕ) → IsFirstDifference earlier later index → IsBreak values start period (start + index)
+  break_differs index differ =
+      let few : index < count = omega (arith, differ.within, length-take-le (start + count - start) (drop start values) (omega (arith, length-drop start values))) in
+      record {
+        behind = omega arith;
+        within = omega arith;
+        breaks = λ again. differ.differs (at_earlier index few ∙ sym again ∙ sym (at_later index few));
+      }
+
+-- ---- periods one after another
 
 -- one period more that is not shown
 pub none_shown-next : (c : Code) (count period : ℕ) → NoneIsShown c count period → ((start : ℕ) → IsShown c count start period → ⊥) → NoneIsShown c count (period + 1)

@@ -11,6 +11,7 @@
 //! - `Values` is a code and the list of its first nim-values. Room is made ahead, and within it nothing can fail.
 //! - In most games few heaps have values of a rare kind, and the options with such a heap settle the mex: `rare`.
 //! - Once they show a period that holds for ever, the further values are copied.
+//! - `find_period` looks for the least period that first nim-values show, and for the least heap from which on they do.
 //! - `first_difference` compares two lists of claimed and true values.
 //! - `laws` says what holds of the moves and the nim-values of all heaps: the periodicity theorem above all.
 #![tactic(auto)]
@@ -23,5 +24,5 @@ mod rare;
 mod values;
 
 pub use difference::first_difference;
-pub use period::SeenPeriod;
+pub use period::{SeenPeriod, find_period};
 pub use values::Values;

@@ -1,10 +1,11 @@
 //! Periods that the nim-values show.
 
-ghost use Rattle.std.specs.Prelude.{◌≡◌, ◌↔◌, ℕ, ◌+◌, ◌*◌, ◌<◌, ◌≤◌, IfSome, IsTrue, MatchOption, length, slice_index};
+ghost use Rattle.std.specs.Prelude.{◌≡◌, ◌↔◌, ◌≢◌, ◌+◌, ◌-◌, ◌*◌, ◌<◌, ◌≤◌, IfSome, IsTrue, MatchOption, length, slice_index};
 ghost use Rattle.oct_code.specs.Code as octal;
 ghost use Rattle.oct_mex.specs.NimValues.{nim_values};
-ghost use Rattle.oct_mex.specs.Periods.{IsPeriodicFrom, NoneIsShown};
+ghost use Rattle.oct_mex.specs.Periods.{IsPeriodicFrom, IsBreak, ComesAgain, NoneIsShown, NoneIsShownBefore};
 
+use crate::difference::first_difference;
 use oct_code::{Code, LIMIT};
 
 /// A period of the nim-values of a game: from the heap `start` on, each comes again `period` heaps later, for ever.
@@ -14,42 +15,94 @@ pub struct SeenPeriod {
     pub period: usize,
 }
 
-/// The least period that the first nim-values of a game show so far that it holds for ever (Guy and Smith 1956), and the last
-/// heap from which on it is so shown; none where they show no period.
+/// The least period that the first nim-values of a game show so far that it holds for ever (Guy and Smith 1956), and the
+/// least heap from which on it is so shown, at least 1; none where they show no period. Takes no memory.
 ///
-/// The periods are tried from 1 on, and most of them fail at one of the first heaps that are compared.
-pub(crate) fn seen_period(code: &Code, values: &[u32]) -> Option<SeenPeriod>
+/// The periods are tried from 1 on, each from the last heap that can show it. Most of them fail at one of the two heaps at
+/// which another one was seen to fail, so these are compared first.
+pub fn find_period(code: &Code, values: &[u32]) -> Option<SeenPeriod>
     requires values { values.now ≡ nim_values code.now (length values.now) }
     requires limited { length values.now ≤ LIMIT }
     ensures start { IfSome result (λ seen. 1 ≤ seen.start) }
     ensures period { IfSome result (λ seen. 1 ≤ seen.period) }
     ensures shown { IfSome result (λ seen. 2 * seen.start + 2 * seen.period + octal.len code.now ≤ length values.now) }
-    ensures last { IfSome result (λ seen. length values.now < 2 * (seen.start + 1) + 2 * seen.period + octal.len code.now) }
+    ensures earliest { IfSome result (λ seen. NoneIsShownBefore code.now (length values.now) seen.start seen.period) }
     ensures least { MatchOption result (NoneIsShown code.now (length values.now) (length values.now)) (λ seen. NoneIsShown code.now (length values.now) seen.period) }
     ensures holds { IfSome result (λ seen. IsPeriodicFrom code.now seen.start seen.period) }
 {
     let digits = code.len();
+    let mut failed = 0;
+    let mut later = 0;
     for period in 1..values.len() / 2 {
         if digits + 2 * period + 2 <= values.len() {
-            let start = (values.len() - digits) / 2 - period;
-            if comes_again(values, start, period) {
-                return Some(SeenPeriod { start, period });
+            let last = (values.len() - digits) / 2 - period;
+            match break_by(values, last, period, failed, later) {
+                None => {
+                    let start = first_start(values, last, period);
+                    return Some(SeenPeriod { start, period });
+                }
+                Some(heap) => {
+                    failed = heap;
+                    later = heap + period;
+                }
             }
         }
     }
     None
 }
 
-// Whether each value from a heap on comes again one period later, as far as the values go.
-fn comes_again(values: &[u32], start: usize, period: usize) -> bool
+// A heap from `start` on whose value does not come again one period later. The two heaps are tried first.
+fn break_by(
+    values: &[u32],
+    start: usize,
+    period: usize,
+    failed: usize,
+    later: usize,
+) -> Option<usize>
     requires within { start + period ≤ length values.now }
-    requires limited { length values.now ≤ LIMIT }
-    ensures { IsTrue result ↔ ((n : ℕ) → start ≤ n → n + period < length values.now → slice_index values.now (n + period) ≡ slice_index values.now n) }
+    ensures { MatchOption result (ComesAgain values.now start period) (IsBreak values.now start period) }
 {
-    for heap in start..values.len() - period {
-        if values[heap + period] != values[heap] {
-            return false;
-        }
+    if breaks_at(values, start, period, failed) {
+        return Some(failed);
     }
-    true
+    let before = later.saturating_sub(period);
+    if breaks_at(values, start, period, before) {
+        return Some(before);
+    }
+    first_break(values, start, period)
+}
+
+// Whether the heap is one from `start` on whose value does not come again one period later.
+fn breaks_at(values: &[u32], start: usize, period: usize, heap: usize) -> bool
+    requires within { start + period ≤ length values.now }
+    ensures { IsTrue result ↔ IsBreak values.now start period heap }
+{
+    start <= heap && heap < values.len() - period && values[heap + period] != values[heap]
+}
+
+// The first heap from `start` on whose value does not come again one period later.
+fn first_break(values: &[u32], start: usize, period: usize) -> Option<usize>
+    requires within { start + period ≤ length values.now }
+    ensures { MatchOption result (ComesAgain values.now start period) (IsBreak values.now start period) }
+{
+    let count = values.len() - period - start;
+    let index = first_difference(&values[start..start + count], &values[start + period..])?;
+    Some(start + index)
+}
+
+// The first heap, from 1 on, from which on each value up to the heap `last` comes again one period later.
+fn first_start(values: &[u32], last: usize, period: usize) -> usize
+    requires some { 1 ≤ last }
+    requires within { last + period ≤ length values.now }
+    requires again { ComesAgain values.now last period }
+    ensures some { 1 ≤ result }
+    ensures within { result ≤ last }
+    ensures again { ComesAgain values.now result period }
+    ensures first { 1 < result → slice_index values.now (result - 1 + period) ≢ slice_index values.now (result - 1) }
+{
+    let mut start = last;
+    while start > 1 && values[start - 1 + period] == values[start - 1] {
+        start -= 1;
+    }
+    start
 }

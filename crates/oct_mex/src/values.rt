@@ -4,10 +4,10 @@ ghost use Rattle.std.specs.Prelude.{◌≡◌, ◌+◌, ◌*◌, ◌^◌, ◌<�
 ghost use Rattle.std.specs.List.{All};
 ghost use Rattle.oct_code.specs.Code as octal;
 ghost use Rattle.oct_mex.specs.NimValues.{nim_values, nim_value};
-ghost use Rattle.oct_mex.specs.Periods.{IsPeriodicFrom, NoneIsShown};
+ghost use Rattle.oct_mex.specs.Periods.{IsPeriodicFrom, NoneIsShown, NoneIsShownBefore};
 
 use crate::marks::{next_value, table_len};
-use crate::period::{SeenPeriod, seen_period};
+use crate::period::{SeenPeriod, find_period};
 use crate::rare::Rare;
 use oct_code::{Code, LIMIT};
 use std::alloc::{AllocError, Allocator};
@@ -123,7 +123,7 @@ impl<A: Allocator + Copy> Values<A> {
         ensures { self.new ≡ self.old }
     {
         if self.period == 0 && is_looked_at(self.values.len()) {
-            if let Some(seen) = seen_period(&self.code, &self.values) {
+            if let Some(seen) = find_period(&self.code, &self.values) {
                 self.period = seen.period;
             }
         }
@@ -169,17 +169,17 @@ impl<A: Allocator + Copy> Values<A> {
     }
 
     /// The least period that the values show so far that it holds for ever: twice the heap from which on it is seen, twice the
-    /// period and the number of digits are at most as many as the values. That heap is the last that serves. `None` where they
-    /// show no period.
+    /// period and the number of digits are at most as many as the values. That heap is the least that serves, from 1 on. `None`
+    /// where they show no period.
     pub fn find_period(&self) -> Option<SeenPeriod>
         ensures start { IfSome result (λ seen. 1 ≤ seen.start) }
         ensures period { IfSome result (λ seen. 1 ≤ seen.period) }
         ensures shown { IfSome result (λ seen. 2 * seen.start + 2 * seen.period + octal.len self.now.code ≤ self.now.len) }
-        ensures last { IfSome result (λ seen. self.now.len < 2 * (seen.start + 1) + 2 * seen.period + octal.len self.now.code) }
+        ensures earliest { IfSome result (λ seen. NoneIsShownBefore self.now.code self.now.len seen.start seen.period) }
         ensures least { MatchOption result (NoneIsShown self.now.code self.now.len self.now.len) (λ seen. NoneIsShown self.now.code self.now.len seen.period) }
         ensures holds { IfSome result (λ seen. IsPeriodicFrom self.now.code seen.start seen.period) }
     {
-        seen_period(&self.code, &self.values)
+        find_period(&self.code, &self.values)
     }
 
     /// The same values with the same room, in memory of `alloc`. From there on each of the two grows on its own.
