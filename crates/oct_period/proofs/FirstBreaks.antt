@@ -4,6 +4,7 @@ use Rattle.std.proofs.lemmas.Bool.{eq-eqb, ne_eqb, le-leb, cases_eq}
 use Rattle.std.proofs.lemmas.List.{length-drop, length-take-le}
 use Rattle.oct_code.specs.Code.{Code}
 use Rattle.oct_mex.specs.NimValues.{nim_value, nim_values}
+use Rattle.oct_ops.specs.Faults.{period_fault}
 use Rattle.oct_ops.specs.Operation.{Block, Period}
 use Rattle.oct_ops.specs.Valid.{IsPeriod}
 use Rattle.oct_verify.specs.Known.{known}
@@ -81,14 +82,20 @@ is_proof blocks p len len_is h enough =
 
 -- ---- claims begin at 1 or later
 
-pub valid_later : (p : Period) → IsPeriod p → IsLater p
-valid_later p valid = elim (cases_eq p.start 0) [
-  | inl none ↦ cc (rw (eq-eqb p.start 0 none) at valid.faultless)
+pub faultless_later : (p : Period) → period_fault p ≡ None → IsLater p
+faultless_later p faultless = elim (cases_eq p.start 0) [
+  | inl none ↦ cc (rw (eq-eqb p.start 0 none) at faultless)
   | inr some ↦ omega arith
 ]
 
-pub valid_period : (p : Period) → IsPeriod p → 1 ≤ p.period
-valid_period p valid = elim (cases_eq p.period 0) [
-  | inl none ↦ cc (rw (ne_eqb p.start 0 (λ zero. let later = valid_later p valid in omega (arith, zero, later)), eq-eqb p.period 0 none) at valid.faultless)
+pub faultless_period : (p : Period) → period_fault p ≡ None → 1 ≤ p.period
+faultless_period p faultless = elim (cases_eq p.period 0) [
+  | inl none ↦ cc (rw (ne_eqb p.start 0 (λ zero. let later = faultless_later p faultless in omega (arith, zero, later)), eq-eqb p.period 0 none) at faultless)
   | inr some ↦ omega arith
 ]
+
+pub valid_later : (p : Period) → IsPeriod p → IsLater p
+valid_later p valid = faultless_later p valid.faultless
+
+pub valid_period : (p : Period) → IsPeriod p → 1 ≤ p.period
+valid_period p valid = faultless_period p valid.faultless

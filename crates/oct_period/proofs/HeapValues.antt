@@ -1,17 +1,19 @@
 -- The values of heaps and positions are nim-values.
-use Rattle.std.proofs.Common.{◌≡◌, ℕ, ◌+◌, ◌-◌, ◌%◌, ◌≤◌, true, false, cond, ltb, bit_xor, List, [], ◌∷◌, Option, Some, None, Result, Ok, Err, refl, sym, ap, ◌∙◌, subst, arith}
-use Rattle.std.proofs.lemmas.Bool.{ltb-false}
+use Rattle.std.proofs.Common.{◌≡◌, ℕ, zero, suc, ◌+◌, ◌-◌, ◌%◌, ◌<◌, ◌≤◌, length, get_or, true, false, cond, ltb, bit_xor, List, [], ◌∷◌, Option, Some, None, Result, Ok, Err, refl, sym, ap, ◌∙◌, subst, arith}
+use Rattle.std.proofs.lemmas.Bool.{false≢true, ltb-false, ltb-true}
 use Rattle.std.proofs.lemmas.List.Elements.{All-head, All-tail}
 use Rattle.std.specs.List.{All, find}
-use Rattle.std.specs.Option.{unwrap_or}
+use Rattle.std.specs.Option.{option_map, unwrap_or}
 use Rattle.oct_code.specs.Code.{Code}
 use Rattle.oct_mex.specs.NimValues.{nim_value, position_value as nim_sum}
 use Rattle.oct_mex.specs.Periods.{IsPeriodicFrom}
 use Rattle.oct_mex.proofs.Periods.{periods_give_nim_values}
 use Rattle.oct_ops.specs.Operation.{Block, Period}
 use Rattle.oct_verify.specs.Known.{known}
+use Rattle.oct_period.specs.Claims.{Claim}
+use Rattle.oct_period.specs.Moving.{IsReached}
 use Rattle.oct_period.specs.Laws.{IsClaimOf, HeapValuesAreRight, PositionValuesAreRight}
-use Rattle.oct_period.specs.Periods.{is_proved, period_status, value_by, heap_value, xor_onto, position_value_from}
+use Rattle.oct_period.specs.Periods.{is_proved, period_status, value_by, heap_value, heap_value_by, xor_onto, position_value_from}
 use Rattle.oct_period.specs.declared.status.PeriodStatus.{PeriodStatus}
 use Rattle.oct_period.specs.declared.status.PeriodStatus.TheVariants.{Proved, Refuted, Pending}
 use Rattle.oct_period.specs.declared.unknown.Unknown.{Unknown}
@@ -52,7 +54,7 @@ abbrev ok_of : Result ℕ Unknown → ℕ → ℕ
 ok_of (Ok v) d = v
 ok_of (Err u) d = d
 
-xor_ok : (v value : ℕ) (r : Result ℕ Unknown) → xor_onto v r ≡ Ok value → (w : ℕ) × (r ≡ Ok w) × (value ≡ bit_xor v w)
+pub xor_ok : (v value : ℕ) (r : Result ℕ Unknown) → xor_onto v r ≡ Ok value → (w : ℕ) × (r ≡ Ok w) × (value ≡ bit_xor v w)
 xor_ok v value (Ok w) h = (w, refl, sym (ap (λ r. ok_of r value) h))
 xor_ok v value (Err u) h = cc
 
@@ -68,3 +70,28 @@ from_place value c right i (n ∷ heaps) whole h =
 
 pub position_values_are_right : PositionValuesAreRight
 position_values_are_right c blocks claims heaps value each h = from_place (heap_value c blocks claims) c (λ n v is. heap_values_are_right c blocks claims n v each is) 0 heaps value h
+
+-- ---- the heaps of a position that has a value are reached
+
+by_blocks_or_claim : (c : Code) (blocks : List Block) (claim : Option Claim) (n value : ℕ) → heap_value_by c blocks (option_map (λ (d : Claim). d.1) claim) n ≡ Some value → IsReached blocks claim n
+by_blocks_or_claim c blocks (Some d) n value h none = absurd (false≢true (sym none))
+by_blocks_or_claim c blocks None n value h none = elim (ltb n (known blocks)) as (λ b. ltb n (known blocks) ≡ b → ◌≡◌ {A = Option ℕ} (elim b [ true ↦ Some (nim_value c n) | false ↦ None ]) (Some value) → n < known blocks) [
+  | true ↦ λ e _. ltb-true n (known blocks) e
+  | false ↦ λ _ k. cc
+] refl h
+
+pub all_reached : (c : Code) (blocks : List Block) (claim : Option Claim) (i : ℕ) (heaps : List ℕ) (whole : ℕ)
+    → Ok whole ≡ position_value_from (heap_value_by c blocks (option_map (λ (d : Claim). d.1) claim)) i heaps → All (IsReached blocks claim) heaps
+all_reached c blocks claim i [] whole h k d low = absurd (omega arith)
+all_reached c blocks claim i (n ∷ heaps) whole h k d low =
+    let value : ℕ → Option ℕ = heap_value_by c blocks (option_map (λ (e : Claim). e.1) claim) in
+    elim (value n) as (λ o. value n ≡ o → ◌≡◌ {A = Result ℕ Unknown} (Ok whole) (elim o [ None ↦ Err (record { index = i }) | Some v ↦ xor_onto v (position_value_from value (i + 1) heaps) ]) → IsReached blocks claim (get_or (n ∷ heaps) k d)) [
+      | None ↦ λ _ e. cc
+      | Some v ↦ λ is e.
+          let parts = xor_ok v whole (position_value_from value (i + 1) heaps) (sym e) in
+          at_place v is (all_reached c blocks claim (i + 1) heaps parts.0 (sym parts.1)) k low
+    ] refl h
+  where
+    at_place : (v : ℕ) → heap_value_by c blocks (option_map (λ (e : Claim). e.1) claim) n ≡ Some v → All (IsReached blocks claim) heaps → (k : ℕ) → k < suc (length heaps) → IsReached blocks claim (get_or (n ∷ heaps) k d)
+    at_place v is rest zero low = by_blocks_or_claim c blocks claim n v is
+    at_place v is rest (suc k) low = rest k d (omega arith)

@@ -5,6 +5,8 @@ use Rattle.oct_mex.specs.NimValues.{nim_value}
 use Rattle.oct_ops.specs.Operation.{Block, claimed, repeating}
 use Rattle.oct_verify.specs.declared.status.Status.TheVariants as of_block
 use Rattle.oct_period.specs.FarBlocks.{block_status}
+use Rattle.oct_period.specs.Found.{found_period}
+use Rattle.oct_period.specs.Moving.{first_winning_move}
 use Rattle.oct_period.specs.Outcomes.{outcome}
 use Rattle.oct_period.specs.Periods.{period_status, heap_value, position_value}
 use Rattle.oct_period.specs.Winning.{wins}
@@ -112,3 +114,27 @@ next_wins = refl
 fifth_is_unknown : outcome kayles five_of_kayles [] (5 ∷ []) ≡ who.Unknown 0
 unfolding nim_value wins
 fifth_is_unknown = refl
+
+-- ---- the period that is found
+
+found_by_seven : found_period by_turns seven ≡ Some (repeating by_turns 1 2)
+unfolding nim_value
+found_by_seven = refl
+
+none_by_six : found_period by_turns six ≡ None
+unfolding nim_value
+none_by_six = refl
+
+-- ---- winning moves
+
+middle_of_three : first_winning_move kayles (3 ∷ []) ≡ Some (record { index = 0; removed = 1; left = (1, 1) })
+unfolding wins
+middle_of_three = refl
+
+leaves_two_equal : first_winning_move kayles (2 ∷ 3 ∷ []) ≡ Some (record { index = 1; removed = 1; left = (0, 2) })
+unfolding wins
+leaves_two_equal = refl
+
+no_move_wins : first_winning_move kayles (1 ∷ 2 ∷ 3 ∷ []) ≡ None
+unfolding wins
+no_move_wins = refl

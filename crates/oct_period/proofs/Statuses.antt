@@ -37,7 +37,7 @@ unbroken-seen c period (suc count) n h i low high =
     ] refl h
 
 -- and where they do, none is found
-never-broken : (c : Code) (period count n : ℕ) → IsPeriodicFrom c n period → first_break c period count n ≡ None
+pub never-broken : (c : Code) (period count n : ℕ) → IsPeriodicFrom c n period → first_break c period count n ≡ None
 never-broken c period zero n p = refl
 never-broken c period (suc count) n p =
     subst (λ t. elim t [ true ↦ first_break c period count (n + 1) | false ↦ Some n ] ≡ None) (sym (eq-eqb (nim_value c (n + period)) (nim_value c n) (p n (omega arith))))

@@ -1,10 +1,10 @@
 -- Period claims under their dots, and finite sets of them.
-use Rattle.std.specs.Prelude.{◌≡◌, List, Option, map}
-use Rattle.std.specs.List.{All, find}
+use Rattle.std.specs.Prelude.{◌≡◌, Bool, ◌&&◌, ◌==◌, List, Option, map}
+use Rattle.std.specs.List.{All, find, list_any}
 use Rattle.std.specs.Ordering.{on, then_cmp}
 use Rattle.std.specs.declared.cmp.Ordering.{Ordering}
 use Rattle.std.specs.Coded.{Coded, coded×}
-use Rattle.oct_code.specs.Code.{Code}
+use Rattle.oct_code.specs.Code.{Code, code_eq}
 use Rattle.oct_ops.specs.Codes.{dot_code, period_code}
 use Rattle.oct_ops.specs.DotOrder.{dot_cmp}
 use Rattle.oct_ops.specs.Operation.{Dot, Block, Period}
@@ -38,6 +38,14 @@ AreOfGame code = All (λ (c : Claim). c.1.code ≡ code)
 -- the first claim that the blocks prove
 abbrev pub first_proved : List Block → List Claim → Option Claim
 first_proved blocks = find (λ (c : Claim). is_proved (period_status blocks c.1))
+
+-- whether two claims are one: of the same game, with the same start and period
+abbrev pub is_same : Period → Period → Bool
+is_same p q = code_eq p.code q.code && ((p.start == q.start) && (p.period == q.period))
+
+-- whether one of the claims is this one
+abbrev pub is_claimed : List Period → Period → Bool
+is_claimed claims p = list_any (λ q. is_same q p) claims
 
 abbrev pub claim_code : Coded Claim
 claim_code = coded× dot_code period_code

@@ -6,9 +6,12 @@ pub mod ClaimLaws
 pub mod Claims
 pub mod FarBlocks
 pub mod FarLaws
+pub mod Found
 pub mod GameContent
 pub mod GameKept
 pub mod Laws
+pub mod MoveLaws
+pub mod Moving
 pub mod Outcomes
 pub mod Periods
 pub mod Proved

@@ -4,7 +4,7 @@ use oct_ops::{Dot, Period};
 use std::marker::Model;
 
 /// A period claim under its dot. Claims are in the order of operations: by dot, then by the claim's code, start and period.
-#[derive(Clone, Copy, Debug, PartialEq, Eq, PartialOrd, Ord)]
+#[derive(Clone, Copy, PartialEq, Eq, PartialOrd, Ord)]
 pub struct PeriodClaim {
     /// The dot of the claim's operation.
     pub dot: Dot,

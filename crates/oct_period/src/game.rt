@@ -2,10 +2,13 @@
 
 ghost use Rattle.std.specs.Prelude.{◌≡◌, true, false, IfErr, IfOk, IfSome, OnErr, OnOk};
 ghost use Rattle.oct_mex.specs.NimValues.{nim_value, position_value as nim_sum};
+ghost use Rattle.oct_mex.specs.Periods.{IsPeriodicFrom};
 ghost use Rattle.oct_ops.specs.Sets as sets;
-ghost use Rattle.oct_period.specs.Claims.{AreOfGame, claims_in, first_proved};
+ghost use Rattle.oct_period.specs.Claims.{AreOfGame, claims_in, first_proved, is_claimed};
 ghost use Rattle.oct_period.specs.FarBlocks.{block_status};
+ghost use Rattle.oct_period.specs.Found.{found_period, IsFoundPeriod};
 ghost use Rattle.oct_period.specs.GameContent.{ledger_of};
+ghost use Rattle.oct_period.specs.Moving.{winning_move, IsWinningAnswer};
 ghost use Rattle.oct_period.specs.Outcomes.{outcome, IsOutcomeOf};
 ghost use Rattle.oct_period.specs.Periods.{heap_value, position_value};
 ghost use Rattle.oct_period.specs.Proved.{IsProvedBy};
@@ -13,6 +16,9 @@ ghost use Rattle.oct_verify.specs.Filing.{blocks_in};
 
 use crate::claim::PeriodClaim;
 use crate::far::verdict_by;
+use crate::found::find_period;
+use crate::moving::Move;
+use crate::search::winning_move_by;
 use crate::unknown::Unknown;
 use crate::values::{heap_value_by, is_proved, position_value_by};
 use crate::winner::Outcome;
@@ -119,6 +125,28 @@ impl<A: Allocator + Copy> Game<A> {
         None
     }
 
+    /// Whether some claim here is this one, under whichever dot.
+    pub fn claims_period(&self, period: &Period) -> bool
+        ensures { result ≡ is_claimed (claims_in self.now.claims) period.now }
+    {
+        for claim in self.claims() {
+            if claim.period == *period {
+                return true;
+            }
+        }
+        false
+    }
+
+    /// The claim of the least period that the blocks prove, from the least start on, whether or not it is here; none where they
+    /// prove no claim of the game. It holds for every heap.
+    pub fn find_period(&self) -> Option<Period>
+        ensures value { result ≡ found_period self.now.code (blocks_in self.now.blocks) }
+        ensures found { IsFoundPeriod self.now.code (blocks_in self.now.blocks) result }
+        ensures holds { IfSome result (λ found. IsPeriodicFrom self.now.code found.start found.period) }
+    {
+        find_period(&self.ledger)
+    }
+
     /// The nim-value of a heap of any size: by the blocks below the known length, and otherwise by a proved claim.
     pub fn heap_value(&self, heap: u64) -> Option<u32>
         ensures value { result ≡ heap_value self.now.code (blocks_in self.now.blocks) (claims_in self.now.claims) heap }
@@ -142,6 +170,17 @@ impl<A: Allocator + Copy> Game<A> {
         ensures play { IsOutcomeOf self.now.code heaps.now (position_value self.now.code (blocks_in self.now.blocks) (claims_in self.now.claims) heaps.now) result }
     {
         outcome_of(self.position_value(heaps))
+    }
+
+    /// A move after which the next player loses: the first one, by the place of its heap, by the number of beans that it
+    /// removes, and by the smaller heap that it leaves. None exactly where the nim-value of the position is 0, so that the
+    /// player to move loses. Where the nim-value of some heap is not known, the first such heap is named. Under a proved claim
+    /// no heap is split so that both parts lie past the first period, so heaps of any size are searched alike.
+    pub fn winning_move(&self, heaps: &[u64]) -> Result<Option<Move>, Unknown>
+        ensures value { result ≡ winning_move self.now.code (blocks_in self.now.blocks) (claims_in self.now.claims) heaps.now }
+        ensures play { IfOk result (IsWinningAnswer self.now.code heaps.now) }
+    {
+        winning_move_by(&self.ledger, &self.proved_claim(), heaps)
     }
 
     /// The status of a block that is here under this dot: pending if it starts past the known length and no claim is proved,

@@ -2,6 +2,7 @@
 
 ghost use Rattle.oct_period.specs.FarLaws.{StatusByBlocks, NearStatusByBlocks, SettledBlocksStay};
 ghost use Rattle.oct_period.specs.Laws.{ProvedHolds, RefutedIsFirstBreak, SettledClaimsStay, HeapValuesAreRight, PositionValuesAreRight, NextPlayerWins, WinsAboveZero, OutcomeByValue};
+ghost use Rattle.oct_period.specs.MoveLaws.{MovesInAreTheMoves, MovesLeaveThePositionsAfter, NoneWinsAtZero, NoneWinsBefore};
 
 /// A proved claim holds for every heap from its start on, and a refuted one is refuted at the least of all heaps that
 /// break it.
@@ -40,4 +41,14 @@ pub fn winners_are_told_by_values()
     ensures moves { NextPlayerWins }
     ensures value { WinsAboveZero }
     ensures outcome { OutcomeByValue }
+{}
+
+/// The list of the moves in a position has exactly the moves of the game in it, and they leave the positions after it. There is
+/// no first winning move exactly where the nim-value of the position is 0, and no winning move comes before it: by the place
+/// of the heap, then by the number of beans removed, then by the smaller heap left.
+pub fn winning_moves_are_found()
+    ensures moves { MovesInAreTheMoves }
+    ensures after { MovesLeaveThePositionsAfter }
+    ensures none { NoneWinsAtZero }
+    ensures first { NoneWinsBefore }
 {}

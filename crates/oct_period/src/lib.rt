@@ -9,12 +9,15 @@
 //!     game.add_period(second, repeats)?;          // from 1 by 2: proved
 //!     game.heap_value(1_000_000_001)              // Some(1)
 //!     game.outcome(&[1, 1_000_000_001])           // NextLoses
+//!     game.winning_move(&[1_000_000_001])         // Some: of heap 0 remove 1 bean
 //!
 //! - `Game` is a ledger and the period claims of its game, and answers for both.
 //! - `PeriodClaim` is a claim under its dot, and `PeriodStatus` what is known of a claim: proved, refuted at the least heap
 //!   that breaks it, or pending.
 //! - `period_status`, `heap_value`, `position_value` and `outcome` answer for a ledger and a list of claims. No answer takes
 //!   memory.
+//! - `find_period` looks for the claim of the least period that a ledger proves, which need not have been made.
+//! - `Move` is a move in a position; `Game::winning_move` looks for the first one after which the next player loses.
 //! - `Unknown` names the first heap of a position whose nim-value is not known, and `Outcome` says who wins a position in
 //!   normal play, where that is known.
 //! - `laws` says what holds of all blocks and claims of a game.
@@ -23,8 +26,11 @@
 mod breaks;
 mod claim;
 mod far;
+mod found;
 mod game;
 pub mod laws;
+mod moving;
+mod search;
 mod status;
 mod unknown;
 mod values;
@@ -33,7 +39,9 @@ mod winning;
 
 pub use breaks::period_status;
 pub use claim::PeriodClaim;
+pub use found::find_period;
 pub use game::Game;
+pub use moving::Move;
 pub use status::PeriodStatus;
 pub use unknown::Unknown;
 pub use values::{heap_value, position_value};

@@ -1,7 +1,7 @@
 //! What is known of a period claim.
 
 /// What is known of a period claim by the known nim-values of its game.
-#[derive(Clone, Copy, Debug, PartialEq, Eq)]
+#[derive(Clone, Copy, PartialEq, Eq)]
 pub enum PeriodStatus {
     /// So many nim-values are known that the claim holds for every heap from its start on.
     Proved,

@@ -1,7 +1,7 @@
 //! Who wins a position.
 
 /// Who wins a position in normal play, where the player who cannot move loses.
-#[derive(Clone, Copy, Debug, PartialEq, Eq)]
+#[derive(Clone, Copy, PartialEq, Eq)]
 pub enum Outcome {
     /// The player to move loses, whatever the moves.
     NextLoses,
