@@ -21,3 +21,4 @@ mod Ended
 mod Fed
 mod Notes
 mod Cut
+pub mod Spelled

@@ -211,6 +211,7 @@ module _ (e : Edition) where
       rising = p.begins.rising;
       few = p.begins.few;
       ended = p.ended;
+      small = p.small;
       unfinished = λ lt. short_no_op rest (p.short lt);
     };
   }

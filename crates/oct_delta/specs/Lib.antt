@@ -12,3 +12,4 @@ pub mod Formats
 pub mod Writing
 pub mod Streaming
 pub mod ReaderState
+pub mod Spelling

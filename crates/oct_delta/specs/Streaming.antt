@@ -3,6 +3,7 @@ use Rattle.std.specs.Prelude.{◌≡◌, ℕ, zero, suc, ◌<◌, ◌≤◌, ◌
 use Rattle.std.specs.List.{flat_map, All}
 use Rattle.oct_ops.specs.Body.{Operation}
 use Rattle.oct_ops.specs.Operations.{IsRising}
+use Rattle.oct_delta.specs.declared.encoding.TheConstants.{MAX_OP_SIZE}
 use Rattle.oct_delta.specs.declared.fault.Fault.TheVariants.{Short, Malformed}
 use Rattle.oct_delta.specs.declared.fault.ReadError.{ReadError}
 use Rattle.oct_delta.specs.declared.fault.ReadError.TheVariants as errors
@@ -34,7 +35,8 @@ GivesNext (Ok None) old new read = (read ≡ Err Short) × (new ≡ old)
 GivesNext (Err errors.Memory) old new read = Unit {0}
 GivesNext (Err (errors.Fault f)) old new read = (read ≡ Err Malformed) × (f ≡ Malformed)
 
--- the bytes begin a text of so many operations: a tag and a count, these operations, and less than a whole one
+-- the bytes begin a text of so many operations: a tag and a count, these operations, and less than a whole one, which is
+-- shorter than the longest
 pub record BeginsWith (bytes : Bytes) (ops : List Operation) : Type 0 where
   pub format : Format
   pub named : format_at bytes ≡ Some format
@@ -46,6 +48,7 @@ pub record BeginsWith (bytes : Bytes) (ops : List Operation) : Type 0 where
   pub rising : IsRising ops
   pub few : length ops ≤ count
   pub ended : length ops ≡ count → rest ≡ []
+  pub small : length rest < MAX_OP_SIZE
   pub unfinished : length ops < count → (op : Operation) (after : Bytes) → Fits format.limit op → rest ≡ op_bytes op ++ after → ⊥
 
 -- these are the operations that are whole in the bytes that have come so far: none before the count is there

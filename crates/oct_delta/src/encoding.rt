@@ -115,8 +115,8 @@ fn put_body<A: Allocator>(out: &mut Vec<u8, A>, body: &Body<A>) -> Result<(), Al
     }
 }
 
-// Appends an operation.
-fn put_op<A: Allocator>(out: &mut Vec<u8, A>, op: &Op<A>) -> Result<(), AllocError>
+/// Appends an operation. After a refusal what was there before is at the front.
+pub(crate) fn put_op<A: Allocator>(out: &mut Vec<u8, A>, op: &Op<A>) -> Result<(), AllocError>
     ensures ok { OnOk result (out.new.items ≡ out.old.items ++ op_bytes op.now) }
     ensures kept { Keeps out.old.items out.new.items }
 {

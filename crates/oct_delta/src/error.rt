@@ -5,7 +5,7 @@ ghost use Rattle.std.specs.Prelude.{◌≡◌};
 use std::alloc::AllocError;
 
 /// Why bytes are no delta.
-#[derive(Clone, Copy, Debug, PartialEq, Eq)]
+#[derive(Clone, Copy, PartialEq, Eq)]
 pub enum DeltaError {
     /// The first four bytes are no tag of a delta, or are missing.
     Version,
@@ -28,7 +28,7 @@ impl From<AllocError> for DeltaError {
 }
 
 /// Why a list was not written.
-#[derive(Clone, Copy, Debug, PartialEq, Eq)]
+#[derive(Clone, Copy, PartialEq, Eq)]
 pub enum EncodeError {
     /// There are more operations than a delta can count, which are 4,294,967,295.
     TooMany,
@@ -47,7 +47,7 @@ impl From<AllocError> for EncodeError {
 }
 
 /// Why bytes are no clock.
-#[derive(Clone, Copy, Debug, PartialEq, Eq)]
+#[derive(Clone, Copy, PartialEq, Eq)]
 pub enum ClockError {
     /// The bytes are no text of a clock.
     Refused,

@@ -7,7 +7,7 @@ ghost use Rattle.oct_delta.specs.Decoding.{format_at};
 use oct_code::{LIMIT, OLD_LIMIT};
 
 /// Which tag a text begins with, and so which limit its operations keep.
-#[derive(Clone, Copy, Debug, PartialEq, Eq)]
+#[derive(Clone, Copy, PartialEq, Eq)]
 pub(crate) enum Edition {
     First,
     Second,

@@ -1,17 +1,21 @@
 //! What holds of all texts of deltas.
 
 ghost use Rattle.std.specs.Prelude.{◌≡◌, ◌↔◌, ◌++◌, List, [], Some};
+ghost use Rattle.std.specs.List.{All};
 ghost use Rattle.std.specs.Ordering.{nat_cmp};
 ghost use Rattle.std.specs.Cmp.Lexicographic.{slice_cmp};
 ghost use Rattle.oct_code.specs.declared.limits.TheConstants.{LIMIT};
 ghost use Rattle.oct_delta.specs.declared.encoding.TheConstants.{MAX_OP_SIZE};
 ghost use Rattle.oct_ops.specs.Body.{Operation};
+ghost use Rattle.oct_ops.specs.Operations.{Operations};
 ghost use Rattle.oct_ops.specs.Order.{op_cmp};
 ghost use Rattle.oct_join.specs.Clock.{Clock, IsClock};
 ghost use Rattle.oct_delta.specs.Bytes.{IsBytes};
 ghost use Rattle.oct_delta.specs.Text.{Bytes, op_bytes};
 ghost use Rattle.oct_delta.specs.Delta.{Format, Fits, IsOpList, IsDelta, IsDeltaText, delta_bytes, encoded};
 ghost use Rattle.oct_delta.specs.Decoding.{read_delta};
+ghost use Rattle.oct_delta.specs.Spelling.{SpellTogether, Spells};
+ghost use Rattle.oct_delta.specs.Taken.{operations_of, operations_of_all};
 ghost use Rattle.oct_delta.specs.Clocks.{IsClockText, clock_bytes, read_clock};
 
 /// A text is that of one list.
@@ -37,6 +41,13 @@ pub fn what_is_written_is_a_text()
 /// Reading a text gives its list, and reading anything else gives none.
 pub fn texts_are_read()
     ensures { (bytes : Bytes) (ops : List Operation) → IsBytes bytes → (read_delta bytes ≡ Some ops) ↔ IsDeltaText bytes ops }
+{}
+
+/// A byte string spells one set: the one of whose list it is a text, and the empty one where it is no text. Several
+/// together spell their union, and no other set. These are what `operations_of` and `operations_of_all` compute.
+pub fn byte_strings_spell_one_set()
+    ensures one { (bytes : Bytes) (ops : Operations) → IsBytes bytes → Spells bytes ops ↔ (ops ≡ operations_of bytes) }
+    ensures all { (strings : List Bytes) (ops : Operations) → All IsBytes strings → SpellTogether strings ops ↔ (ops ≡ operations_of_all strings) }
 {}
 
 /// The operation order is the order of the texts by their bytes.

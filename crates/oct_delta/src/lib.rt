@@ -12,7 +12,8 @@
 //! There are two formats with the same grammar: `OGD1` for games of `OLD_LIMIT` places, and `OGD2` for games of `LIMIT`
 //! places. Both are read; a list is written as `OGD1` where that can spell it.
 //!
-//! - `decode` reads a delta, `encode` writes one, and `op_size` says how long an operation's text is.
+//! - `decode` reads a delta, `encode` writes one, `encode_each` that of a set without a list of its operations, and
+//!   `op_size` says how long an operation's text is.
 //! - `Reader` reads a delta that comes in pieces, and gives the operations as they come whole; `decode_pieces` feeds one.
 //! - `decode_clock` and `encode_clock` do the same for clocks: a count, and then so many authors with their numbers.
 //! - `put_bytes`, `put_u32` and `put_entries` write what other texts are made of beside deltas.
@@ -23,6 +24,7 @@ mod building;
 mod checking;
 mod clock;
 mod decoding;
+mod each;
 mod encoding;
 mod error;
 mod fault;
@@ -37,6 +39,7 @@ mod streaming;
 
 pub use clock::{decode_clock, encode_clock, put_entries};
 pub use decoding::decode;
+pub use each::encode_each;
 pub use encoding::{MAX_OP_SIZE, encode, op_size};
 pub use error::{ClockError, DeltaError, EncodeError};
 pub use oct_ops::OpList;

@@ -173,7 +173,8 @@ impl<A: Allocator + Copy> Reader<A> {
     }
 
     /// Takes the next piece. The answer is `Version` once the first four bytes are there and are no tag, and `Refused`
-    /// once no delta begins with the bytes. After a refusal every call answers `Failed`.
+    /// only where no delta begins with the bytes; it comes before `MAX_OP_SIZE` bytes have followed the whole operations. After
+    /// a refusal every call answers `Failed`.
     pub fn feed(&mut self, piece: &[u8]) -> Result<(), DeltaError>
         ensures ok { OnOk result (IfSome self.old (λ bytes. self.new ≡ Some (bytes ++ piece.now))) }
         ensures tag { OnOk result (IfSome self.new (λ bytes. ¬ IsForeign bytes)) }
@@ -189,7 +190,7 @@ impl<A: Allocator + Copy> Reader<A> {
         Ok(())
     }
 
-    /// The operations that are whole in the bytes that were fed.
+    /// The operations that are whole in the bytes that were fed. Fewer bytes than `MAX_OP_SIZE` follow them.
     pub fn items(&self) -> &[Op<A>]
         ensures whole { IfSome self.now (λ bytes. AreWhole bytes result.now) }
         ensures none { self.now ≡ None → result.now ≡ [] }

@@ -1,0 +1,86 @@
+//! The delta of the operations that a set gives one by one, without a list of them.
+
+ghost use Rattle.std.specs.Prelude.{◌≡◌, ◌↔◌, ◌≤◌, ◌<◌, ◌^◌, ◌++◌, length, OnOk, OnErr, IsErrOf};
+ghost use Rattle.std.specs.List.{flat_map, list_all};
+ghost use Rattle.oct_ops.specs.Limits.{keeps_old_limits};
+ghost use Rattle.oct_delta.specs.Text.{op_bytes};
+ghost use Rattle.oct_delta.specs.Delta.{format_of, encoded};
+ghost use Rattle.oct_delta.specs.Formats.{format};
+ghost use Rattle.oct_delta.specs.Writing.{Keeps};
+
+use crate::encoding::put_op;
+use crate::error::EncodeError;
+use crate::format::Edition;
+use crate::output::{put_bytes, put_u32};
+use oct_ops::Op;
+use std::alloc::{AllocError, Allocator};
+use std::collections::btree_set::Iter;
+
+// Appends operations.
+fn put_each<A: Allocator>(out: &mut Vec<u8, A>, ops: Iter<'_, Op<A>>) -> Result<(), AllocError>
+    ensures ok { OnOk result (out.new.items ≡ out.old.items ++ flat_map op_bytes ops.entry) }
+    ensures kept { Keeps out.old.items out.new.items }
+{
+    for op in ops {
+        put_op(out, op)?;
+    }
+    Ok(())
+}
+
+// Whether each operation keeps the limits of the first edition.
+fn each_keeps_old_limits<A: Allocator>(ops: Iter<'_, Op<A>>) -> bool
+    ensures { result ≡ list_all keeps_old_limits ops.entry }
+{
+    for op in ops {
+        if !op.keeps_old_limits() {
+            return false;
+        }
+    }
+    true
+}
+
+// The edition of the text: the first where it can spell all operations.
+fn edition_of_each<A: Allocator>(ops: Iter<'_, Op<A>>) -> Edition
+    ensures { format result ≡ format_of ops.entry }
+{
+    if each_keeps_old_limits(ops) {
+        Edition::First
+    } else {
+        Edition::Second
+    }
+}
+
+// Appends a tag, a count and the operations.
+fn put_set<A: Allocator>(out: &mut Vec<u8, A>, ops: Iter<'_, Op<A>>) -> Result<(), AllocError>
+    requires { length ops < 2 ^ 32 }
+    ensures ok { OnOk result (out.new.items ≡ out.old.items ++ encoded ops.entry) }
+    ensures kept { Keeps out.old.items out.new.items }
+{
+    let count = ops.len() as u32;
+    let all = ops.clone()?;
+    put_bytes(out, &edition_of_each(all).tag())?;
+    put_u32(out, count)?;
+    put_each(out, ops)
+}
+
+/// Appends the one text of the operations that are left of an iterator over a set, as `encode` does for a list. No
+/// operation is copied. After a refusal `out` is as it was. The answer is `TooMany` exactly where their number is no
+/// `u32`.
+pub fn encode_each<A: Allocator>(
+    ops: Iter<'_, Op<A>>,
+    out: &mut Vec<u8, A>,
+) -> Result<(), EncodeError>
+    ensures ok { OnOk result (out.new.items ≡ out.old.items ++ encoded ops.entry) }
+    ensures too_many { IsErrOf result EncodeError.TooMany ↔ (2 ^ 32 ≤ length ops.entry) }
+    ensures err { OnErr result (out.new.items ≡ out.old.items) }
+{
+    if ops.len() > u32::MAX as usize {
+        return Err(EncodeError::TooMany);
+    }
+    let length = out.len();
+    if put_set(out, ops).is_err() {
+        out.truncate(length);
+        return Err(EncodeError::OutOfMemory);
+    }
+    Ok(())
+}
