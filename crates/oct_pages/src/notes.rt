@@ -22,7 +22,7 @@ pub(crate) fn append_notes<A: Allocator + Copy>(
     ensures ok { OnOk result (Shown window.old window.new out.old.items out.new.items (map note_line (live_notes (listed notes.now)))) }
     ensures grown { Extends out.old.items out.new.items }
 {
-    let live = notes.live()?;
+    let live = notes.live_refs()?;
     for op in &live {
         show_note(out, window, op)?;
     }

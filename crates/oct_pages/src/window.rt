@@ -8,7 +8,7 @@ ghost use Rattle.oct_pages.specs.Window.{is_reached, shows, passed};
 const PAGE_LENGTH: u32 = 64;
 
 /// The lines that are shown of those to come.
-#[derive(Clone, Copy, Debug, PartialEq, Eq)]
+#[derive(Clone, Copy, PartialEq, Eq)]
 pub(crate) enum Window {
     // Each line.
     All,

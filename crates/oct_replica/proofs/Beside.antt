@@ -1,12 +1,12 @@
 -- Games and notes beside a set, after an insertion.
-use Rattle.std.proofs.Common.{◌≡◌, Bool, true, false, not, ◌&&◌, ◌||◌, cond, List, [], ◌∷◌, Option, Some, None, refl, sym, ap, ◌∙◌, subst}
+use Rattle.std.proofs.Common.{◌≡◌, Bool, true, false, not, ◌&&◌, ◌||◌, cond, List, [], ◌∷◌, Option, Some, None, IsSome, refl, sym, ap, ◌∙◌, subst}
 use Rattle.std.specs.Prelude.{IfSome}
 use Rattle.std.specs.List.{list_any, filter, filter_map, cons_option}
-use Rattle.std.specs.Ordering.{eq_by_cmp}
-use Rattle.std.specs.Cmp.{Equal-is}
+use Rattle.std.specs.Ordering.{eq_by_cmp, is_eq}
+use Rattle.std.specs.Cmp.{Equal-is, tied_itself}
 use Rattle.std.specs.BTreeSet.{insert_key}
 use Rattle.oct_code.specs.Code.{Code, code_cmp, code_eq}
-use Rattle.oct_code.specs.CodeOrder.{code_cmp_exact}
+use Rattle.oct_code.specs.CodeOrder.{code_cmp_exact, code_cmp_total}
 use Rattle.oct_ops.specs.Body as kind
 use Rattle.oct_ops.specs.Body.{Body, Operation}
 use Rattle.oct_ops.specs.Operation.{Dot, Block, Period}
@@ -67,6 +67,43 @@ pub put_new : (old : Games) (code of : Code) (new : GameContent) (more : GameCon
 put_new old code of new more none is grown q =
     let at : new_game code ≡ game_at old of = ap (λ o. Rattle.std.specs.Prelude.unwrap_or o (new_game code)) none ∙ ap (game_at old) is in
     (λ i. after old (is i) ((grown ∙ ap more at) i) q)
+
+-- ---- a game that is made empty, and then changed
+
+made_at : (old mid : Games) (code of : Code) (made : GameContent) → code ≡ of → made ≡ new_game code → ((q : Code) → mid q ≡ after old code made q) → mid of ≡ Some (new_game of)
+made_at old mid code of made same is step =
+    step of ∙ ap (λ k. cond (eq_by_cmp code_cmp k of) (Some made) (old of)) same
+    ∙ ap (λ b. cond b (Some made) (old of)) (ap is_eq (tied_itself code_cmp_total of)) ∙ ap Some (is ∙ ap new_game same)
+
+pub is_made : (old mid : Games) (code of : Code) (made : GameContent) → code ≡ of → made ≡ new_game code → ((q : Code) → mid q ≡ after old code made q) → IsSome (mid of)
+is_made old mid code of made same is step = subst IsSome (sym (made_at old mid code of made same is step)) refl
+
+pub own_made : (old mid : Games) (code : Code) (made : GameContent) → made ≡ new_game code → HasOwnCode old → ((q : Code) → mid q ≡ after old code made q) → HasOwnCode mid
+own_made old mid code made is own step c =
+    subst (λ o. IfSome o (λ (game : GameContent). game.code ≡ c)) (sym (step c))
+    (elim (eq_by_cmp code_cmp code c) as (λ b. eq_by_cmp code_cmp code c ≡ b → IfSome (cond b (Some made) (old c)) (λ (game : GameContent). game.code ≡ c)) [
+      | true ↦ λ tied. ap (λ (game : GameContent). game.code) is ∙ code_cmp_exact code c ((Equal-is (code_cmp code c)).0 tied)
+      | false ↦ λ _. own c
+    ] refl)
+
+pub put_made : (old mid new : Games) (code of : Code) (made : GameContent) (more : GameContent → GameContent) → code ≡ of → made ≡ new_game code → old of ≡ None → ((q : Code) → mid q ≡ after old code made q)
+    → ((q : Code) → new q ≡ after mid of (more (game_at mid of)) q) → (q : Code) → new q ≡ after old of (more (game_at old of)) q
+put_made old mid new code of made more same is none step last q =
+    let at : game_at mid of ≡ game_at old of =
+    ap (λ o. Rattle.std.specs.Prelude.unwrap_or o (new_game of)) (made_at old mid code of made same is step) ∙ sym (ap (λ o. Rattle.std.specs.Prelude.unwrap_or o (new_game of)) none) in
+    let put = more (game_at old of) in
+    last q ∙ ap (λ game. after mid of (more game) q) at
+    ∙ ap (λ o. cond (eq_by_cmp code_cmp of q) (Some put) o) (step q ∙ ap (λ k. cond (eq_by_cmp code_cmp k q) (Some made) (old q)) same)
+    ∙ elim (eq_by_cmp code_cmp of q) as (λ b. cond b (Some put) (cond b (Some made) (old q)) ≡ cond b (Some put) (old q)) [ true ↦ refl | false ↦ refl ]
+
+pub put_away : (old mid last new : Games) (code of : Code) (made : GameContent) → code ≡ of → old of ≡ None → ((q : Code) → mid q ≡ after old code made q) → ((q : Code) → last q ≡ mid q)
+    → ((q : Code) → new q ≡ cond (eq_by_cmp code_cmp code q) None (last q)) → (q : Code) → new q ≡ old q
+put_away old mid last new code of made same none step kept removed q =
+    removed q ∙ ap (λ o. cond (eq_by_cmp code_cmp code q) None o) (kept q ∙ step q)
+    ∙ elim (eq_by_cmp code_cmp code q) as (λ b. eq_by_cmp code_cmp code q ≡ b → cond b None (cond b (Some made) (old q)) ≡ old q) [
+      | true ↦ λ tied. sym (ap old (sym (code_cmp_exact code q ((Equal-is (code_cmp code q)).0 tied))) ∙ ap old same ∙ none)
+      | false ↦ λ _. refl
+    ] refl
 
 -- ---- the games of a set
 

@@ -5,6 +5,7 @@ use Rattle.oct_ops.specs.OrderLaws.{op_cmp_total, op_cmp_exact}
 use Rattle.oct_ops.specs.SetLaws.{same_set, union_assoc, union_comm, union-empty}
 use Rattle.oct_delta.specs.Text.{Bytes}
 use Rattle.oct_delta.specs.Taken.{operations_of, operations_of_all}
+use Rattle.oct_delta.proofs.Spelled.{spell_together}
 use Rattle.oct_mex.proofs.NimValues as nim
 use Rattle.oct_verify.specs.Known.{known, verdict}
 use Rattle.oct_verify.specs.Laws.{IsLeastWrong}
@@ -13,7 +14,7 @@ use Rattle.oct_verify.proofs.Verdicts.{refuted-is_least}
 use Rattle.oct_period.specs.FarBlocks.{has_proved}
 use Rattle.oct_period.proofs.Statuses as statuses
 use Rattle.oct_pages.specs.Catalogue.{catalogue}
-use Rattle.oct_replica.specs.Headline.{handed, UnionIsPrinted, SameIsPrinted, ShownValuesAreNimValues, NimValuesAreTheSequence, RefutedAtFirstWrong, RefutedAtFirstBreak, ProvedPeriodsHold}
+use Rattle.oct_replica.specs.Headline.{handed, UnionIsPrinted, SpelledIsPrinted, SameIsPrinted, ShownValuesAreNimValues, NimValuesAreTheSequence, RefutedAtFirstWrong, RefutedAtFirstBreak, ProvedPeriodsHold}
 use Rattle.oct_replica.specs.Settled.{blocks_in, claims_in}
 use Rattle.oct_replica.proofs.Settled.{start_some}
 
@@ -28,6 +29,9 @@ handed-all strings =
 
 pub union_is_printed : UnionIsPrinted
 union_is_printed strings = ap (λ ops. catalogue (listed ops)) (handed-all strings)
+
+pub spelled_is_printed : SpelledIsPrinted
+spelled_is_printed strings ops are spell = union_is_printed strings ∙ ap (λ s. catalogue (listed s)) (sym ((spell_together strings ops are).0 spell))
 
 pub same_is_printed : SameIsPrinted
 same_is_printed strings others same =

@@ -1,7 +1,7 @@
 pub mod Authors
 mod Beside
 mod Deliveries
-mod Headline
+pub mod Headline
 mod Inserting
 mod Lines
 pub mod Members
@@ -10,7 +10,8 @@ mod Places
 mod Removing
 mod Rows
 mod Schedules
-mod Settled
+pub mod Settled
 mod StateTexts
 mod Taking
 mod Worlds
+mod Shown

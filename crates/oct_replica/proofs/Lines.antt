@@ -41,7 +41,7 @@ taken : {A : Type 0} (d : Dot) (t : Bool) (x : A) (y : Dot × A) → under d (if
 taken d true x y h = refl
 taken d false x y h = cc
 
-same_code : (a c : Code) → code_eq a c ≡ true → a ≡ c
+pub same_code : (a c : Code) → code_eq a c ≡ true → a ≡ c
 same_code a c e = code_cmp_exact a c ((Equal-is (code_cmp a c)).0 e)
 
 block_game : (c : Code) (d : Dot) (body : Body) (b : Dot × Block) → block_in c (record { dot = d; body = body }) ≡ Some b → game_of (record { dot = d; body = body }) ≡ Some c

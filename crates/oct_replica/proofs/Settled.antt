@@ -78,7 +78,7 @@ claim_of_if : (c : Code) (d : Dot) (t : Bool) (p : Period) (q : Dot × Period) �
 claim_of_if c d true p q h = cc
 claim_of_if c d false p q h = cc
 
-claim_is_valid : (c : Code) (d : Dot) (body : Body) (q : Dot × Period) → IsBody body → claim_in c (record { dot = d; body = body }) ≡ Some q → IsPeriod q.1
+pub claim_is_valid : (c : Code) (d : Dot) (body : Body) (q : Dot × Period) → IsBody body → claim_in c (record { dot = d; body = body }) ≡ Some q → IsPeriod q.1
 claim_is_valid c d (kind.Block b) q valid h = cc
 claim_is_valid c d (kind.Period p) q valid h = subst IsPeriod (claim_of_if c d (code_eq p.code c) p q h) valid
 claim_is_valid c d (kind.Note n) q valid h = cc

@@ -1,5 +1,6 @@
 -- What a replica shows after byte strings were handed to it.
 use Rattle.std.specs.Prelude.{◌≡◌, ◌<◌, ℕ, List, [], ◌∷◌, slice_index}
+use Rattle.std.specs.List.{All}
 use Rattle.oct_code.specs.Code.{Code}
 use Rattle.oct_mex.specs.NimValues.{nim_value, nim_values, IsNimSequence}
 use Rattle.oct_mex.specs.Periods.{IsPeriodicFrom, IsFirstBreak}
@@ -7,6 +8,8 @@ use Rattle.oct_ops.specs.Body.{Operation}
 use Rattle.oct_ops.specs.Operation.{Block, Period}
 use Rattle.oct_ops.specs.Operations.{Operations, contains, empty, listed, union}
 use Rattle.oct_ops.specs.Valid.{IsPeriod}
+use Rattle.oct_delta.specs.Bytes.{IsBytes}
+use Rattle.oct_delta.specs.Spelling.{SpellTogether}
 use Rattle.oct_delta.specs.Text.{Bytes}
 use Rattle.oct_delta.specs.Taken.{operations_of, operations_of_all}
 use Rattle.oct_verify.specs.Laws.{IsLeastWrong}
@@ -37,6 +40,10 @@ SpellSame strings others = (o : Operation) → contains (operations_of_all strin
 -- then the bytes printed are the same, whatever their order, batching and repetition
 abbrev pub SameIsPrinted : Type 0
 SameIsPrinted = (strings others : List Bytes) → SpellSame strings others → printed strings ≡ printed others
+
+-- and whichever set has exactly the operations that the strings spell, it prints the catalogue of that set
+abbrev pub SpelledIsPrinted : Type 0
+SpelledIsPrinted = (strings : List Bytes) (ops : Operations) → All IsBytes strings → SpellTogether strings ops → printed strings ≡ catalogue (listed ops)
 
 -- the values shown are those of the game's nim-sequence
 abbrev pub ShownValuesAreNimValues : Type 0

@@ -6,6 +6,7 @@ pub mod Content
 pub mod Headline
 pub mod Kept
 pub mod Settled
+pub mod Shown
 pub mod States
 pub mod Taking
 pub mod World

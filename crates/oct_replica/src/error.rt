@@ -1,7 +1,7 @@
 //! Why a call was refused.
 
 /// Why there is no such replica.
-#[derive(Clone, Copy, Debug, PartialEq, Eq)]
+#[derive(Clone, Copy, PartialEq, Eq)]
 pub enum AuthorError {
     /// The author is 0.
     Zero,

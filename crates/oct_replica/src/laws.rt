@@ -1,6 +1,7 @@
 //! What holds of any replicas, whatever was handed to them, lost, repeated, reordered or cut.
 
-ghost use Rattle.oct_replica.specs.Headline.{UnionIsPrinted, SameIsPrinted, ShownValuesAreNimValues, NimValuesAreTheSequence, RefutedAtFirstWrong, RefutedAtFirstBreak, ProvedPeriodsHold};
+ghost use Rattle.oct_replica.specs.Headline.{UnionIsPrinted, SpelledIsPrinted, SameIsPrinted, ShownValuesAreNimValues, NimValuesAreTheSequence, RefutedAtFirstWrong, RefutedAtFirstBreak, ProvedPeriodsHold};
+ghost use Rattle.oct_replica.specs.Shown.{GameLinesAreSo, LinesAreSo};
 ghost use Rattle.oct_replica.specs.Taking.{DeliveriesAreTaken};
 ghost use Rattle.oct_replica.specs.World.{EachIsIssued, NoForks, EqualClocksEqualSets, EqualClocksEqualCatalogues, AbroadIsSaved};
 ghost use Rattle.oct_replica.specs.Settled.{SettledBlocksStay, SettledClaimsStay, BlockLinesStay, ClaimLinesStay};
@@ -10,12 +11,22 @@ ghost use Rattle.oct_replica.specs.Settled.{SettledBlocksStay, SettledClaimsStay
 /// shown is the game's mex value, every refutation names the first wrong place, and every proved period holds for all heaps.
 pub fn same_operations_same_bytes()
     ensures union { UnionIsPrinted }
+    ensures spelled { SpelledIsPrinted }
     ensures same { SameIsPrinted }
     ensures values { ShownValuesAreNimValues }
     ensures mex { NimValuesAreTheSequence }
     ensures blocks { RefutedAtFirstWrong }
     ensures claims { RefutedAtFirstBreak }
     ensures periods { ProvedPeriodsHold }
+{}
+
+/// Each line of a catalogue tells what is so. Of each game: its known length; nim-values, each of the heap that it stands for;
+/// blocks of the set, of which a proved one is right, and a refuted one is wrong first at the place that the line names, with
+/// the value claimed there and the nim-value; and claims of the set, of which a proved one holds for every heap, and a
+/// refuted one breaks first at the heap that the line names. Then the notes that nothing removes, the forks and the authors.
+pub fn lines_tell_what_is_so()
+    ensures games { GameLinesAreSo }
+    ensures all { LinesAreSo }
 {}
 
 /// A delivery in the world of replicas leaves what a replica has that took in the same operations.

@@ -7,12 +7,14 @@
 //!     replica.removal(b"kayles")?           // the removal of the notes of a name, to be issued
 //!     replica.join(&other)?;                // the union
 //!     replica.value(kayles, &[5, 6])        // the exclusive or of the heaps' nim-values
+//!     replica.winning_move(kayles, &[5, 6]) // a move after which the next player loses
+//!     replica.find_period(kayles)           // the least period that the known values prove
 //!     replica.catalogue(&mut out)?;         // all that is known, as text
 //!     replica.save(&mut out)?;              // `OGS1`, the author, and the delta of all operations
 //!     Replica::load(alloc, &out)?           // the replica again
 //!
 //! Beside the set a replica keeps its games and its notes, so `take` costs only what the new operations cost, and `game`,
-//! `value` and `outcome` take no memory. Store, games and notes agree at the end of every call, also of a refused one.
+//! `known`, `value`, `outcome`, `winning_move`, `find_period` and `claims_period` take no memory. Store, games and notes agree at the end of every call, also of a refused one.
 //!
 //! Replicas act apart, and what they send may be lost, repeated, reordered or cut; they stop and begin again from what
 //! they last saved. `specs/World` says what may happen in a world of such replicas, event by event, and what then holds

@@ -2,7 +2,9 @@
 
 ghost use Rattle.std.specs.Prelude.{◌≡◌, ◌↔◌, ◌+◌, ◌≤◌, ◌<◌, ◌^◌, ◌++◌, not, length, true, false, None, List, IsTrue, IsSome, IsNone, IfSome, IfOk, IfErr, OnOk, OnErr, IsErrOf};
 ghost use Rattle.std.specs.Option.{is_some, option_copied, unwrap_or};
+ghost use Rattle.oct_code.specs.declared.limits.TheConstants.{LIMIT};
 ghost use Rattle.oct_mex.specs.NimValues.{position_value as nim_sum};
+ghost use Rattle.oct_mex.specs.Periods.{IsPeriodicFrom};
 ghost use Rattle.oct_ops.specs.Body.{Operation};
 ghost use Rattle.oct_ops.specs.Operation.{dot_of, removing};
 ghost use Rattle.oct_ops.specs.Operations.{empty, insert, contains, listed, set_of, union, IsSubset};
@@ -17,7 +19,9 @@ ghost use Rattle.oct_store.specs.Summary as summary;
 ghost use Rattle.oct_notes.specs.Notes.{live_dots};
 ghost use Rattle.oct_verify.specs.Filing.{blocks_in};
 ghost use Rattle.oct_verify.specs.Known.{known, is_true};
-ghost use Rattle.oct_period.specs.Claims.{claims_in};
+ghost use Rattle.oct_period.specs.Claims.{claims_in, is_claimed};
+ghost use Rattle.oct_period.specs.Found.{found_period, IsFoundPeriod};
+ghost use Rattle.oct_period.specs.Moving.{winning_move, IsWinningAnswer};
 ghost use Rattle.oct_period.specs.Outcomes.{outcome, IsOutcomeOf};
 ghost use Rattle.oct_period.specs.Periods.{position_value};
 ghost use Rattle.oct_pages.specs.Catalogue.{catalogue, has_page, page as page_text};
@@ -38,9 +42,9 @@ use oct_code::Code;
 use oct_delta::{DeltaError, EncodeError, decode, encode};
 use oct_join::Clock;
 use oct_notes::Notes;
-use oct_ops::{Block, Body, Dot, Op, OpList, Removal, RemovalError as Fault};
+use oct_ops::{Block, Body, Dot, Op, OpList, Period, Removal, RemovalError as Fault};
 use oct_pages::{Parts, write_catalogue, write_page};
-use oct_period::{Game, Outcome, Unknown};
+use oct_period::{Game, Move, Outcome, Unknown};
 use oct_store::Store;
 use oct_verify::Ledger;
 use std::alloc::{AllocError, Allocator};
@@ -183,10 +187,9 @@ impl<A: Allocator + Copy> Replica<A> {
         let Some(dot) = self.next_dot() else {
             return Err((IssueError::LastNumber, body));
         };
-        let op = Op::new(dot, body);
-        match self.add(&op) {
-            Ok(_) => Ok(op.dot()),
-            Err(_) => Err((IssueError::OutOfMemory, op.into_body())),
+        match self.take_op(Op::new(dot, body)) {
+            Ok(_) => Ok(dot),
+            Err((_, op)) => Err((IssueError::OutOfMemory, op.into_body())),
         }
     }
 
@@ -227,6 +230,46 @@ impl<A: Allocator + Copy> Replica<A> {
         self.games.get(&code)
     }
 
+    /// The known length of a game, 1 to `LIMIT`: the nim-values of the heaps below it are known. Takes no memory.
+    pub fn known(&self, code: Code) -> u32
+        ensures value { result ≡ known (blocks_in (content_in self.now.ops code).blocks) }
+        ensures within { result ≤ LIMIT }
+    {
+        match self.game(code) {
+            Some(game) => game.ledger().known(),
+            None => {
+                let ledger = Ledger::new(self.alloc, code);
+                ledger.known()
+            }
+        }
+    }
+
+    /// The claim of the least period that the known nim-values of a game prove, from the least start on, whether or not it
+    /// is here; none where they prove no claim. It holds for every heap. Takes no memory.
+    pub fn find_period(&self, code: Code) -> Option<Period>
+        ensures value { result ≡ found_period code (blocks_in (content_in self.now.ops code).blocks) }
+        ensures found { IsFoundPeriod code (blocks_in (content_in self.now.ops code).blocks) result }
+        ensures holds { IfSome result (λ found. IsPeriodicFrom code found.start found.period) }
+    {
+        match self.game(code) {
+            Some(game) => game.find_period(),
+            None => {
+                let game = Game::new(self.alloc, code);
+                game.find_period()
+            }
+        }
+    }
+
+    /// Whether some operation here is this claim, of whichever author. Takes no memory.
+    pub fn claims_period(&self, period: &Period) -> bool
+        ensures { result ≡ is_claimed (claims_in (content_in self.now.ops period.now.code).claims) period.now }
+    {
+        match self.game(period.code()) {
+            Some(game) => game.claims_period(period),
+            None => false,
+        }
+    }
+
     /// The exclusive or of the nim-values of a position's heaps, or the first heap whose nim-value is not known. Takes no
     /// memory.
     pub fn value(&self, code: Code, heaps: &[u64]) -> Result<u32, Unknown>
@@ -253,6 +296,23 @@ impl<A: Allocator + Copy> Replica<A> {
             None => {
                 let game = Game::new(self.alloc, code);
                 game.outcome(heaps)
+            }
+        }
+    }
+
+    /// A move after which the next player loses, in normal play: the first one, by the place of its heap, by the number of
+    /// beans that it removes, and by the smaller heap that it leaves. None exactly where the nim-value of the position is 0,
+    /// so that the player to move loses. Where the nim-value of some heap is not known, the first such heap is named. Takes
+    /// no memory.
+    pub fn winning_move(&self, code: Code, heaps: &[u64]) -> Result<Option<Move>, Unknown>
+        ensures value { result ≡ winning_move code (blocks_in (content_in self.now.ops code).blocks) (claims_in (content_in self.now.ops code).claims) heaps.now }
+        ensures play { IfOk result (IsWinningAnswer code heaps.now) }
+    {
+        match self.game(code) {
+            Some(game) => game.winning_move(heaps),
+            None => {
+                let game = Game::new(self.alloc, code);
+                game.winning_move(heaps)
             }
         }
     }
@@ -337,9 +397,8 @@ impl<A: Allocator + Copy> Replica<A> {
         if self.store.len() > u32::MAX as usize {
             return Err(EncodeError::TooMany);
         }
-        let list = self.store.list()?;
         let length = out.len();
-        if put_state(out, self.author, &list).is_err() {
+        if put_state(out, self.author, self.store.iter()).is_err() {
             out.truncate(length);
             return Err(EncodeError::OutOfMemory);
         }
@@ -371,13 +430,20 @@ impl<A: Allocator + Copy> Replica<A> {
         Some(own_dot(self.author, last + 1))
     }
 
-    // Takes in the operation, and says whether it is new. Without memory nothing changes.
-    fn take_op(&mut self, op: Op<A>) -> Result<bool, AllocError>
+    // Takes in the operation, and says whether it is new. Memory can be refused only where it is; then nothing changes,
+    // and the operation comes back.
+    fn take_op(&mut self, op: Op<A>) -> Result<bool, (AllocError, Op<A>)>
         ensures added { IfOk result (λ added. added ≡ not (contains self.old.ops op)) }
         ensures ok { OnOk result (self.new ≡ record self.old { ops = insert self.old.ops op }) }
         ensures err { OnErr result (self.new ≡ self.old) }
+        ensures absent { OnErr result (contains self.old.ops op ≡ false) }
+        ensures returned { IfErr result (λ refused. refused.1 ≡ op) }
     {
-        self.add(&op)
+        if self.store.contains(&op) {
+            return Ok(false);
+        }
+        self.take_new(op)?;
+        Ok(true)
     }
 
     // Takes in a copy of the operation, and says whether it is new. Memory can be refused only where it is; then nothing
@@ -392,14 +458,31 @@ impl<A: Allocator + Copy> Replica<A> {
             return Ok(false);
         }
         let copy = op.copy(self.alloc)?;
+        match self.take_new(copy) {
+            Ok(()) => Ok(true),
+            Err((refused, _)) => Err(refused),
+        }
+    }
+
+    // Takes in an operation that is not there: a copy goes into the set, and the operation itself into its game or the
+    // notes. Without memory nothing changes, and the operation comes back.
+    fn take_new(&mut self, op: Op<A>) -> Result<(), (AllocError, Op<A>)>
+        requires { contains self.old.ops op ≡ false }
+        ensures ok { OnOk result (self.new ≡ record self.old { ops = insert self.old.ops op }) }
+        ensures err { OnErr result (self.new ≡ self.old) }
+        ensures returned { IfErr result (λ refused. refused.1 ≡ op) }
+    {
+        let Ok(copy) = op.copy(self.alloc) else {
+            return Err((AllocError, op));
+        };
         if let Err((refused, _)) = self.store.insert(copy) {
-            return Err(refused);
+            return Err((refused, op));
         }
-        if let Err(refused) = file(&mut self.games, &mut self.notes, self.alloc, op) {
-            self.store.remove(op);
-            return Err(refused);
+        if let Err((refused, op)) = file(&mut self.games, &mut self.notes, self.alloc, op) {
+            self.store.remove(&op);
+            return Err((refused, op));
         }
-        Ok(true)
+        Ok(())
     }
 }
 

@@ -13,7 +13,7 @@ returns-in_err-put_u32-clause-kept g c = keeps_then _ _ _ c.put_bytes.ensures.ke
 pub returns-clause-kept : goal.returns-clause-kept
 returns-clause-kept g c =
     keeps_then _ _ _ (keeps_then _ _ _ c.put_bytes.ensures.kept c.put_u32.ensures.kept)
-    (keeps_either c.encode.result c.put_u32.new.out.items c.encode.new.out.items (encoded c.args.list.now) c.encode.ensures.ok c.encode.ensures.err)
+    (keeps_either c.encode_each.result c.put_u32.new.out.items c.encode_each.new.out.items (encoded c.args.ops) c.encode_each.ensures.ok c.encode_each.ensures.err)
 
 pub returns-in_err-put_u32-clause-ok : goal.returns-in_err-put_u32-clause-ok
 returns-in_err-put_u32-clause-ok g c = rw (err_from_is_err_and c.from_residual-in_err-put_u32.result c.from_residual-in_err-put_u32.ensures.1).1 tt
@@ -23,6 +23,6 @@ returns-in_err-put_bytes-clause-kept g c = c.put_bytes.ensures.kept
 
 pub returns-clause-ok : goal.returns-clause-ok
 returns-clause-ok g c =
-    on_ok_weaker c.encode.result
-    (state_written c.args.out.now.items c.put_bytes.new.out.items c.put_u32.new.out.items c.encode.new.out.items (encoded c.args.list.now) c.args.author c.in_ok-put_bytes.ensures.ok c.in_ok-put_u32.ensures.ok)
-    c.encode.ensures.ok
+    on_ok_weaker c.encode_each.result
+    (state_written c.args.out.now.items c.put_bytes.new.out.items c.put_u32.new.out.items c.encode_each.new.out.items (encoded c.args.ops) c.args.author c.in_ok-put_bytes.ensures.ok c.in_ok-put_u32.ensures.ok)
+    c.encode_each.ensures.ok

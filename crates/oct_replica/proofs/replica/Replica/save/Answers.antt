@@ -11,5 +11,5 @@ returns-clause-err g c = cc
 
 pub returns-clause-ok : goal.returns-clause-ok
 returns-clause-ok g c =
-    state_saved c.args.out.now.items c.put_state.new.out.items (record { author = c.self.inside.author; ops = c.self.inside.store }) c.args.self.now c.in_ok-list.list
-    (told c.put_state.result (sym c.is_err.ensures.value ∙ c.if-is_err.false) c.put_state.ensures.ok) c.in_ok-list.ensures c.self.view_is
+    state_saved c.args.out.now.items c.put_state.new.out.items (record { author = c.self.inside.author; ops = c.self.inside.store }) c.args.self.now c.iter.result
+    (told c.put_state.result (sym c.is_err.ensures.value ∙ c.if-is_err.false) c.put_state.ensures.ok) c.iter.ensures c.self.view_is
