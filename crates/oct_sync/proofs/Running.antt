@@ -1,5 +1,5 @@
 -- What holds at each turn of a driver.
-use Rattle.std.proofs.Common.{◌≡◌, ℕ, ◌+◌, ◌≤◌, [], ◌++◌, take, length, Option, Some, None, refl, sym, ◌∙◌, ap, subst, append_assoc, inl, inr}
+use Rattle.std.proofs.Common.{◌≡◌, ℕ, ◌+◌, ◌≤◌, [], ◌++◌, take, length, Option, Some, None, Result, Err, refl, sym, ◌∙◌, ap, subst, append_assoc, inl, inr}
 use Rattle.std.specs.Io.KnownBytes.{Appends, Consumes, Keeps}
 use Rattle.std.proofs.KnownBytes.{Appends-nil, Appends-trans, Consumes-nil, Consumes-trans, Consumes-kept}
 use Rattle.std.proofs.lemmas.List.{append-nil, take_at, drop_at}
@@ -217,6 +217,9 @@ tells_ended role q piece fault.Read held sent m h phase is = absurd h
 tells_ended role q piece fault.Write held sent m h phase is = absurd h
 tells_ended role q piece fault.Turns held sent m h phase is = absurd h
 
+abbrev pub answered : SyncError → Result (Unit {0}) SyncError
+answered e = Err e
+
 module _ (role : Role) (r r' r'' w w' : Option Bytes) (before : Operations) (s : Option Standing) (held : Operations) (none piece : Bytes) (running : IsRunning role r r' w w' before s held []) (quiet : none ≡ []) (read : Consumes r' r'' piece) where
   abbrev now : Point
   now = fed role (record { session = begun role before; rest = [] }) running.bytes
@@ -279,3 +282,7 @@ module _ (role : Role) (r r' r'' w w' : Option Bytes) (before : Operations) (s :
           subst (λ z. Appends w w' z) (sym (ap (λ (t : Session). take (length running.written) t.sent) session ∙ take_at running.written owed (length running.written) refl)) running.put,
         );
       }
+
+  -- a fault of a frame is no end of the input
+  pub uncut : (e : SyncError) (held' : Operations) (owed : Bytes) → answered e ≡ answered fault.Cut → ((t : Role) (p : Point) → StandsAt t s held none p → Ends t p piece e held' owed) → ⊥
+  uncut e held' owed cut feeds = let same : e ≡ fault.Cut = cc in subst (λ e. Ends role (unsent none now) piece e held' owed) same (feeds role (unsent none now) (unsent_at role s held (running.written ++ []) none now running.at))

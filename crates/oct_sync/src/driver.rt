@@ -1,7 +1,7 @@
 //! A session over a reader and a writer.
 
-ghost use Rattle.std.specs.Prelude.{◌≡◌, ◌≢◌, ◌++◌, ◌≤◌, [], Some, length, vec_len, IfOk, IfErr, OnOk, OnErr};
-ghost use Rattle.std.specs.Io.KnownBytes.{Appends, Consumes, Keeps};
+ghost use Rattle.std.specs.Prelude.{◌≡◌, ◌≢◌, ◌++◌, ◌<◌, ◌≤◌, [], Some, length, take, vec_len, IfOk, IfErr, OnOk, OnErr, IsErrOf};
+ghost use Rattle.std.specs.Io.KnownBytes.{Appends, Consumes, IsAtEnd, Keeps};
 ghost use Rattle.oct_sync.specs.Driven.{Breaks, Completes, IsOutside, LacksMemory, RunsOut, begun};
 ghost use Rattle.oct_sync.specs.Output.{AppendsPrefix};
 ghost use Rattle.oct_sync.specs.Standing.{at_start};
@@ -43,6 +43,7 @@ pub fn drive<A: Allocator + Copy, P: Peer<A>, R: Read, W: Write>(
     ensures ok { OnOk result (Completes role (R.remaining reader.old) (R.remaining reader.new) (W.contents writer.old) (W.contents writer.new) (P.held peer.old) (P.held peer.new)) }
     ensures err { IfErr result (λ e. e ≢ SyncError.OutOfMemory → Breaks role e (R.remaining reader.old) (R.remaining reader.new) (W.contents writer.old) (W.contents writer.new) (P.held peer.old) (P.held peer.new)) }
     ensures memory { IfErr result (λ e. e ≡ SyncError.OutOfMemory → LacksMemory role (R.remaining reader.old) (R.remaining reader.new) (W.contents writer.old) (W.contents writer.new) (P.held peer.old) (P.held peer.new)) }
+    ensures cut { IsErrOf result SyncError.Cut → IsAtEnd (R.remaining reader.new) }
     ensures author { P.author peer.new ≡ P.author peer.old }
 {
     let mut buffer = zeros(alloc, MAX_READ)?;
@@ -71,9 +72,11 @@ fn take_turns<A: Allocator + Copy, P: Peer<A>, R: Read, W: Write>(
 ) -> Result<(), SyncError>
     requires at { session.now ≡ Some (at_start role) }
     requires owed { owed.now.items ≡ (begun role (P.held peer.now)).sent }
+    requires room { 0 < length buffer.old }
     ensures ok { OnOk result (Completes role (R.remaining reader.old) (R.remaining reader.new) (W.contents writer.old) (W.contents writer.new) (P.held peer.old) (P.held peer.new)) }
     ensures err { IfErr result (λ e. e ≢ SyncError.OutOfMemory → Breaks role e (R.remaining reader.old) (R.remaining reader.new) (W.contents writer.old) (W.contents writer.new) (P.held peer.old) (P.held peer.new)) }
     ensures memory { IfErr result (λ e. e ≡ SyncError.OutOfMemory → RunsOut role (R.remaining reader.old) (R.remaining reader.new) (W.contents writer.old) (W.contents writer.new) (P.held peer.old) (P.held peer.new)) }
+    ensures cut { IsErrOf result SyncError.Cut → IsAtEnd (R.remaining reader.new) }
     ensures author { P.author peer.new ≡ P.author peer.old }
 {
     let mut progress = Progress::More;
@@ -82,7 +85,8 @@ fn take_turns<A: Allocator + Copy, P: Peer<A>, R: Read, W: Write>(
         if let Progress::Done = progress {
             return Ok(());
         }
-        let piece = receive(reader, buffer, session.wanted())?;
+        let count = receive(reader, buffer, session.wanted())?;
+        let piece = &buffer[..count];
         progress = session.feed(peer, piece, owed)?;
     }
     send(writer, owed)?;
@@ -119,21 +123,23 @@ fn send<A: Allocator, W: Write>(writer: &mut W, owed: &mut Vec<u8, A>) -> Result
     Ok(())
 }
 
-// Reads some bytes into the front of the buffer, at most so many, and lends them.
-fn receive<'b, R: Read>(
-    reader: &mut R,
-    buffer: &'b mut [u8],
-    most: usize,
-) -> Result<&'b [u8], SyncError>
-    ensures ok { IfOk result (λ piece. Consumes (R.remaining reader.old) (R.remaining reader.new) piece.now) }
-    ensures few { IfOk result (λ piece. length piece.now ≤ most) }
+// Reads some bytes into the front of the buffer, at most so many, and says how many. There are none where the input is at
+// its end.
+fn receive<R: Read>(reader: &mut R, buffer: &mut [u8], most: usize) -> Result<usize, SyncError>
+    requires some { 0 < most }
+    requires room { 0 < length buffer.old }
+    ensures ok { IfOk result (λ count. Consumes (R.remaining reader.old) (R.remaining reader.new) (take count buffer.new)) }
+    ensures few { IfOk result (λ count. count ≤ most) }
+    ensures within { IfOk result (λ count. count ≤ length buffer.new) }
     ensures err { OnErr result (Keeps (R.remaining reader.old) (R.remaining reader.new)) }
+    ensures cut { IsErrOf result SyncError.Cut → IsAtEnd (R.remaining reader.new) }
     ensures outside { IfErr result IsOutside }
+    ensures room { length buffer.new ≡ length buffer.old }
 {
     let most = most.min(buffer.len());
     match reader.read(&mut buffer[..most]) {
         Ok(0) => Err(SyncError::Cut),
-        Ok(n) => Ok(&buffer[..n]),
+        Ok(count) => Ok(count),
         Err(_) => Err(SyncError::Read),
     }
 }

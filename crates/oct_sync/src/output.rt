@@ -7,7 +7,7 @@ ghost use Rattle.oct_sync.specs.Output.{AppendsPrefix};
 use std::io::Write;
 
 /// A write or a flush failed, or a write took no byte.
-#[derive(Clone, Copy, Debug, PartialEq, Eq, Drop)]
+#[derive(Clone, Copy, PartialEq, Eq, Drop)]
 pub struct Unwritten;
 
 /// Writes all the bytes, and flushes. A write that takes no byte is a failure. After one a prefix of the bytes was written.

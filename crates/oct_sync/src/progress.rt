@@ -1,7 +1,7 @@
 //! How far a session is.
 
 /// Whether a session wants more bytes.
-#[derive(Clone, Copy, Debug, PartialEq, Eq)]
+#[derive(Clone, Copy, PartialEq, Eq)]
 pub enum Progress {
     /// More bytes are to come.
     More,

@@ -1,7 +1,7 @@
 //! The two sides of a session.
 
 /// Which side of a session a replica is.
-#[derive(Clone, Copy, Debug, PartialEq, Eq)]
+#[derive(Clone, Copy, PartialEq, Eq)]
 pub enum Role {
     /// It speaks first.
     Client,

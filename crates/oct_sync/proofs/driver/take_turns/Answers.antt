@@ -3,7 +3,7 @@ use Rattle.std.proofs.KnownBytes.{Keeps-refl}
 use Rattle.std.proofs.lemmas.Result.{err_from_is_err_and}
 use Rattle.oct_sync.specs.Standing.{StandsSound, progress_of}
 use Rattle.oct_sync.specs.declared.progress.Progress.TheVariants as Progress
-use Rattle.oct_sync.proofs.Running.{IsRunning-begun, IsRunning-sent, IsRunning-fed, Breaks-sending, Breaks-reading, Breaks-feeding, RunsOut-feeding, completed}
+use Rattle.oct_sync.proofs.Running.{IsRunning-begun, IsRunning-sent, IsRunning-fed, Breaks-sending, Breaks-reading, Breaks-feeding, RunsOut-feeding, completed, uncut}
 use Rattle.oct_sync.proofs.driver.take_turns.Goals as goal
 
 more_done : Progress.More ≡ Progress.Done → ⊥
@@ -15,6 +15,7 @@ loop-init g c = record {
   author = refl;
   sound = subst StandsSound (sym c.requires.at) tt;
   progress = sym (ap progress_of c.requires.at);
+  room = c.requires.room;
 }
 
 pub returns-in_err-send-clause-err : goal.returns-in_err-send-clause-err
@@ -26,24 +27,25 @@ pub returns-in-Done-clause-ok : goal.returns-in-Done-clause-ok
 returns-in-Done-clause-ok g c =
     completed _ _ _ _ _ _ _ _ _ (IsRunning-sent _ _ _ _ _ _ _ _ _ c.loop.invariant.running _ c.in_ok-send.ensures.ok) refl (sym c.loop.invariant.progress ∙ c.in-Done.is)
 
-pub returns-in_err-piece-clause-err : goal.returns-in_err-piece-clause-err
-returns-in_err-piece-clause-err g c =
-    let p = err_from_is_err_and c.from_residual-in_err-piece.result c.from_residual-in_err-piece.ensures.1 in
-    rw (p.1, p.2) (λ _. Breaks-reading _ _ _ _ _ _ _ _ _ (IsRunning-sent _ _ _ _ _ _ _ _ _ c.loop.invariant.running _ c.in_ok-send.ensures.ok) c.loop.invariant.sound (λ done. c.in_default.not-Done (c.loop.invariant.progress ∙ done)) _ c.in_err-piece.ensures.outside _ c.in_err-piece.ensures.err)
+pub returns-in_err-count-clause-err : goal.returns-in_err-count-clause-err
+returns-in_err-count-clause-err g c =
+    let p = err_from_is_err_and c.from_residual-in_err-count.result c.from_residual-in_err-count.ensures.1 in
+    rw (p.1, p.2) (λ _. Breaks-reading _ _ _ _ _ _ _ _ _ (IsRunning-sent _ _ _ _ _ _ _ _ _ c.loop.invariant.running _ c.in_ok-send.ensures.ok) c.loop.invariant.sound (λ done. c.in_default.not-Done (c.loop.invariant.progress ∙ done)) _ c.in_err-count.ensures.outside _ c.in_err-count.ensures.err)
 
 pub returns-in_err-progress-clause-err : goal.returns-in_err-progress-clause-err
 returns-in_err-progress-clause-err g c =
     let p = err_from_is_err_and c.from_residual-in_err-progress.result c.from_residual-in_err-progress.ensures.1 in
-    rw (p.1, p.2) (λ memory. Breaks-feeding _ _ _ _ _ _ _ _ _ _ _ (IsRunning-sent _ _ _ _ _ _ _ _ _ c.loop.invariant.running _ c.in_ok-send.ensures.ok) c.in_ok-send.ensures.empty c.in_ok-piece.ensures.ok
+    rw (p.1, p.2) (λ memory. Breaks-feeding _ _ _ _ _ _ _ _ _ _ _ (IsRunning-sent _ _ _ _ _ _ _ _ _ c.loop.invariant.running _ c.in_ok-send.ensures.ok) c.in_ok-send.ensures.empty c.in_ok-count.ensures.ok
     c.in_err-progress.field-0.0 _ _ memory c.in_err-progress.ensures.err)
 
 pub loop-preserved : goal.loop-preserved
 loop-preserved g c = record {
-  running = IsRunning-fed _ _ _ _ _ _ _ _ _ _ _ (IsRunning-sent _ _ _ _ _ _ _ _ _ c.loop.invariant.running _ c.in_ok-send.ensures.ok) c.in_ok-send.ensures.empty c.in_ok-piece.ensures.ok
+  running = IsRunning-fed _ _ _ _ _ _ _ _ _ _ _ (IsRunning-sent _ _ _ _ _ _ _ _ _ c.loop.invariant.running _ c.in_ok-send.ensures.ok) c.in_ok-send.ensures.empty c.in_ok-count.ensures.ok
       _ _ _ c.in_ok-progress.ensures.ok;
   author = c.in_ok-progress.ensures.author ∙ c.loop.invariant.author;
   sound = c.in_ok-progress.ensures.sound;
   progress = c.in_ok-progress.ensures.progress;
+  room = rw c.receive.ensures.room c.loop.invariant.room;
 }
 
 pub returns-in_err-send-2-clause-err : goal.returns-in_err-send-2-clause-err
@@ -62,5 +64,11 @@ returns-in-More-clause-err g c _ =
 pub returns-in_err-progress-clause-memory : goal.returns-in_err-progress-clause-memory
 returns-in_err-progress-clause-memory g c =
     let p = err_from_is_err_and c.from_residual-in_err-progress.result c.from_residual-in_err-progress.ensures.1 in
-    rw (p.1, p.2) (λ memory. RunsOut-feeding _ _ _ _ _ _ _ _ _ _ _ (IsRunning-sent _ _ _ _ _ _ _ _ _ c.loop.invariant.running _ c.in_ok-send.ensures.ok) c.in_ok-send.ensures.empty c.in_ok-piece.ensures.ok
+    rw (p.1, p.2) (λ memory. RunsOut-feeding _ _ _ _ _ _ _ _ _ _ _ (IsRunning-sent _ _ _ _ _ _ _ _ _ c.loop.invariant.running _ c.in_ok-send.ensures.ok) c.in_ok-send.ensures.empty c.in_ok-count.ensures.ok
     c.in_err-progress.field-0.0 _ _ memory c.in_err-progress.ensures.err)
+
+pub returns-in_err-progress-clause-cut : goal.returns-in_err-progress-clause-cut
+returns-in_err-progress-clause-cut g c =
+    let p = err_from_is_err_and c.from_residual-in_err-progress.result c.from_residual-in_err-progress.ensures.1 in
+    rw (p.1, p.2) (λ cut. absurd (uncut _ _ _ _ _ _ _ _ _ _ _ (IsRunning-sent _ _ _ _ _ _ _ _ _ c.loop.invariant.running _ c.in_ok-send.ensures.ok) c.in_ok-send.ensures.empty c.in_ok-count.ensures.ok
+    c.in_err-progress.field-0.0 _ _ cut c.in_err-progress.ensures.err))

@@ -1,4 +1,4 @@
-use Rattle.std.proofs.Common.{◌≡◌}
+use Rattle.std.proofs.Common.{◌≡◌, ◌<◌, length}
 use Rattle.oct_sync.specs.Standing.{StandsSound, progress_of}
 use Rattle.oct_sync.proofs.Running.{IsRunning}
 use Rattle.oct_sync.proofs.driver.take_turns.Given as goal
@@ -10,4 +10,5 @@ invariant-loop g l = record {
   author : g.P.Peer.author l.peer ≡ g.P.Peer.author l.fn.peer;
   sound : StandsSound l.session;
   progress : l.progress ≡ progress_of l.session;
+  room : 0 < length l.buffer;
 }
