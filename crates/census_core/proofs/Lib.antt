@@ -1,7 +1,11 @@
 mod Asked
 mod CodeTexts
-mod LineLemmas
+mod Folding
+mod Gathering
+mod Growing
 mod Importing
+mod Issuance
+mod LineLemmas
 mod Members
 mod Merging
 mod Numbers
@@ -9,6 +13,7 @@ mod Outcomes
 mod Stepping
 mod StoredStates
 mod Taking
+mod Turns
 mod Underway
 mod Uniting
 mod Wholes

@@ -28,7 +28,8 @@ use Rattle.census_core.specs.Stored.{loaded, read_authored, read_held}
 use Rattle.census_core.specs.declared.fault.Fault.{Fault}
 use Rattle.census_core.specs.declared.fault.Fault.TheVariants as fault
 
-valid_each : (bytes : Bytes) (ops : List Operation) → IsDeltaText bytes ops → All IsOp ops
+-- each operation of a text is valid
+pub valid_each : (bytes : Bytes) (ops : List Operation) → IsDeltaText bytes ops → All IsOp ops
 valid_each bytes ops (inl d) i o lt = (d.list.each i o lt).valid
 valid_each bytes ops (inr d) i o lt = (d.list.each i o lt).valid
 

@@ -13,7 +13,7 @@ use Rattle.oct_period.specs.Winning.{wins}
 use Rattle.oct_period.specs.declared.unknown.Unknown.{Unknown}
 use Rattle.oct_replica.specs.Beside.{content_in}
 use Rattle.oct_verify.specs.Filing.{blocks_in}
-use Rattle.census_core.specs.Issuing.{code_of}
+use Rattle.census_core.specs.Codes.{code_of}
 use Rattle.census_core.specs.Lines.{number_line, winner_line}
 use Rattle.census_core.specs.Replies.{Answer, said}
 use Rattle.census_core.specs.Steps.{◌>>=◌}

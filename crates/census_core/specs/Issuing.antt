@@ -1,5 +1,5 @@
 -- What the commands give that issue an operation: the state that has it, and its dot.
-use Rattle.std.specs.Prelude.{ℕ, None, Result, Err, if◌then◌else◌}
+use Rattle.std.specs.Prelude.{ℕ, None, Result, Ok, Err, if◌then◌else◌}
 use Rattle.std.specs.Str.{is_utf8}
 use Rattle.oct_code.specs.Code.{Code}
 use Rattle.oct_delta.specs.Text.{Bytes}
@@ -18,7 +18,7 @@ use Rattle.oct_verify.specs.Filing.{blocks_in}
 use Rattle.oct_verify.specs.Known.{known}
 use Rattle.serde_json.specs.Data.{Data}
 use Rattle.serde_json.specs.Read.{read}
-use Rattle.census_core.specs.Codes.{read_code}
+use Rattle.census_core.specs.Codes.{code_of}
 use Rattle.census_core.specs.Imported.{imported}
 use Rattle.census_core.specs.Lines.{issued_line}
 use Rattle.census_core.specs.Replies.{Answer}
@@ -34,9 +34,9 @@ with_op r o = saved (record r { ops = insert r.ops o }) (issued_line o.dot)
 abbrev pub issued : ReplicaContent → Body → Result Answer Fault
 issued r body = if has_number r.ops r.author then with_op r (next_op r.ops r.author body) else Err (fault.Issue LastNumber)
 
--- the code of a command's word
-abbrev pub code_of : Bytes → Result Code Fault
-code_of word = because fault.Code (read_code word)
+-- the replica after its author issued an operation of this body
+abbrev pub with_body : ReplicaContent → Body → Result ReplicaContent Fault
+with_body r body = if has_number r.ops r.author then Ok (record r { ops = insert r.ops (next_op r.ops r.author body) }) else Err (fault.Issue LastNumber)
 
 -- the JSON value of a file
 abbrev pub json_of : Bytes → Result Data Fault

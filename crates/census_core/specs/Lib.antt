@@ -1,10 +1,13 @@
 pub mod Asking
 pub mod Codes
+pub mod Extending
+pub mod Finding
 pub mod Folded
 pub mod Imported
 pub mod Inputs
 pub mod Issuing
 pub mod Lines
+pub mod Moving
 pub mod Performed
 pub mod Refusals
 pub mod Replies
@@ -12,4 +15,6 @@ pub mod States
 pub mod Statuses
 pub mod Steps
 pub mod Stored
+pub mod Turns
+pub mod Unions
 pub mod Words

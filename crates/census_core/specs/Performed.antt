@@ -1,25 +1,32 @@
 -- What each command gives, by the bytes of its files.
-use Rattle.std.specs.Prelude.{Result}
+use Rattle.std.specs.Prelude.{Result, map}
 use Rattle.oct_delta.specs.Text.{Bytes}
 use Rattle.census_core.specs.Asking as asking
+use Rattle.census_core.specs.Extending as extending
+use Rattle.census_core.specs.Finding as finding
 use Rattle.census_core.specs.Issuing as issuing
+use Rattle.census_core.specs.Moving as moving
 use Rattle.census_core.specs.States as states
 use Rattle.census_core.specs.Replies.{Answer}
 use Rattle.census_core.specs.declared.fault.Fault.{Fault}
 use Rattle.census_core.specs.declared.request.Request.{Request}
-use Rattle.census_core.specs.declared.request.Request.TheVariants.{Init, Import, Compute, Period, Note, Unnote, Merge, Delta, Value, Page, Show}
+use Rattle.census_core.specs.declared.request.Request.TheVariants.{Init, Import, Compute, Extend, Find, Survey, Period, Note, Unnote, Merge, Delta, Value, Move, Page, Show}
 
--- the new state, the file and the text, or the first fault: that of the state, then those of the command in its order, then
+-- the new state, the file and the text, or the first fault: a number out of its range, then that of the state, then those of the command in its order, then
 -- that no number is left, then that there are too many operations
 abbrev pub performed : Request → Bytes → Bytes → Result Answer Fault
 performed (Init id) state file = states.init id
 performed Import state file = issuing.import state file
 performed (Compute code count) state file = issuing.compute state code.items count
+performed (Extend count codes) state file = extending.extend state count (map (λ word. word.items) codes.items)
+performed (Find codes) state file = finding.find state (map (λ word. word.items) codes.items)
+performed (Survey count codes) state file = finding.survey state count (map (λ word. word.items) codes.items)
 performed (Period code start period) state file = issuing.period state code.items start period
 performed (Note name text) state file = issuing.note state name.items text.items
 performed (Unnote name) state file = issuing.unnote state name.items
 performed Merge state file = states.merge state file
 performed Delta state file = asking.delta state
 performed (Value code heaps) state file = asking.value state code.items heaps.items
+performed (Move code heaps) state file = moving.winning state code.items heaps.items
 performed (Page number) state file = asking.page state number
 performed Show state file = asking.show state

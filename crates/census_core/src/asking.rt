@@ -19,8 +19,8 @@ use oct_period::Outcome;
 use oct_replica::Replica;
 use std::alloc::{AllocError, Global};
 
-// The reply of a text alone.
-fn said(text: Vec<u8>) -> Reply
+/// The reply of a text alone.
+pub(crate) fn said(text: Vec<u8>) -> Reply
     ensures { answer_of result ≡ said text.items }
 {
     Reply {
@@ -112,8 +112,8 @@ pub(crate) fn delta(alloc: Global, state: &[u8]) -> Result<Reply, Fault>
     delta_reply(alloc, &replica)
 }
 
-// The reply of all operations of the replica as one delta.
-fn delta_reply(alloc: Global, replica: &Replica<Global>) -> Result<Reply, Fault>
+/// The reply of all operations of the replica as one delta.
+pub(crate) fn delta_reply(alloc: Global, replica: &Replica<Global>) -> Result<Reply, Fault>
     requires valid { All IsOp (listed replica.now.ops) }
     ensures ok { IfOk result (λ reply. delta_of (listed replica.now.ops) ≡ Ok (answer_of reply)) }
     ensures err { IfErr result (λ e. e ≢ Fault.OutOfMemory → delta_of (listed replica.now.ops) ≡ Err e) }

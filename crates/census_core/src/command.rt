@@ -5,8 +5,12 @@ ghost use Rattle.census_core.specs.Performed.{performed};
 ghost use Rattle.census_core.specs.Replies.{answer_of};
 
 use crate::asking::{delta, page, show, value};
+use crate::extending::extend;
 use crate::fault::Fault;
+use crate::finding::{find, survey};
 use crate::issuing::{compute, import, note, period, unnote};
+use crate::moving::winning;
+use crate::progress::{Progress, Silent};
 use crate::reply::Reply;
 use crate::request::Request;
 use crate::states::{init, merge};
@@ -15,9 +19,23 @@ use std::alloc::Global;
 /// Does one command, from the bytes of the state file and of another file: what is to be written, and the text. `Init`
 /// does not look at `state`; only `Import` and `Merge` look at `file`. After a fault nothing is to be written.
 ///
-/// The first fault is answered: `Load`, then the command's own in the order in which it reads its words, then `Issue`, then
+/// The first fault is answered: `Number`, then `Load`, then the command's own in the order in which it reads its words, then `Issue`, then
 /// `TooMany`. `OutOfMemory` may come before any of them.
 pub fn perform(alloc: Global, request: &Request, state: &[u8], file: &[u8]) -> Result<Reply, Fault>
+    ensures ok { IfOk result (λ reply. performed request.now state.now file.now ≡ Ok (answer_of reply)) }
+    ensures err { IfErr result (λ e. e ≢ Fault.OutOfMemory → performed request.now state.now file.now ≡ Err e) }
+{
+    perform_watched(alloc, request, state, file, &mut Silent)
+}
+
+/// Does one command as `perform`, and tells how far it is.
+pub fn perform_watched<P: Progress>(
+    alloc: Global,
+    request: &Request,
+    state: &[u8],
+    file: &[u8],
+    progress: &mut P,
+) -> Result<Reply, Fault>
     ensures ok { IfOk result (λ reply. performed request.now state.now file.now ≡ Ok (answer_of reply)) }
     ensures err { IfErr result (λ e. e ≢ Fault.OutOfMemory → performed request.now state.now file.now ≡ Err e) }
 {
@@ -25,6 +43,9 @@ pub fn perform(alloc: Global, request: &Request, state: &[u8], file: &[u8]) -> R
         Request::Init { id } => init(alloc, *id),
         Request::Import => import(alloc, state, file),
         Request::Compute { code, count } => compute(alloc, state, code, *count),
+        Request::Extend { count, codes } => extend(alloc, state, *count, codes, progress),
+        Request::Find { codes } => find(alloc, state, codes),
+        Request::Survey { count, codes } => survey(alloc, state, *count, codes, progress),
         Request::Period {
             code,
             start,
@@ -35,6 +56,7 @@ pub fn perform(alloc: Global, request: &Request, state: &[u8], file: &[u8]) -> R
         Request::Merge => merge(alloc, state, file),
         Request::Delta => delta(alloc, state),
         Request::Value { code, heaps } => value(alloc, state, code, heaps),
+        Request::Move { code, heaps } => winning(alloc, state, code, heaps),
         Request::Page { number } => page(alloc, state, *number),
         Request::Show => show(alloc, state),
     }

@@ -64,6 +64,9 @@ pub enum Fault {
     /// The file is no delta.
     #[error("Merge {0:?}")]
     Merge(TakeError),
+    /// A file of a union is no delta. Its place is counted from 1.
+    #[error("Union {place} {cause:?}")]
+    Union { place: u64, cause: TakeError },
     /// The catalogue has no such page.
     #[error("NoPage")]
     NoPage,

@@ -1,10 +1,12 @@
-//! What holds of every file of a state, and the limit as a number.
+//! What holds of every file of a state and of every input, and the limit as a number.
 
 ghost use Rattle.std.specs.Prelude.{◌≡◌, ◌↔◌, Ok};
 ghost use Rattle.oct_delta.specs.Bytes.{IsBytes};
 ghost use Rattle.oct_delta.specs.State.{IsState};
 ghost use Rattle.oct_delta.specs.Text.{Bytes};
 ghost use Rattle.oct_replica.specs.Content.{ReplicaContent};
+ghost use Rattle.census_core.specs.Extending.{ExtendedIsKnown};
+ghost use Rattle.census_core.specs.Folded.{FoldedIsPrinted, FoldedIsSpelled, FoldedIsUnion, RefusedIsNoDelta};
 ghost use Rattle.census_core.specs.Stored.{loaded};
 ghost use Rattle.census_core.specs.declared.input.TheConstants.{INPUT_LIMIT};
 
@@ -16,6 +18,22 @@ pub fn states_are_read()
 {
     texts_are_read();
 }
+
+/// What `fold_lines` writes is what a replica prints to which the byte strings of the lines were handed, the catalogue of the
+/// union of their operations; so it is the catalogue of whichever set has exactly the operations that they spell. A filled line
+/// is counted exactly where it is not the hexadecimal text of a delta.
+pub fn lines_fold_to_their_union()
+    ensures printed { FoldedIsPrinted }
+    ensures union { FoldedIsUnion }
+    ensures spelled { FoldedIsSpelled }
+    ensures refused { RefusedIsNoDelta }
+{}
+
+/// After the turn of a game in `extend`, as many of its nim-values are known as were asked for: the blocks that may be issued
+/// are always enough.
+pub fn extended_is_known()
+    ensures { ExtendedIsKnown }
+{}
 
 /// The limit as a number: the most bytes of an input or a file.
 pub fn the_limit_is_this()

@@ -1,7 +1,9 @@
 //! What the program does between its input and its output.
 //!
 //! - `fold_lines` reads lines of deltas, and writes the catalogue of what they say.
-//! - `perform` does a `Request`, from the bytes of the state file and of another file to the `Reply` that is to be written.
+//! - `perform` does a `Request`, from the bytes of the state file and of another file to the `Reply` that is to be written;
+//!   `perform_watched` tells a `Progress` how far it is.
+//! - `unite` makes one delta of several files.
 //! - `rejoin` gives what a state file is to hold after a session.
 //! - `import_block` reads the block of a JSON value, and `number` a word of the command line.
 //! - `read_whole` reads all of a stream.
@@ -11,7 +13,9 @@
 mod asking;
 mod codes;
 mod command;
+mod extending;
 mod fault;
+mod finding;
 mod fold;
 mod import;
 mod import_error;
@@ -19,20 +23,25 @@ mod input;
 mod issuing;
 pub mod laws;
 mod lines;
+mod moving;
+mod progress;
 mod reply;
 mod request;
 mod states;
 mod taken;
 mod texts;
+mod unions;
 mod words;
 
-pub use command::perform;
+pub use command::{perform, perform_watched};
 pub use fault::Fault;
 pub use fold::fold_lines;
 pub use import::import_block;
 pub use import_error::ImportError;
 pub use input::{INPUT_LIMIT, read_whole};
+pub use progress::Progress;
 pub use reply::Reply;
 pub use request::Request;
 pub use states::rejoin;
+pub use unions::unite;
 pub use words::number;

@@ -1,7 +1,7 @@
 //! What a command gives.
 
 /// What is to be written, where a command is done.
-#[derive(Debug, Drop)]
+#[derive(Drop)]
 pub struct Reply {
     /// The new text of the state file, where the command writes it.
     pub state: Option<Vec<u8>>,

@@ -2,7 +2,7 @@
 
 /// One command of the program over the bytes of its files: all but `fold`, `serve` and `sync`. Texts are as they stand on
 /// the command line.
-#[derive(Debug, Drop)]
+#[derive(Drop)]
 pub enum Request {
     /// A new state of this author.
     Init {
@@ -14,6 +14,20 @@ pub enum Request {
     Compute {
         code: Vec<u8>,
         count: u32,
+    },
+    /// Issues blocks of the next nim-values of each code until so many are known.
+    Extend {
+        count: u32,
+        codes: Vec<Vec<u8>>,
+    },
+    /// Looks for a period among the known nim-values of each code.
+    Find {
+        codes: Vec<Vec<u8>>,
+    },
+    /// Extends each code, looks for a period, and claims it.
+    Survey {
+        count: u32,
+        codes: Vec<Vec<u8>>,
     },
     /// Issues the claim that a code's nim-values repeat from a heap on.
     Period {
@@ -36,6 +50,11 @@ pub enum Request {
     Delta,
     /// The nim-value of a position, and who wins it.
     Value {
+        code: Vec<u8>,
+        heaps: Vec<u64>,
+    },
+    /// A winning move of a position.
+    Move {
         code: Vec<u8>,
         heaps: Vec<u64>,
     },

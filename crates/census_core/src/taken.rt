@@ -74,8 +74,8 @@ fn next_line<A: Allocator, B: BufRead>(input: &mut B, line: &mut Vec<u8, A>) -> 
     }
 }
 
-// A replica without operations. Its author issues nothing, and no catalogue shows it.
-fn reader_of_lines<A: Allocator + Copy>(alloc: A) -> Replica<A>
+/// A replica without operations. Its author issues nothing, and no catalogue shows it.
+pub(crate) fn reader_of_lines<A: Allocator + Copy>(alloc: A) -> Replica<A>
     ensures { result.ops ≡ empty }
 {
     match Replica::new(alloc, 1) {

@@ -2,9 +2,16 @@
 
 ghost use Rattle.std.specs.Prelude.{◌≡◌, ◌++◌, IfOk, OnOk};
 ghost use Rattle.std.specs.Fmt.{decimal};
+ghost use Rattle.oct_pages.specs.Catalogue.{labelled};
+ghost use Rattle.census_core.specs.Extending.{extended_line};
+ghost use Rattle.census_core.specs.Finding.{found_line, period_text};
+ghost use Rattle.oct_period.specs.Periods.{needs};
 ghost use Rattle.census_core.specs.Lines.{issued_line, number_line, union_line};
+ghost use Rattle.census_core.specs.Moving.{left_text, move_line};
 
-use oct_ops::Dot;
+use oct_code::Code;
+use oct_ops::{Dot, Period};
+use oct_period::Move;
 use std::alloc::{AllocError, Global};
 
 /// The line of a text and a number.
@@ -39,6 +46,90 @@ pub(crate) fn issued_line(alloc: Global, dot: Dot) -> Result<Vec<u8>, AllocError
     append_number(&mut line, u64::from(dot.number()))?;
     line.extend_from_slice(b"\n")?;
     Ok(line)
+}
+
+/// Appends the line of a game: how many of its values are known, and how many blocks were issued.
+pub(crate) fn append_extended(
+    text: &mut Vec<u8>,
+    code: Code,
+    known: u32,
+    issued: u32,
+) -> Result<(), AllocError>
+    ensures { OnOk result (text.new.items ≡ text.old.items ++ extended_line code known issued) }
+{
+    code.append_text(text)?;
+    append_labelled(text, b" known ", u64::from(known))?;
+    append_labelled(text, b" issued ", u64::from(issued))?;
+    text.extend_from_slice(b"\n")
+}
+
+/// Appends the line of a game: which period is found, what proves it, and how many of its values are known.
+pub(crate) fn append_found(
+    text: &mut Vec<u8>,
+    code: Code,
+    found: &Option<Period>,
+    known: u32,
+) -> Result<(), AllocError>
+    ensures { OnOk result (text.new.items ≡ text.old.items ++ found_line code found.now known) }
+{
+    code.append_text(text)?;
+    match found {
+        Some(found) => append_period(text, found)?,
+        None => text.extend_from_slice(b" no period")?,
+    }
+    append_labelled(text, b" known ", u64::from(known))?;
+    text.extend_from_slice(b"\n")
+}
+
+// Appends a period, its start, and how many values prove it.
+fn append_period(text: &mut Vec<u8>, found: &Period) -> Result<(), AllocError>
+    ensures { OnOk result (text.new.items ≡ text.old.items ++ period_text (Some found.now)) }
+{
+    append_labelled(text, b" period ", u64::from(found.period()))?;
+    append_labelled(text, b" from ", u64::from(found.start()))?;
+    append_labelled(text, b" needs ", needs(found))
+}
+
+// How many nim-values prove the claim.
+fn needs(claim: &Period) -> u64
+    ensures { result ≡ needs claim.now }
+{
+    2 * u64::from(claim.start()) + 2 * u64::from(claim.period()) + claim.code().len() as u64
+}
+
+/// The line of a move in a heap of so many beans.
+pub(crate) fn move_line(alloc: Global, found: &Move, beans: u64) -> Result<Vec<u8>, AllocError>
+    ensures { IfOk result (λ line. line.items ≡ move_line found.now beans) }
+{
+    let mut line = Vec::new(alloc);
+    append_labelled(&mut line, b"heap ", found.index as u64)?;
+    append_labelled(&mut line, b" of ", beans)?;
+    append_labelled(&mut line, b": remove ", found.removed)?;
+    append_left(&mut line, found.left.0, found.left.1)?;
+    line.extend_from_slice(b"\n")?;
+    Ok(line)
+}
+
+// Appends which heaps are left, of which one or both may be empty.
+fn append_left(line: &mut Vec<u8>, less: u64, more: u64) -> Result<(), AllocError>
+    ensures { OnOk result (line.new.items ≡ line.old.items ++ left_text less more) }
+{
+    if more == 0 {
+        return line.extend_from_slice(b", leave nothing");
+    }
+    if less == 0 {
+        return append_labelled(line, b", leave ", more);
+    }
+    append_labelled(line, b", leave ", less)?;
+    append_labelled(line, b" and ", more)
+}
+
+// Appends a text and a number.
+fn append_labelled(text: &mut Vec<u8>, label: &[u8], number: u64) -> Result<(), AllocError>
+    ensures { OnOk result (text.new.items ≡ text.old.items ++ labelled label.now number) }
+{
+    text.extend_from_slice(label)?;
+    append_number(text, number)
 }
 
 // Appends a number in decimal digits.

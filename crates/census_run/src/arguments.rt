@@ -1,17 +1,17 @@
 //! The program over the words that it was called with.
 
-use crate::program::{refuse, run};
+use crate::program::{refuse, run_watched};
 use census_core::Fault;
 use std::alloc::Global;
 use std::env::{self, Env};
 use std::fs::File;
-use std::io::{ErrorKind, Read, Write};
+use std::io::{ErrorKind, IsTerminal, Read, Write};
 use std::net::{Net, TcpListener, TcpStream};
 use std::rt::Files;
 use std::time::Clock;
 
-/// Does the command line that the program was called with, as `run` does its words. The fault is `Words` where one is not
-/// UTF-8.
+/// Does the command line that the program was called with, as `run` does its words, and says on a terminal how far it is.
+/// The fault is `Words` where one is not UTF-8.
 pub fn run_called<R, I, O, E>(rt: &R, input: &mut I, output: &mut O, errors: &mut E) -> u8
 where
     R: Env
@@ -21,10 +21,11 @@ where
         + Clock,
     I: Read,
     O: Write,
-    E: Write,
+    E: Write + IsTerminal,
 {
+    let is_watched = errors.is_terminal();
     match words_of(rt) {
-        Ok(words) => run(rt, &words, input, output, errors),
+        Ok(words) => run_watched(rt, &words, input, output, errors, is_watched),
         Err(fault) => refuse(errors, fault),
     }
 }

@@ -1,7 +1,7 @@
 //! The command line of the program.
 
 use crate::help::{self, Help};
-use crate::words::{self, Choice, Word};
+use crate::words::{self, Choice, Times, Word};
 use clap::{Arg, ArgAction, Command};
 use std::alloc::{AllocError, Global};
 
@@ -12,12 +12,17 @@ pub(crate) enum CommandName {
     Init,
     Import,
     Compute,
+    Extend,
+    Find,
+    Survey,
     Period,
     Note,
     Unnote,
     Merge,
+    Union,
     Delta,
     Value,
+    Move,
     Page,
     Show,
     Serve,
@@ -34,7 +39,8 @@ struct Form {
     help: Help,
 }
 
-const FORMS: &[Form] = &[
+// The commands without a state, and those that change one's own.
+const OWN: &[Form] = &[
     Form {
         command: CommandName::Fold,
         name: "fold",
@@ -64,6 +70,20 @@ const FORMS: &[Form] = &[
         help: help::COMPUTE,
     },
     Form {
+        command: CommandName::Extend,
+        name: "extend",
+        words: &[words::STATE, words::HEAPS, words::CODES],
+        choices: &[],
+        help: help::EXTEND,
+    },
+    Form {
+        command: CommandName::Survey,
+        name: "survey",
+        words: &[words::STATE, words::HEAPS, words::CODES],
+        choices: &[],
+        help: help::SURVEY,
+    },
+    Form {
         command: CommandName::Period,
         name: "period",
         words: &[words::STATE, words::CODE, words::E, words::P],
@@ -84,26 +104,16 @@ const FORMS: &[Form] = &[
         choices: &[],
         help: help::UNNOTE,
     },
+];
+
+// Those that say what is known.
+const KNOWN: &[Form] = &[
     Form {
-        command: CommandName::Merge,
-        name: "merge",
-        words: &[words::STATE, words::DELTA],
+        command: CommandName::Show,
+        name: "show",
+        words: &[words::STATE],
         choices: &[],
-        help: help::MERGE,
-    },
-    Form {
-        command: CommandName::Delta,
-        name: "delta",
-        words: &[words::STATE, words::OUT],
-        choices: &[],
-        help: help::DELTA,
-    },
-    Form {
-        command: CommandName::Value,
-        name: "value",
-        words: &[words::STATE, words::CODE, words::HEAP],
-        choices: &[],
-        help: help::VALUE,
+        help: help::SHOW,
     },
     Form {
         command: CommandName::Page,
@@ -113,11 +123,50 @@ const FORMS: &[Form] = &[
         help: help::PAGE,
     },
     Form {
-        command: CommandName::Show,
-        name: "show",
-        words: &[words::STATE],
+        command: CommandName::Find,
+        name: "find",
+        words: &[words::STATE, words::CODES],
         choices: &[],
-        help: help::SHOW,
+        help: help::FIND,
+    },
+    Form {
+        command: CommandName::Value,
+        name: "value",
+        words: &[words::STATE, words::CODE, words::HEAP],
+        choices: &[],
+        help: help::VALUE,
+    },
+    Form {
+        command: CommandName::Move,
+        name: "move",
+        words: &[words::STATE, words::CODE, words::HEAP],
+        choices: &[],
+        help: help::MOVE,
+    },
+];
+
+// Those that exchange operations with others.
+const OTHERS: &[Form] = &[
+    Form {
+        command: CommandName::Delta,
+        name: "delta",
+        words: &[words::STATE, words::OUT],
+        choices: &[],
+        help: help::DELTA,
+    },
+    Form {
+        command: CommandName::Merge,
+        name: "merge",
+        words: &[words::STATE, words::DELTA],
+        choices: &[],
+        help: help::MERGE,
+    },
+    Form {
+        command: CommandName::Union,
+        name: "union",
+        words: &[words::UNION, words::DELTAS],
+        choices: &[],
+        help: help::UNION,
     },
     Form {
         command: CommandName::Serve,
@@ -144,7 +193,19 @@ const FORMS: &[Form] = &[
 
 /// The command that is called so.
 pub(crate) fn command_named(name: &str) -> Option<CommandName> {
-    for form in FORMS {
+    match (
+        named_in(OWN, name),
+        named_in(KNOWN, name),
+        named_in(OTHERS, name),
+    ) {
+        (Some(command), _, _) | (_, Some(command), _) | (_, _, Some(command)) => Some(command),
+        _ => None,
+    }
+}
+
+// The same among some commands.
+fn named_in(forms: &[Form], name: &str) -> Option<CommandName> {
+    for form in forms {
         if form.name == name {
             return Some(form.command);
         }
@@ -154,8 +215,19 @@ pub(crate) fn command_named(name: &str) -> Option<CommandName> {
 
 /// The command line of the program.
 pub(crate) fn command<'a>(alloc: Global) -> Result<Command<'a>, AllocError> {
-    let mut command = bare(alloc)?;
-    for form in FORMS {
+    let command = bare(alloc)?;
+    let command = with_commands(alloc, command, OWN)?;
+    let command = with_commands(alloc, command, KNOWN)?;
+    with_commands(alloc, command, OTHERS)
+}
+
+// The program with these commands too.
+fn with_commands<'a>(
+    alloc: Global,
+    mut command: Command<'a>,
+    forms: &[Form],
+) -> Result<Command<'a>, AllocError> {
+    for form in forms {
         command = command.subcommand(command_of(alloc, form)?)?;
     }
     Ok(command)
@@ -190,10 +262,13 @@ fn command_of<'a>(alloc: Global, form: &Form) -> Result<Command<'a>, AllocError>
 // The argument that this word is.
 fn argument_of<'a>(alloc: Global, word: Word) -> Arg<'a> {
     let argument = Arg::new(alloc, word.name).help(word.meaning);
-    if word.is_repeated {
-        argument.action(ArgAction::Append).num_args(0..)
-    } else {
-        argument.required(true)
+    match word.times {
+        Times::One => argument.required(true),
+        Times::OneOrMore => argument
+            .action(ArgAction::Append)
+            .num_args(1..)
+            .required(true),
+        Times::Any => argument.action(ArgAction::Append).num_args(0..),
     }
 }
 

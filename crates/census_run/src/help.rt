@@ -1,5 +1,20 @@
 //! What the program says of itself.
 
+// What is said of all sessions, between two texts.
+macro_rules! of_sessions {
+    ($front:literal, $back:literal) => {
+        concat!(
+            $front,
+            "\
+What other commands add to the state meanwhile stays. The state is saved also where a session ends
+early. The connection is neither encrypted nor authenticated: an address other than the loopback is
+for a trusted network or a tunnel.
+",
+            $back
+        )
+    };
+}
+
 /// The help of a command: its first line, and what stands after its words.
 #[derive(Clone, Copy)]
 pub(crate) struct Help {
@@ -19,16 +34,21 @@ A state file of one's own:
   init STATE ID              Makes one, for the author ID
   import STATE FILE          Issues a block of values from a JSON file
   compute STATE CODE COUNT   Computes the next values of a game, and issues them
+  extend STATE COUNT CODE..  Does so until the first COUNT values of each game are known
+  survey STATE COUNT CODE..  Does that, finds the period of each game, and claims it
   period STATE CODE E P      Issues the claim that a game's values repeat
   note STATE NAME TEXT       Issues a note
-  unnote STATE NAME          Takes back the notes of a name that are seen here
+  unnote STATE NAME          Takes back the notes of a name that this state shows
 What is known:
   show STATE                 The catalogue
   page STATE NUMBER          64 lines of it
+  find STATE CODE..          The period that the known values of each game prove
   value STATE CODE HEAP..    The nim-value of a position, and who wins
+  move STATE CODE HEAP..     A winning move of a position
 With others:
   delta STATE OUT            Writes all operations as a file
   merge STATE DELTA          Takes such a file in
+  union OUT DELTA..          Writes the union of such files as one; needs no state
   serve STATE ADDR           Waits for one `sync`, and exchanges all that is new
   sync STATE ADDR            Exchanges all that is new with a `serve` or a `hub`
   hub STATE ADDR             Serves one `sync` after another, for a whole group
@@ -95,11 +115,55 @@ Example:
   census compute anna.state 0.77 168",
 };
 
+pub(crate) const EXTEND: Help = Help {
+    about: "Computes and issues values of each game until the first COUNT of them are known",
+    after: "\
+For each game in turn blocks of at most 1024 values are issued, as compute does it. A line for each
+game says how many values are known then, and how many blocks were issued: none where COUNT values
+were known. On a terminal a line on standard error says how far it is. After a fault the state is as
+it was.
+
+Exit status: 0 done, 1 refused: Load (the state), Code, Issue, TooMany; 2 command line, 3 file,
+4 memory
+
+Example:
+  census extend anna.state 65536 0.77 0.6",
+};
+
+pub(crate) const FIND: Help = Help {
+    about: "Says which period the known values of each game prove",
+    after: "\
+A line for each game names the least period P that its known values prove, the least heap E from
+which on it holds, and how many values prove it, 2E + 2P + k, k the number of digits of the code; or
+it says `no period`. A period that is said holds for all heaps. The state stays as it is.
+
+Exit status: 0 done (also where there is no period), 1 refused: Load (the state), Code;
+2 command line, 3 file, 4 memory
+
+Example:
+  census find anna.state 0.77",
+};
+
+pub(crate) const SURVEY: Help = Help {
+    about: "Makes the first COUNT values of each game known, and finds and claims its period",
+    after: "\
+It does for each game in turn what extend does, and says what find says. A period that is found is
+claimed, unless the state has that claim. On a terminal a line on standard error says how far it is.
+After a fault the state is as it was.
+
+Exit status: 0 done (also where there is no period), 1 refused: Load (the state), Code, Issue,
+TooMany; 2 command line, 3 file, 4 memory
+
+Example, with the braces of the shell (the three-digit games of Winning Ways, chapter 4):
+  census survey ww.state 4096 0.{0..7}{0..7}{1..7}",
+};
+
 pub(crate) const PERIOD: Help = Help {
     about: "Issues the claim that a game's values repeat, and prints its author and number",
     after: "\
 The claim says that each heap from E on has the value of the heap that is P larger. It is proved
-when 2 E + 2 P and as many values as the code has digits are known, and then holds for all heaps.
+once the first 2E + 2P + k values are known, k the number of digits of the code, and then holds for
+all heaps.
 
 Exit status: 0 done, 1 refused: Load (the state), Code, Period, Issue, TooMany; 2 command line,
 3 file, 4 memory
@@ -119,7 +183,7 @@ Example:
 };
 
 pub(crate) const UNNOTE: Help = Help {
-    about: "Takes back the notes of a name that are seen here, and prints the removal's author and number",
+    about: "Takes back the notes of a name that this state shows, and prints the removal's author and number",
     after: "\
 Notes of the name that come later stay.
 
@@ -151,49 +215,75 @@ Example:
   census delta ben.state ben.delta",
 };
 
+pub(crate) const UNION: Help = Help {
+    about: "Writes the union of delta files as one, and prints how many operations it has",
+    after: "\
+All files are read before OUT is written, and OUT is replaced as a whole, so it may be one of them.
+A file that is no delta is named by its place among them, counted from 1; then nothing is written.
+
+Exit status: 0 done, 1 refused: Union (a file is no delta), TooMany; 2 command line, 3 file, 4 memory
+
+Example, as a merge driver of git (docs/GROUP.md):
+  git config merge.census.driver 'census union %A %A %B'",
+};
+
 pub(crate) const SERVE: Help = Help {
     about: "Waits for one connection to an address, and exchanges all that is new with its `sync`",
-    after: "\
-What other commands add to the state meanwhile stays. The state is saved also where the session
-ends early. The connection is neither encrypted nor authenticated: an address other than the
-loopback is for a trusted network or a tunnel.
-
+    after: of_sessions!(
+        "",
+        "
 Exit status: 0 done, 1 refused: Load (the state), Sync (the other side's bytes), Author, TooMany;
 2 command line, 3 file or network, 4 memory
 
 Example:
-  census serve anna.state 127.0.0.1:4000",
+  census serve anna.state 127.0.0.1:4000"
+    ),
 };
 
 pub(crate) const SYNC: Help = Help {
     about: "Connects to an address, and exchanges all that is new with the `serve` or `hub` there",
-    after: "\
-What other commands add to the state meanwhile stays. The state is saved also where the session
-ends early. The connection is neither encrypted nor authenticated: an address other than the
-loopback is for a trusted network or a tunnel.
-
+    after: of_sessions!(
+        "",
+        "
 Exit status: 0 done, 1 refused: Load (the state), Sync (the other side's bytes), Author, TooMany;
 2 command line, 3 file or network, 4 memory
 
 Example:
-  census sync ben.state 127.0.0.1:4000",
+  census sync ben.state 127.0.0.1:4000"
+    ),
 };
 
 pub(crate) const HUB: Help = Help {
     about: "Serves one connection to an address after another, each with its `sync`, until it is ended",
-    after: "\
+    after: of_sessions!(
+        "\
 It prints `listening on ADDR:PORT`, with the port that the system gave where 0 was asked for, and
 after each session `peer ADDR:PORT new N operations M`: so many operations are new, so many there
-are. A session that ends early has its fault on standard error, and the hub goes on. The state is
-saved after each session, and what other commands add to it meanwhile stays. The connection is
-neither encrypted nor authenticated: an address other than the loopback is for a trusted network
-or a tunnel.
-
+are. A session that ends early has its fault on standard error, and the hub goes on.
+",
+        "
 Exit status: 0 so many peers were served, 1 Load (the file is no state), 2 command line, 3 file,
 stream or network, 4 memory
 
 Example:
-  census hub group.state 127.0.0.1:4000",
+  census hub group.state 127.0.0.1:4000"
+    ),
+};
+
+pub(crate) const MOVE: Help = Help {
+    about: "Names a winning move of a position, or says that there is none",
+    after: "\
+`heap 2 of 9: remove 1, leave 3 and 5` says that of the heap at the place 2, counted from 0, which
+has 9 beans, one is removed, and the rest is left as heaps of 3 and 5. Then the other player loses,
+whatever the moves. Of several winning moves it is the first by place, then by the beans removed,
+then by the smaller heap left. `none: the player to move loses` where there is none, and `unknown at
+I` where the heap at the place I has no known value.
+
+Exit status: 0 done (also where there is no move), 1 refused: Load (the state), Code; 2 command
+line, 3 file, 4 memory
+
+Example:
+  census move anna.state 0.77 5 9 1000000000",
 };
 
 pub(crate) const VALUE: Help = Help {

@@ -2,7 +2,8 @@
 //!
 //! `command_line` and `words` say what its words mean and `task` what they ask for; `run` does it, and `run_called` does what
 //! the program was called with. What a command makes of the bytes of its files is `census_core::perform`, and what a session
-//! leaves is `census_core::rejoin`. `state_file` lets one command at a time change a state.
+//! leaves is `census_core::rejoin`. `state_file` lets one command at a time change a state, and `progress_line` says on a terminal
+//! how far it is.
 #![tactic(auto)]
 
 mod arguments;
@@ -12,6 +13,7 @@ mod files;
 mod help;
 mod network;
 mod program;
+mod progress_line;
 mod state_file;
 mod task;
 mod words;

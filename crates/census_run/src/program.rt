@@ -3,9 +3,10 @@
 use crate::command_line::command;
 use crate::files::{exists, is_same_file, read_file, write_file};
 use crate::network::{hub, serve, sync};
+use crate::progress_line::ProgressLine;
 use crate::state_file::StateFile;
 use crate::task::{Task, read_task};
-use census_core::{Fault, Reply, Request, fold_lines, perform};
+use census_core::{Fault, Progress, Reply, Request, fold_lines, perform, perform_watched, unite};
 use clap::error::ErrorKind;
 use oct_sync::write_out;
 use std::alloc::Global;
@@ -27,13 +28,32 @@ where
     O: Write,
     E: Write,
 {
+    run_watched(rt, words, input, output, errors, false)
+}
+
+/// Does the same, and where somebody watches the third stream, it says there how far it is.
+pub(crate) fn run_watched<R, S, I, O, E>(
+    rt: &R,
+    words: &[S],
+    input: &mut I,
+    output: &mut O,
+    errors: &mut E,
+    is_watched: bool,
+) -> u8
+where
+    R: Files<File = File> + AllocGlobal + Net<Stream = TcpStream, Listener = TcpListener> + Clock,
+    S: AsStr,
+    I: Read,
+    O: Write,
+    E: Write,
+{
     let alloc = rt.alloc();
     let Ok(command) = command(alloc) else {
         return refuse(errors, Fault::OutOfMemory);
     };
     match command.try_get_matches_from(words) {
         Ok(matches) => match read_task(alloc, &matches) {
-            Ok(task) => match done(rt, &task, input, output, errors) {
+            Ok(task) => match done(rt, &task, input, output, errors, is_watched) {
                 Ok(()) => 0,
                 Err(fault) => refuse(errors, fault),
             },
@@ -79,6 +99,7 @@ fn done<R, I, O, E>(
     input: &mut I,
     output: &mut O,
     errors: &mut E,
+    is_watched: bool,
 ) -> Result<(), Fault>
 where
     R: Files<File = File> + AllocGlobal + Net<Stream = TcpStream, Listener = TcpListener> + Clock,
@@ -93,7 +114,11 @@ where
             state,
             read,
             request,
-        } => change(rt, state, *read, request, output),
+        } => {
+            let mut progress = ProgressLine::new(rt, errors, is_watched);
+            change(rt, state, *read, request, output, &mut progress)
+        }
+        Task::Union { out, deltas } => union(rt, out, deltas, output),
         Task::Ask {
             state,
             written,
@@ -163,44 +188,89 @@ fn make_held<R: Files<File = File> + AllocGlobal>(
 }
 
 // Changes a state file, and prints the text of the reply once other commands may change it again.
-fn change<R, O>(
+fn change<R, O, E>(
     rt: &R,
     state: &str,
     read: Option<&str>,
     request: &Request,
     output: &mut O,
+    progress: &mut ProgressLine<'_, R, E>,
 ) -> Result<(), Fault>
 where
-    R: Files<File = File> + AllocGlobal,
+    R: Files<File = File> + AllocGlobal + Clock,
     O: Write,
+    E: Write,
 {
-    let reply = changed(rt, state, read, request)?;
-    Ok(write_out(output, &reply.text)?)
+    let done = changed(rt, state, read, request, progress);
+    progress.clear();
+    Ok(write_out(output, &done?.text)?)
 }
 
 // Changes a state file, and holds its lock from before it is read until it is replaced.
-fn changed<R: Files<File = File> + AllocGlobal>(
+fn changed<R: Files<File = File> + AllocGlobal, P: Progress>(
     rt: &R,
     state: &str,
     read: Option<&str>,
     request: &Request,
+    progress: &mut P,
 ) -> Result<Reply, Fault> {
     let file = StateFile::wait(rt, state)?;
-    let done = change_held(rt, &file, state, read, request);
+    let done = change_held(rt, &file, state, read, request, progress);
     file.release(rt);
     done
 }
 
 // The same, while no other command changes the state.
-fn change_held<R: Files<File = File> + AllocGlobal>(
+fn change_held<R: Files<File = File> + AllocGlobal, P: Progress>(
     rt: &R,
     file: &StateFile,
     state: &str,
     read: Option<&str>,
     request: &Request,
+    progress: &mut P,
 ) -> Result<Reply, Fault> {
-    let reply = reply_to(rt, state, read, request)?;
+    let bytes = read_file(rt, state)?;
+    let beside = read_beside(rt, read)?;
+    let reply = perform_watched(rt.alloc(), request, &bytes, &beside, progress)?;
     replace(rt, file, &reply)?;
+    Ok(reply)
+}
+
+// The bytes of the file that a command reads beside the state; none where it reads none.
+fn read_beside<R: Files + AllocGlobal>(rt: &R, path: Option<&str>) -> Result<Vec<u8>, Fault> {
+    match path {
+        Some(path) => read_file(rt, path),
+        None => Ok(Vec::new(rt.alloc())),
+    }
+}
+
+// Replaces a delta file by the union of some, which are all read before.
+fn union<R, O>(rt: &R, out: &str, deltas: &[&str], output: &mut O) -> Result<(), Fault>
+where
+    R: Files<File = File> + AllocGlobal,
+    O: Write,
+{
+    let file = StateFile::wait(rt, out)?;
+    let done = union_held(rt, &file, deltas);
+    file.release(rt);
+    Ok(write_out(output, &done?.text)?)
+}
+
+// The same, while no other command changes the file.
+fn union_held<R: Files<File = File> + AllocGlobal>(
+    rt: &R,
+    file: &StateFile,
+    deltas: &[&str],
+) -> Result<Reply, Fault> {
+    let mut files = Vec::new(rt.alloc());
+    for path in deltas {
+        let bytes = read_file(rt, path)?;
+        files.push(bytes).or(Err(Fault::OutOfMemory))?;
+    }
+    let reply = unite(rt.alloc(), &files)?;
+    if let Some(bytes) = &reply.file {
+        file.replace(rt, bytes)?;
+    }
     Ok(reply)
 }
 
@@ -216,7 +286,8 @@ where
     R: Files<File = File> + AllocGlobal,
     O: Write,
 {
-    let reply = reply_to(rt, state, None, request)?;
+    let bytes = read_file(rt, state)?;
+    let reply = perform(rt.alloc(), request, &bytes, b"")?;
     if let (Some(bytes), Some(path)) = (&reply.file, written) {
         if is_same_file(rt, state, path) {
             return Err(Fault::Same);
@@ -224,21 +295,6 @@ where
         write_file(rt, path, bytes)?;
     }
     Ok(write_out(output, &reply.text)?)
-}
-
-// What the request gives over the bytes of its files.
-fn reply_to<R: Files + AllocGlobal>(
-    rt: &R,
-    state: &str,
-    read: Option<&str>,
-    request: &Request,
-) -> Result<Reply, Fault> {
-    let state = read_file(rt, state)?;
-    let file = match read {
-        Some(path) => read_file(rt, path)?,
-        None => Vec::new(rt.alloc()),
-    };
-    perform(rt.alloc(), request, &state, &file)
 }
 
 // Replaces the state by that of a reply.

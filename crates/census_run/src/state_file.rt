@@ -4,7 +4,7 @@ use crate::files::{beside, check_length};
 use census_core::Fault;
 use oct_sync::write_out;
 use std::alloc::{AllocError, Global};
-use std::fs::{self, File, Metadata, OpenOptions, Permissions};
+use std::fs::{self, File, Metadata, OpenOptions};
 use std::io::{self, ErrorKind};
 use std::os::unix::fs::{MetadataExt, OpenOptionsExt, PermissionsExt, fchown};
 use std::path::Path;

@@ -6,6 +6,7 @@ use crate::network::Place;
 use crate::words::{self, Choice, Word};
 use census_core::{Fault, Request, number};
 use clap::ArgMatches;
+use oct_code::LIMIT;
 use std::alloc::Global;
 use std::time::Duration;
 
@@ -24,6 +25,11 @@ pub(crate) enum Task<'a> {
         state: &'a str,
         read: Option<&'a str>,
         request: Request,
+    },
+    /// The union of delta files as one.
+    Union {
+        out: &'a str,
+        deltas: Vec<&'a str>,
     },
     /// A command that reads a state file, and the file that it writes beside it.
     Ask {
@@ -72,12 +78,20 @@ fn task_of<'a>(
         }),
         CommandName::Import => change(found, Some(words::FILE), Request::Import),
         CommandName::Merge => change(found, Some(words::DELTA), Request::Merge),
+        CommandName::Union => Ok(Task::Union {
+            out: word(found, words::UNION)?,
+            deltas: repeated(alloc, found, words::DELTAS)?,
+        }),
         CommandName::Compute => change(found, None, compute(alloc, found)?),
+        CommandName::Extend => change(found, None, extend(alloc, found)?),
+        CommandName::Find => ask(found, None, find(alloc, found)?),
+        CommandName::Survey => change(found, None, survey(alloc, found)?),
         CommandName::Period => change(found, None, period(alloc, found)?),
         CommandName::Note => change(found, None, note(alloc, found)?),
         CommandName::Unnote => change(found, None, unnote(alloc, found)?),
         CommandName::Delta => ask(found, Some(words::OUT), Request::Delta),
         CommandName::Value => ask(found, None, value(alloc, found)?),
+        CommandName::Move => ask(found, None, winning_move(alloc, found)?),
         CommandName::Page => ask(found, None, page(found)?),
         CommandName::Show => ask(found, None, Request::Show),
         CommandName::Serve => Ok(Task::Serve {
@@ -138,6 +152,26 @@ fn compute(alloc: Global, found: &ArgMatches<'_>) -> Result<Request, Fault> {
     })
 }
 
+fn extend(alloc: Global, found: &ArgMatches<'_>) -> Result<Request, Fault> {
+    Ok(Request::Extend {
+        count: heap_count(found)?,
+        codes: codes(alloc, found)?,
+    })
+}
+
+fn find(alloc: Global, found: &ArgMatches<'_>) -> Result<Request, Fault> {
+    Ok(Request::Find {
+        codes: codes(alloc, found)?,
+    })
+}
+
+fn survey(alloc: Global, found: &ArgMatches<'_>) -> Result<Request, Fault> {
+    Ok(Request::Survey {
+        count: heap_count(found)?,
+        codes: codes(alloc, found)?,
+    })
+}
+
 fn period(alloc: Global, found: &ArgMatches<'_>) -> Result<Request, Fault> {
     Ok(Request::Period {
         start: number_of(found, words::E)?,
@@ -161,6 +195,13 @@ fn unnote(alloc: Global, found: &ArgMatches<'_>) -> Result<Request, Fault> {
 
 fn value(alloc: Global, found: &ArgMatches<'_>) -> Result<Request, Fault> {
     Ok(Request::Value {
+        heaps: heaps(alloc, found)?,
+        code: bytes(alloc, found, words::CODE)?,
+    })
+}
+
+fn winning_move(alloc: Global, found: &ArgMatches<'_>) -> Result<Request, Fault> {
+    Ok(Request::Move {
         heaps: heaps(alloc, found)?,
         code: bytes(alloc, found, words::CODE)?,
     })
@@ -220,6 +261,39 @@ fn peers(found: &ArgMatches<'_>) -> Result<u64, Fault> {
         Some(text) => Ok(u64::from(number_in(text)?)),
         None => Ok(u64::MAX),
     }
+}
+
+// How many values of a game are to be known.
+fn heap_count(found: &ArgMatches<'_>) -> Result<u32, Fault> {
+    match number_of(found, words::HEAPS)? {
+        count if 1 <= count && count as usize <= LIMIT => Ok(count),
+        _ => Err(Fault::Number),
+    }
+}
+
+// A word that stands once or more.
+fn repeated<'a>(alloc: Global, found: &ArgMatches<'a>, which: Word) -> Result<Vec<&'a str>, Fault> {
+    let Some(words) = found.get_strs(which.name) else {
+        return Err(Fault::Words);
+    };
+    let mut all = Vec::new(alloc);
+    for word in words {
+        all.push(*word).or(Err(Fault::OutOfMemory))?;
+    }
+    Ok(all)
+}
+
+// Copies of the bytes of the codes.
+fn codes(alloc: Global, found: &ArgMatches<'_>) -> Result<Vec<Vec<u8>>, Fault> {
+    let Some(words) = found.get_strs(words::CODES.name) else {
+        return Err(Fault::Words);
+    };
+    let mut codes = Vec::new(alloc);
+    for word in words {
+        let code = Vec::from_slice(alloc, word.as_bytes())?;
+        codes.push(code).or(Err(Fault::OutOfMemory))?;
+    }
+    Ok(codes)
 }
 
 // The heaps of a position.

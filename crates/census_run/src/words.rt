@@ -5,8 +5,15 @@
 pub(crate) struct Word {
     pub(crate) name: &'static str,
     pub(crate) meaning: &'static str,
-    /// Whether it stands any number of times. Else it stands once.
-    pub(crate) is_repeated: bool,
+    pub(crate) times: Times,
+}
+
+/// How many times a word stands, one after the other.
+#[derive(Clone, Copy)]
+pub(crate) enum Times {
+    One,
+    OneOrMore,
+    Any,
 }
 
 /// An option that a command takes, with one value.
@@ -22,85 +29,109 @@ pub(crate) struct Choice {
 pub(crate) const STATE: Word = Word {
     name: "STATE",
     meaning: "The state file",
-    is_repeated: false,
+    times: Times::One,
 };
 
 pub(crate) const ID: Word = Word {
     name: "ID",
-    meaning: "The author of what is issued there, 1 to 4294967295; no two people may have one",
-    is_repeated: false,
+    meaning: "The author of what is issued there, 1 to 4294967295; each person needs a different one",
+    times: Times::One,
 };
 
 pub(crate) const FILE: Word = Word {
     name: "FILE",
     meaning: "A JSON file such as {\"code\":\"0.07\",\"start\":0,\"values\":[0,0,1,1,2,0,3]}",
-    is_repeated: false,
+    times: Times::One,
 };
 
 pub(crate) const DELTA: Word = Word {
     name: "DELTA",
     meaning: "A delta file, as `census delta` writes it",
-    is_repeated: false,
+    times: Times::One,
+};
+
+pub(crate) const DELTAS: Word = Word {
+    name: "DELTA",
+    meaning: "One or more delta files",
+    times: Times::OneOrMore,
+};
+
+pub(crate) const UNION: Word = Word {
+    name: "OUT",
+    meaning: "The delta file that is written, in place of what stands there; it may be one of the others",
+    times: Times::One,
 };
 
 pub(crate) const OUT: Word = Word {
     name: "OUT",
     meaning: "The file that is written, in place of what stands there; not the state file",
-    is_repeated: false,
+    times: Times::One,
 };
 
 pub(crate) const ADDR: Word = Word {
     name: "ADDR",
     meaning: "An address such as 127.0.0.1:4000",
-    is_repeated: false,
+    times: Times::One,
 };
 
 pub(crate) const CODE: Word = Word {
     name: "CODE",
     meaning: "An octal code such as 0.77: head 0 or 4, a point, digits 0 to 7, at most 16 that count",
-    is_repeated: false,
+    times: Times::One,
 };
 
 pub(crate) const COUNT: Word = Word {
     name: "COUNT",
     meaning: "How many values, 1 to 1024; fewer where heap 65535 comes first",
-    is_repeated: false,
+    times: Times::One,
+};
+
+pub(crate) const CODES: Word = Word {
+    name: "CODE",
+    meaning: "One or more octal codes such as 0.77",
+    times: Times::OneOrMore,
+};
+
+pub(crate) const HEAPS: Word = Word {
+    name: "COUNT",
+    meaning: "How many values of each game, those of the heaps 0 to COUNT - 1; 1 to 65536",
+    times: Times::One,
 };
 
 pub(crate) const E: Word = Word {
     name: "E",
     meaning: "The heap from which on the values repeat, 1 to 65536",
-    is_repeated: false,
+    times: Times::One,
 };
 
 pub(crate) const P: Word = Word {
     name: "P",
     meaning: "The period, 1 to 65536",
-    is_repeated: false,
+    times: Times::One,
 };
 
 pub(crate) const NAME: Word = Word {
     name: "NAME",
     meaning: "The note's name, 1 to 32 bytes of a-z, 0-9 and -",
-    is_repeated: false,
+    times: Times::One,
 };
 
 pub(crate) const TEXT: Word = Word {
     name: "TEXT",
-    meaning: "The note's text, at most 200 bytes from the space to the tilde",
-    is_repeated: false,
+    meaning: "The note's text, at most 200 bytes of printable ASCII",
+    times: Times::One,
 };
 
 pub(crate) const NUMBER: Word = Word {
     name: "NUMBER",
     meaning: "The page's number, 0 and up; a page has 64 lines",
-    is_repeated: false,
+    times: Times::One,
 };
 
 pub(crate) const HEAP: Word = Word {
     name: "HEAP",
     meaning: "The heaps of the position, each 0 to 18446744073709551615; none is the empty position",
-    is_repeated: true,
+    times: Times::Any,
 };
 
 pub(crate) const PATIENCE: Choice = Choice {

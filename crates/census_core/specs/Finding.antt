@@ -1,0 +1,67 @@
+-- The periods that are found among the known nim-values of games.
+use Rattle.std.specs.Prelude.{ℕ, List, [], ◌++◌, codes, Option, Some, None, Result, Ok, if◌then◌else◌}
+use Rattle.std.specs.List.{flat_map}
+use Rattle.oct_code.specs.Code.{Code}
+use Rattle.oct_code.specs.CodeText.{code_text}
+use Rattle.oct_delta.specs.Text.{Bytes}
+use Rattle.oct_ops.specs.Body as kind
+use Rattle.oct_ops.specs.Operation.{Period}
+use Rattle.oct_ops.specs.Operations.{Operations}
+use Rattle.oct_pages.specs.Catalogue.{Text, labelled}
+use Rattle.oct_period.specs.Claims.{claims_in, is_claimed}
+use Rattle.oct_period.specs.Found.{found_period}
+use Rattle.oct_period.specs.Periods.{needs}
+use Rattle.oct_replica.specs.Beside.{content_in}
+use Rattle.oct_replica.specs.Content.{ReplicaContent}
+use Rattle.oct_verify.specs.Filing.{blocks_in}
+use Rattle.census_core.specs.Codes.{codes_of}
+use Rattle.census_core.specs.Extending.{extended, known_in, wanted}
+use Rattle.census_core.specs.Issuing.{with_body}
+use Rattle.census_core.specs.Replies.{Answer, said}
+use Rattle.census_core.specs.Steps.{◌>>=◌}
+use Rattle.census_core.specs.Stored.{loaded, saved}
+use Rattle.census_core.specs.Turns.{Turn, in_turn}
+use Rattle.census_core.specs.declared.fault.Fault.{Fault}
+
+-- the least period that the known nim-values prove, and of this the least start
+abbrev pub found_in : Operations → Code → Option Period
+found_in ops c = found_period c (blocks_in (content_in ops c).blocks)
+
+-- the period, the heap from which on the nim-values repeat, and how many of them prove it
+abbrev pub period_text : Option Period → Text
+period_text None = codes " no period"
+period_text (Some p) = labelled (codes " period ") p.period ++ labelled (codes " from ") p.start ++ labelled (codes " needs ") (needs p)
+
+-- and how many are known
+abbrev pub found_line : Code → Option Period → ℕ → Text
+found_line c found known = code_text c ++ period_text found ++ labelled (codes " known ") known ++ codes "\n"
+
+abbrev pub find_line : Operations → Code → Text
+find_line ops c = found_line c (found_in ops c) (known_in ops c)
+
+-- the replica after its author issued the claim, unless the set has the claim already
+abbrev pub with_claim : ReplicaContent → Option Period → Result ReplicaContent Fault
+with_claim r None = Ok r
+with_claim r (Some p) = if is_claimed (claims_in (content_in r.ops p.code).claims) p then Ok r else with_body r (kind.Period p)
+
+abbrev pub survey_turn : ℕ → Code → ReplicaContent → Result Turn Fault
+survey_turn count c r = do
+  e ← extended c count r
+  next ← with_claim e.replica (found_in e.replica.ops c)
+  Ok (record { replica = next; text = find_line e.replica.ops c })
+
+-- ---- the commands
+
+abbrev pub find : Bytes → List Bytes → Result Answer Fault
+find state words = do
+  replica ← loaded state
+  games ← codes_of words
+  Ok (said (flat_map (find_line replica.ops) games))
+
+abbrev pub survey : Bytes → ℕ → List Bytes → Result Answer Fault
+survey state count words = do
+  count ← wanted count
+  replica ← loaded state
+  games ← codes_of words
+  turn ← in_turn (survey_turn count) games (record { replica = replica; text = [] })
+  saved turn.replica turn.text

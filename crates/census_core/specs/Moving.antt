@@ -1,0 +1,52 @@
+-- What the command gives that names a winning move.
+use Rattle.std.specs.Prelude.{ℕ, ◌==◌, ◌++◌, List, slice_index, codes, Option, Some, None, Result, Ok, Err, if◌then◌else◌}
+use Rattle.oct_code.specs.Code.{Code}
+use Rattle.oct_delta.specs.Text.{Bytes}
+use Rattle.oct_ops.specs.Operations.{Operations}
+use Rattle.oct_pages.specs.Catalogue.{Text, labelled}
+use Rattle.oct_period.specs.Claims.{claims_in}
+use Rattle.oct_period.specs.Moving.{winning_move}
+use Rattle.oct_period.specs.declared.moving.Move.{Move}
+use Rattle.oct_period.specs.declared.unknown.Unknown.{Unknown}
+use Rattle.oct_replica.specs.Beside.{content_in}
+use Rattle.oct_verify.specs.Filing.{blocks_in}
+use Rattle.census_core.specs.Codes.{code_of}
+use Rattle.census_core.specs.Lines.{number_line}
+use Rattle.census_core.specs.Replies.{Answer, said}
+use Rattle.census_core.specs.Steps.{◌>>=◌}
+use Rattle.census_core.specs.Stored.{loaded}
+use Rattle.census_core.specs.declared.fault.Fault.{Fault}
+
+-- the first winning move of a position, by the blocks and claims that the set has of its game
+abbrev pub move_in : Operations → Code → List ℕ → Result (Option Move) Unknown
+move_in ops c heaps =
+    let game = content_in ops c in
+    winning_move c (blocks_in game.blocks) (claims_in game.claims) heaps
+
+-- the heaps that are left: none, one, or two, the smaller one first
+abbrev pub left_text : ℕ → ℕ → Text
+left_text less more =
+    if more == 0 then codes ", leave nothing"
+    else (if less == 0 then labelled (codes ", leave ") more
+    else labelled (codes ", leave ") less ++ labelled (codes " and ") more)
+
+-- a move in a heap of so many beans
+abbrev pub move_line : Move → ℕ → Text
+move_line m beans = labelled (codes "heap ") m.index ++ labelled (codes " of ") beans ++ labelled (codes ": remove ") m.removed ++ left_text m.left.0 m.left.1 ++ codes "\n"
+
+abbrev pub found_text : List ℕ → Option Move → Text
+found_text heaps None = codes "none: the player to move loses\n"
+found_text heaps (Some m) = move_line m (slice_index heaps m.index)
+
+-- the move, or that there is none, or the first heap whose nim-value is not known
+abbrev pub move_text : List ℕ → Result (Option Move) Unknown → Text
+move_text heaps (Ok found) = found_text heaps found
+move_text heaps (Err unknown) = number_line (codes "unknown at ") unknown.index
+
+-- ---- the command
+
+abbrev pub winning : Bytes → Bytes → List ℕ → Result Answer Fault
+winning state word heaps = do
+  replica ← loaded state
+  code ← code_of word
+  Ok (said (move_text heaps (move_in replica.ops code heaps)))

@@ -1,0 +1,77 @@
+//! The line that says how far a command is.
+
+use census_core::Progress;
+use oct_code::Code;
+use oct_sync::write_out;
+use std::alloc::{AllocError, Global};
+use std::io::Write;
+use std::time::{Clock, Duration, Instant};
+
+// How long a line stands at least.
+const PAUSE: u64 = 100;
+
+/// A line on a terminal, which says how far a command is and is written anew at most ten times a second.
+#[derive(Drop)]
+pub(crate) struct ProgressLine<'a, R, E> {
+    rt: &'a R,
+    errors: &'a mut E,
+    /// When the line was last written, or the command began; none where nobody watches.
+    last: Option<Instant>,
+    is_shown: bool,
+}
+
+impl<'a, R: AllocGlobal + Clock, E: Write> ProgressLine<'a, R, E> {
+    /// The line of a command that begins now. It is not written where nobody watches.
+    pub(crate) fn new(rt: &'a R, errors: &'a mut E, is_watched: bool) -> ProgressLine<'a, R, E> {
+        let last = if is_watched {
+            Instant::now(rt).ok()
+        } else {
+            None
+        };
+        ProgressLine {
+            rt,
+            errors,
+            last,
+            is_shown: false,
+        }
+    }
+
+    /// Takes the line away.
+    pub(crate) fn clear(&mut self) {
+        if self.is_shown {
+            self.is_shown = false;
+            let _ = write_out(self.errors, b"\r\x1b[K");
+        }
+    }
+
+    // Writes the line, where the last one has stood long enough.
+    fn write(&mut self, last: Instant, text: &[u8]) {
+        match last.elapsed(self.rt) {
+            Ok(passed) if passed >= Duration::from_millis(PAUSE) => {
+                self.last = Instant::now(self.rt).ok();
+                self.is_shown = true;
+                let _ = write_out(self.errors, text);
+            }
+            _ => {}
+        }
+    }
+}
+
+impl<'a, R: AllocGlobal + Clock, E: Write> Progress for ProgressLine<'a, R, E> {
+    fn tell(&mut self, code: Code, known: u32, wanted: u32) {
+        if let Some(last) = self.last {
+            if let Ok(text) = line_of(self.rt.alloc(), code, known, wanted) {
+                self.write(last, &text);
+            }
+        }
+    }
+}
+
+// The line in place of the one that stands there.
+fn line_of(alloc: Global, code: Code, known: u32, wanted: u32) -> Result<Vec<u8>, AllocError> {
+    let mut line = Vec::from_slice(alloc, b"\r")?;
+    code.append_text(&mut line)?;
+    let count = format!(in alloc; " {known} of {wanted}\x1b[K")?;
+    line.extend_from_slice(count.as_bytes())?;
+    Ok(line)
+}
