@@ -2,7 +2,7 @@
 """Kills commands at random moments, and says whether the state is whole after each: it loads, nothing that it held before is
 gone, each operation that was answered `issued` is there, beside them at most what the killed command was about to do, and no
 number has two contents. At the end another person, with whom the killed commands exchanged, has the same catalogue and no fork.
-Takes some seconds, and never more than a minute; the moments are drawn from a seed.
+Takes some seconds, and on a busy machine up to three minutes; the moments are drawn from a seed.
 
     crash.py [PROGRAM [WORD ..]]            the program is the one that ../census runs where none is named
 """
@@ -20,7 +20,7 @@ import time
 HERE = os.path.dirname(os.path.abspath(__file__))
 CENSUS = sys.argv[1:]
 KILLED = 300  # commands that are killed over one state
-SECONDS = 55
+SECONDS = 150
 SEED = 1956
 STATE = "state"
 OTHERS = 1000  # notes of another author, so that the state takes a while to be written

@@ -1,7 +1,7 @@
 #!/usr/bin/env bash
-# Plays the example session of the README with the program, in a folder of its own, and says whether each line is printed
-# as it stands in session.txt and in the README. Takes some seconds; the connection is on the loopback, on a free port,
-# which is printed as 4000.
+# Plays the example sessions of docs/TUTORIAL.md and of the README with the program, each in a folder of its own, and says whether
+# each line is printed as it stands in session.txt and there; `..` in the README stands for lines that it leaves out. Takes
+# some seconds; the connection is on the loopback, on a free port, which is printed as 4000.
 set -euo pipefail
 here=$(cd "$(dirname "${BASH_SOURCE[0]}")" && pwd)
 top=$(dirname "$here")
@@ -53,18 +53,32 @@ play() {
   fi
 }
 
+# Plays the lines of a session that begin with a dollar, in a new folder.
 played() {
   local port line
   port=$(free_port)
-  cd "$room"
-  export PATH=$room:$PATH
+  mkdir "$2"
+  cd "$2"
+  export PATH=$2:$PATH
   ln -s "$census" census
   while read -r line; do
     if [[ $line == '$ '* ]]; then play "$port" "${line#\$ }"; fi
-  done <"$here/session.txt"
+  done <"$1"
 }
 
-played >"$room/played"
+# The session that a document shows: the lines from its first command on, until one that is not set apart.
+shown() {
+  awk '/^    \$ census init anna/ { on = 1 } on && !/^    / { exit } on { print substr($0, 5) }' "$1"
+}
+
+(played "$here/session.txt" "$room/long") >"$room/played"
 diff "$here/session.txt" "$room/played"
-awk '/^    \$ census init anna/ { on = 1 } on && !/^    / { exit } on { print substr($0, 5) }' "$top/README.md" | diff "$here/session.txt" -
-echo "the example session is as it stands"
+shown "$top/docs/TUTORIAL.md" | diff "$here/session.txt" -
+
+shown "$top/README.md" >"$room/short.txt"
+(played "$room/short.txt" "$room/short") >"$room/played"
+front=$(sed '/^\.\.$/,$d' "$room/short.txt" | wc -l)
+back=$(sed '1,/^\.\.$/d' "$room/short.txt" | wc -l)
+test "$front" -gt 0 && test "$back" -gt 0
+{ head -n "$front" "$room/played"; echo ..; tail -n "$back" "$room/played"; } | diff "$room/short.txt" -
+echo "the example sessions are as they stand"
