@@ -215,7 +215,7 @@ fn status_beside<A: Allocator + Copy>(
     requires code { block.code ≡ game.old.code }
     requires copy { again.now ≡ block }
 {
-    match game.add_block(dot, block) {
+    match game.insert_block(dot, block) {
         Ok(()) => Some(game.block_status(&dot, again)),
         Err(_) => None,
     }
@@ -261,7 +261,7 @@ fn claim_status<A: Allocator + Copy>(
     length: u32,
 ) -> Option<PeriodStatus> {
     match (Dot::new(1, number), Period::new(game.code(), start, length)) {
-        (Ok(dot), Ok(period)) => match game.add_period(dot, period) {
+        (Ok(dot), Ok(period)) => match game.insert_period(dot, period) {
             Ok(()) => Some(period_status(game.ledger(), &period)),
             Err(_) => None,
         },

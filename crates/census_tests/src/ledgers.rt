@@ -128,7 +128,7 @@ fn status_beside<A: Allocator + Copy>(
     requires code { block.code ≡ ledger.old.code }
     requires copy { again.now ≡ block }
 {
-    match ledger.add(dot, block) {
+    match ledger.insert(dot, block) {
         Ok(()) => Some(ledger.status(&dot, again)),
         Err(_) => None,
     }

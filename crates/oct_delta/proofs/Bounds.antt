@@ -12,11 +12,12 @@ use Rattle.oct_ops.specs.Faults.{is_dot, is_name, is_text}
 use Rattle.oct_ops.specs.Operation.{Dot, Block, Period, Note, Removal}
 use Rattle.oct_ops.specs.Body.{Body, Operation}
 use Rattle.oct_ops.specs.Body as kind
-use Rattle.oct_delta.specs.declared.fault.Fault.TheVariants.{Short, Malformed}
+use Rattle.oct_ops.specs.declared.kinds.TheConstants.{BLOCK, PERIOD, NOTE, REMOVAL}
+use Rattle.oct_delta.specs.declared.fault.TextFault.TheVariants.{Short, Malformed}
 use Rattle.oct_delta.specs.declared.input.Front.{Front}
 use Rattle.oct_delta.specs.declared.encoding.TheConstants.{MAX_OP_SIZE}
 use Rattle.oct_delta.specs.Bytes.{IsBytes}
-use Rattle.oct_delta.specs.Reading.{◌>>=◌, Read, checked, byte_at, number_at, bytes_at, chain_at, follows, next_at, code_at, dot_at, is_count, is_span, front_at, block_at, is_claim, period_at, note_at, dot_count_at, dots_at, removal_at, body_at, op_at}
+use Rattle.oct_delta.specs.Reading.{◌>>=◌, Read, checked, byte_at, number_at, bytes_at, chain_at, follows, next_at, code_at, dot_at, is_count, is_range, front_at, block_at, is_claim, period_at, note_at, dot_count_at, dots_at, removal_at, body_at, op_at}
 use Rattle.oct_delta.proofs.Codecs.{IsBytes-drop, IsBytes-rest, bind_ok, ok_is, checked_ok, short_ok, as_part, done, failed}
 
 -- A reader that is short has fewer than n bytes, and takes at most n; what it reads is so.
@@ -142,10 +143,10 @@ front_at_bounded : (limit : ℕ) → Bounded (front_at limit) 263 (λ f. f.count
 unfolding front_at
 front_at_bounded limit =
     let made : Code → ℕ → ℕ → Front = λ code start count. record { code = code; start = start; count = count } in
-    then_bounded (λ code bytes. number_at w32 bytes >>= λ start. number_at w16 start.1 >>= λ count. checked (is_span limit start.0 count.0) (made code start.0 count.0) count.1) 6 code_bounded
-    (λ code _. then_bounded (λ start bytes. number_at w16 bytes >>= λ count. checked (is_span limit start count.0) (made code start count.0) count.1) 2 (number_bounded w32)
-    (λ start _. then_bounded (λ count bytes. checked (is_span limit start count) (made code start count) bytes) 0 (number_bounded w16)
-    (λ count _. checked_bounded (is_span limit start count) (made code start count) (λ h. leb-true _ _ (and_parts (leb 1 count) (leb count 1024) (and_parts (is_count count) (leb (start + count) limit) h).0).1))))
+    then_bounded (λ code bytes. number_at w32 bytes >>= λ start. number_at w16 start.1 >>= λ count. checked (is_range limit start.0 count.0) (made code start.0 count.0) count.1) 6 code_bounded
+    (λ code _. then_bounded (λ start bytes. number_at w16 bytes >>= λ count. checked (is_range limit start count.0) (made code start count.0) count.1) 2 (number_bounded w32)
+    (λ start _. then_bounded (λ count bytes. checked (is_range limit start count) (made code start count) bytes) 0 (number_bounded w16)
+    (λ count _. checked_bounded (is_range limit start count) (made code start count) (λ h. leb-true _ _ (and_parts (leb 1 count) (leb count 1024) (and_parts (is_count count) (leb (start + count) limit) h).0).1))))
 
 block_bounded : (limit : ℕ) → Bounded (block_at limit) 4359 Any
 unfolding block_at
@@ -157,11 +158,11 @@ block_bounded limit =
 period_bounded : (limit : ℕ) → Bounded (period_at limit) 265 Any
 unfolding period_at
 period_bounded limit =
-    let made : Code → ℕ → ℕ → Period = λ code start span. record { code = code; start = start; period = span } in
-    then_bounded (λ code bytes. number_at w32 bytes >>= λ start. number_at w32 start.1 >>= λ span. checked (is_claim limit (made code start.0 span.0)) (made code start.0 span.0) span.1) 8 code_bounded
-    (λ code _. then_bounded (λ start bytes. number_at w32 bytes >>= λ span. checked (is_claim limit (made code start span.0)) (made code start span.0) span.1) 4 (number_bounded w32)
-    (λ start _. then_bounded (λ span bytes. checked (is_claim limit (made code start span)) (made code start span) bytes) 0 (number_bounded w32)
-    (λ span _. checked_bounded (is_claim limit (made code start span)) (made code start span) (λ _. tt))))
+    let made : Code → ℕ → ℕ → Period = λ code start period. record { code = code; start = start; period = period } in
+    then_bounded (λ code bytes. number_at w32 bytes >>= λ start. number_at w32 start.1 >>= λ period. checked (is_claim limit (made code start.0 period.0)) (made code start.0 period.0) period.1) 8 code_bounded
+    (λ code _. then_bounded (λ start bytes. number_at w32 bytes >>= λ period. checked (is_claim limit (made code start period.0)) (made code start period.0) period.1) 4 (number_bounded w32)
+    (λ start _. then_bounded (λ period bytes. checked (is_claim limit (made code start period)) (made code start period) bytes) 0 (number_bounded w32)
+    (λ period _. checked_bounded (is_claim limit (made code start period)) (made code start period) (λ _. tt))))
 
 note_bounded : Bounded note_at 512 Any
 unfolding note_at
@@ -193,10 +194,10 @@ if_bounded false first second = second
 body_bounded : (limit number : ℕ) → Bounded (body_at limit number) 8194 Any
 unfolding body_at
 body_bounded limit number =
-    if_bounded (eqb number 1) (weaker (omega arith) (made_bounded kind.Block (block_bounded limit)))
-    (if_bounded (eqb number 2) (weaker (omega arith) (made_bounded kind.Period (period_bounded limit)))
-    (if_bounded (eqb number 3) (weaker (omega arith) (made_bounded kind.Note note_bounded))
-    (if_bounded (eqb number 4) (made_bounded kind.Removal removal_bounded) no_body)))
+    if_bounded (eqb number BLOCK) (weaker (omega arith) (made_bounded kind.Block (block_bounded limit)))
+    (if_bounded (eqb number PERIOD) (weaker (omega arith) (made_bounded kind.Period (period_bounded limit)))
+    (if_bounded (eqb number NOTE) (weaker (omega arith) (made_bounded kind.Note note_bounded))
+    (if_bounded (eqb number REMOVAL) (made_bounded kind.Removal removal_bounded) no_body)))
   where
     no_body : Bounded {A = Body} (λ _. Err Malformed) 8194 Any
     no_body = record { short = λ bytes fits e. absurd (apart e); taken = λ bytes x fits e. absurd (not_done x e) }

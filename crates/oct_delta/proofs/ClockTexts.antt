@@ -23,7 +23,7 @@ use Rattle.oct_join.specs.Clock.{Clock, IsEntry, IsClock, entries, through, rais
 use Rattle.oct_join.specs.Entries.{Entries, AreOfClock}
 use Rattle.oct_ops.specs.Sets.{rises}
 use Rattle.oct_ops.specs.OrderLaws.{then_equal}
-use Rattle.oct_delta.specs.declared.fault.Fault.{Fault}
+use Rattle.oct_delta.specs.declared.fault.TextFault.{TextFault}
 use Rattle.oct_delta.specs.declared.fault.ReadError.{ReadError}
 use Rattle.oct_delta.specs.declared.fault.ReadError.TheVariants.{Memory, Fault as Unread}
 use Rattle.oct_delta.specs.Bytes.{IsBytes}
@@ -180,10 +180,10 @@ checked_entries bytes rest n count read =
 pub read_on : (bytes rest : Bytes) (n : ℕ) → number_at w32 bytes ≡ Ok (n, rest) → entries_at bytes ≡ chain_at (next_at author_cmp entry_at) None n rest
 read_on bytes rest n count = ap (λ (r : Read ℕ). r >>= λ count. chain_at (next_at author_cmp entry_at) None count.0 count.1) count
 
-pub no_count : (bytes : Bytes) (f : Fault) → number_at w32 bytes ≡ Err f → all_of (entries_at bytes) ≡ None
+pub no_count : (bytes : Bytes) (f : TextFault) → number_at w32 bytes ≡ Err f → all_of (entries_at bytes) ≡ None
 no_count bytes f e = ap (λ (r : Read ℕ). all_of (r >>= λ count. chain_at (next_at author_cmp entry_at) None count.0 count.1)) e
 
-none_skipped : {A : Type 0} (r : Read A) (f : Fault) → skipped r ≡ Err f → all_of r ≡ None
+none_skipped : {A : Type 0} (r : Read A) (f : TextFault) → skipped r ≡ Err f → all_of r ≡ None
 none_skipped (Ok x) f e = absurd cc
 none_skipped (Err g) f e = refl
 
@@ -195,7 +195,7 @@ more_skipped (Ok (x, [])) after e more = let same : [] ≡ after = cc in absurd 
 more_skipped (Ok (x, b ∷ rest)) after e more = refl
 more_skipped (Err f) after e more = refl
 
-pub none_from_fault : (bytes rest : Bytes) (n : ℕ) (f : Fault) → number_at w32 bytes ≡ Ok (n, rest) → skipped (chain_at (next_at author_cmp entry_at) None n rest) ≡ Err f → all_of (entries_at bytes) ≡ None
+pub none_from_fault : (bytes rest : Bytes) (n : ℕ) (f : TextFault) → number_at w32 bytes ≡ Ok (n, rest) → skipped (chain_at (next_at author_cmp entry_at) None n rest) ≡ Err f → all_of (entries_at bytes) ≡ None
 none_from_fault bytes rest n f count read = ap all_of (read_on bytes rest n count) ∙ none_skipped (chain_at (next_at author_cmp entry_at) None n rest) f read
 
 pub none_from_rest : (bytes rest after : Bytes) (n : ℕ) → number_at w32 bytes ≡ Ok (n, rest) → skipped (chain_at (next_at author_cmp entry_at) None n rest) ≡ Ok after → eqb (length after) 0 ≡ false → all_of (entries_at bytes) ≡ None

@@ -8,7 +8,7 @@ use Rattle.oct_delta.specs.declared.error.DeltaError.{DeltaError}
 use Rattle.oct_delta.specs.declared.error.DeltaError.TheVariants as faults
 use Rattle.oct_delta.specs.declared.format.Edition.{Edition}
 use Rattle.oct_delta.specs.declared.format.Edition.TheVariants.{First, Second}
-use Rattle.oct_delta.specs.declared.state.State.{State}
+use Rattle.oct_delta.specs.declared.state.ReaderState.{ReaderState}
 use Rattle.oct_delta.specs.Text.{Bytes, u32, op_bytes, list_bytes}
 use Rattle.oct_delta.specs.Delta.{old_format, new_format, IsDeltaText}
 use Rattle.oct_delta.specs.Formats.{format}
@@ -17,7 +17,7 @@ use Rattle.oct_delta.specs.ReaderState.{fed, HasTag}
 use Rattle.oct_delta.proofs.Deltas.{format_named}
 
 -- what the answer says of the bytes that were fed
-pub record Ends {A : Type 0} (s : State A) (r : Result (List Operation) DeltaError) : Type 0 where
+pub record Ends {A : Type 0} (s : ReaderState A) (r : Result (List Operation) DeltaError) : Type 0 where
   pub ok : IfOk r (λ ops. IfSome (fed s) (λ bytes. IsDeltaText bytes ops))
   pub version : IsErrOf r faults.Version → IfSome (fed s) (λ bytes. format_at bytes ≡ None)
   pub refused : IsErrOf r faults.Refused → IfSome (fed s) (λ bytes. HasTag bytes × ((ops : List Operation) → ¬ IsDeltaText bytes ops))
@@ -27,7 +27,7 @@ pub record Ends {A : Type 0} (s : State A) (r : Result (List Operation) DeltaErr
 some_none : (bytes : Bytes) → Some bytes ≡ None → ⊥
 some_none bytes e = cc
 
-not_failed : {A : Type 0} (s : State A) (bytes : Bytes) → fed s ≡ Some bytes → fed s ≡ None → ⊥
+not_failed : {A : Type 0} (s : ReaderState A) (bytes : Bytes) → fed s ≡ Some bytes → fed s ≡ None → ⊥
 not_failed s bytes is none = some_none bytes (sym is ∙ none)
 
 no_tag : (bytes : Bytes) → length bytes < 4 → format_at bytes ≡ None
@@ -48,7 +48,7 @@ no_text : (bytes : Bytes) → length bytes < 8 → (ops : List Operation) → ¬
 no_text bytes lt ops (inl text) = let len : length bytes ≡ 4 + length (list_bytes ops) = ap length text.spelled ∙ length-append old_format.tag (list_bytes ops) in omega (arith, len, list_length ops, lt)
 no_text bytes lt ops (inr text) = let len : length bytes ≡ 4 + length (list_bytes ops) = ap length text.spelled ∙ length-append new_format.tag (list_bytes ops) in omega (arith, len, list_length ops, lt)
 
-module _ {A : Type 0} (s : State A) where
+module _ {A : Type 0} (s : ReaderState A) where
   pub before_tag : (bytes : Bytes) → fed s ≡ Some bytes → length bytes < 4 → Ends s (Err faults.Version)
   before_tag bytes is lt = record {
     ok = tt;

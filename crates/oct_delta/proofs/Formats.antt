@@ -17,6 +17,7 @@ use Rattle.oct_ops.specs.DotOrder.{dot_cmp}
 use Rattle.oct_ops.specs.Faults.{is_dot, is_name, is_text}
 use Rattle.oct_ops.specs.Limits.{keeps_limit}
 use Rattle.oct_ops.specs.Operation.{Dot, Block, Period, Note, Removal}
+use Rattle.oct_ops.specs.declared.kinds.TheConstants.{BLOCK, PERIOD, NOTE, REMOVAL}
 use Rattle.oct_ops.specs.Order.{block_cmp, period_cmp, note_cmp, removal_cmp, kind_of, same_kind_cmp, op_cmp}
 use Rattle.oct_ops.specs.OrderLaws.{dot_cmp_total, then_equal}
 use Rattle.oct_ops.specs.Body.{Body, Operation}
@@ -25,10 +26,10 @@ use Rattle.oct_ops.specs.Valid.{IsU32, IsDot, IsBlock, IsPeriod, IsNote, IsRemov
 use Rattle.oct_delta.specs.declared.input.Front.{Front}
 use Rattle.oct_delta.specs.Text.{code_bytes, dot_bytes, block_bytes, note_bytes, period_bytes, removal_bytes, body_bytes, op_bytes, u16, u32}
 use Rattle.oct_delta.specs.Delta.{Fits}
-use Rattle.oct_delta.specs.Reading.{◌>>=◌, checked, byte_at, number_at, bytes_at, chain_at, numbers_at, code_at, dot_at, is_count, is_span, front_at, block_at, is_claim, period_at, note_at, dots_at, dot_count_at, removal_at, body_at, op_at, next_op_at}
+use Rattle.oct_delta.specs.Reading.{◌>>=◌, checked, byte_at, number_at, bytes_at, chain_at, numbers_at, code_at, dot_at, is_count, is_range, front_at, block_at, is_claim, period_at, note_at, dots_at, dot_count_at, removal_at, body_at, op_at, next_op_at}
 use Rattle.oct_delta.proofs.Codecs.{Codec, byte_codec, bytes_codec, number_codec, wide16, wide32, then_codec, checked_codec, same_codec, chain_codec, Chained, variant_codec, if_codec, refused_codec, then_assoc, bytes_cmp}
 use Rattle.oct_delta.proofs.Chains.{IsNext, next_codec, items_codec, each_from_chain, rises_from_chain, chain_from_rising}
-use Rattle.oct_delta.proofs.Ranges.{code_from_test, test_from_code, dot_from_test, test_from_dot, faultless_from_span, span_from_faultless, faultless_from_claim, claim_from_faultless, claim_small, note_from_test, test_from_note, faultless_from_dots, dots_from_faultless, count_small}
+use Rattle.oct_delta.proofs.Ranges.{code_from_test, test_from_code, dot_from_test, test_from_dot, faultless_from_range, range_from_faultless, faultless_from_claim, claim_from_faultless, claim_small, note_from_test, test_from_note, faultless_from_dots, dots_from_faultless, count_small}
 
 pub code_codec : Codec code_at code_bytes code_cmp IsCode
 unfolding code_at
@@ -74,24 +75,24 @@ record FitsFront (limit : ℕ) (f : Front) : Type 0 where
   code : IsCode f.code
   start : f.start < 2 ^ 32
   count : f.count < 2 ^ 16
-  span : IsTrue (is_span limit f.start f.count)
+  range : IsTrue (is_range limit f.start f.count)
 
 front_codec : (limit : ℕ) → Codec (front_at limit) front_bytes front_cmp (FitsFront limit)
 unfolding front_at
 front_codec limit =
     let made : Code → ℕ → ℕ → Front = λ code start count. record { code = code; start = start; count = count } in
     same_codec front_bytes front_cmp (FitsFront limit)
-    (then_codec (λ code bytes. number_at w32 bytes >>= λ start. number_at w16 start.1 >>= λ count. checked (is_span limit start.0 count.0) (made code start.0 count.0) count.1) (λ f. f.code) code_codec
-    (λ code. then_codec (λ start bytes. number_at w16 bytes >>= λ count. checked (is_span limit start count.0) (made code start count.0) count.1) (λ f. f.start) (number_codec wide32)
-    (λ start. then_codec (λ count bytes. checked (is_span limit start count) (made code start count) bytes) (λ f. f.count) (number_codec wide16)
-    (λ count. checked_codec (is_span limit start count) (made code start count))
+    (then_codec (λ code bytes. number_at w32 bytes >>= λ start. number_at w16 start.1 >>= λ count. checked (is_range limit start.0 count.0) (made code start.0 count.0) count.1) (λ f. f.code) code_codec
+    (λ code. then_codec (λ start bytes. number_at w16 bytes >>= λ count. checked (is_range limit start count.0) (made code start count.0) count.1) (λ f. f.start) (number_codec wide32)
+    (λ start. then_codec (λ count bytes. checked (is_range limit start count) (made code start count) bytes) (λ f. f.count) (number_codec wide16)
+    (λ count. checked_codec (is_range limit start count) (made code start count))
     (λ count f g. ap (λ (x : Front). x.count) g.0))
     (λ start f g. ap (λ (x : Front). x.start) g.1.0))
     (λ code f g. ap (λ (x : Front). x.code) g.1.1.0))
     (λ f. ap (λ (z : List ℕ). code_bytes f.code ++ (u32 f.start ++ z)) (append-nil (u16 f.count)))
     (λ a b. ap (λ (o : Ordering). ordering_then (code_cmp a.code b.code) (ordering_then (nat_cmp a.start b.start) o)) (then_equal (nat_cmp a.count b.count)))
-    (λ f g. record { code = g.0; start = g.1.0; count = g.1.1.0; span = g.1.1.1.1 })
-    (λ f h. (h.code, (h.start, (h.count, (refl, h.span)))))
+    (λ f g. record { code = g.0; start = g.1.0; count = g.1.1.0; range = g.1.1.1.1 })
+    (λ f h. (h.code, (h.start, (h.count, (refl, h.range)))))
 
 abbrev IsWord : Option ℕ → ℕ → Type 0
 IsWord before n = IsU32 n
@@ -110,12 +111,12 @@ numbers_codec n = chain_codec (λ _. number_at w32) u32 nat_cmp IsWord (λ _. nu
 block_order : (a b c d : Ordering) → ordering_then (ordering_then a (ordering_then b c)) (ordering_then d Equal) ≡ ordering_then a (ordering_then b (ordering_then c d))
 block_order a b c d = rw (then_equal d, then_assoc a (ordering_then b c) d, then_assoc b c d) refl
 
-front_from_span : (limit : ℕ) → limit ≤ LIMIT → (f : Front) → IsCode f.code → IsTrue (is_span limit f.start f.count) → FitsFront limit f
-front_from_span limit low f code span =
-    let outer = and_parts (is_count f.count) (leb (f.start + f.count) limit) span in
+front_from_range : (limit : ℕ) → limit ≤ LIMIT → (f : Front) → IsCode f.code → IsTrue (is_range limit f.start f.count) → FitsFront limit f
+front_from_range limit low f code range =
+    let outer = and_parts (is_count f.count) (leb (f.start + f.count) limit) range in
     let end : f.start + f.count ≤ limit = leb-true _ _ outer.1 in
     let small : f.count < 2 ^ 16 = count_small f.count outer.0 in
-    record { code = code; start = omega (arith, end, low); count = small; span = span }
+    record { code = code; start = omega (arith, end, low); count = small; range = range }
 
 -- a valid body within the limit
 abbrev IsBlockIn : ℕ → Block → Type 0
@@ -124,9 +125,9 @@ IsBlockIn limit b = IsBlock b × IsTrue (keeps_limit limit (kind.Block b))
 abbrev IsPeriodIn : ℕ → Period → Type 0
 IsPeriodIn limit p = IsPeriod p × IsTrue (keeps_limit limit (kind.Period p))
 
-block_in : (limit : ℕ) → limit ≤ LIMIT → (b : Block) → IsCode b.code → IsTrue (is_span limit b.start (length b.values)) → AllByRecursion IsU32 b.values → IsBlockIn limit b
-block_in limit low b code span values =
-    let both = faultless_from_span limit b low span in
+block_in : (limit : ℕ) → limit ≤ LIMIT → (b : Block) → IsCode b.code → IsTrue (is_range limit b.start (length b.values)) → AllByRecursion IsU32 b.values → IsBlockIn limit b
+block_in limit low b code range values =
+    let both = faultless_from_range limit b low range in
     (record { code = code; faultless = both.0; values = All-from_recursion IsU32 b.values values }, both.1)
 
 pub block_codec : (limit : ℕ) → limit ≤ LIMIT → Codec (block_at limit) block_bytes block_cmp (IsBlockIn limit)
@@ -145,8 +146,8 @@ block_codec limit low =
     (λ b. ap (λ (z : List ℕ). front_bytes (front_of b) ++ z) (append-nil (flat_map u32 b.values))
     ∙ ap (λ (z : List ℕ). z ++ flat_map u32 b.values) (sym (append_assoc (code_bytes b.code) (u32 b.start) (u16 (length b.values)))))
     (λ a b. block_order (code_cmp a.code b.code) (nat_cmp a.start b.start) (nat_cmp (length a.values) (length b.values)) (slice_cmp nat_cmp a.values b.values))
-    (λ b g. block_in limit low b g.0.code g.0.span (words_from_chain None b.values g.1.0.1))
-    (λ b h. (front_from_span limit low (front_of b) h.0.code (span_from_faultless limit b h.0.faultless h.1), ((refl, chain_from_words None b.values (recursion_from_All IsU32 b.values h.0.values)), (refl, refl))))
+    (λ b g. block_in limit low b g.0.code g.0.range (words_from_chain None b.values g.1.0.1))
+    (λ b h. (front_from_range limit low (front_of b) h.0.code (range_from_faultless limit b h.0.faultless h.1), ((refl, chain_from_words None b.values (recursion_from_All IsU32 b.values h.0.values)), (refl, refl))))
 
 -- ---- notes
 
@@ -182,13 +183,13 @@ claim_in limit p code claim =
 pub period_codec : (limit : ℕ) → limit ≤ LIMIT → Codec (period_at limit) period_bytes period_cmp (IsPeriodIn limit)
 unfolding period_at
 period_codec limit low =
-    let made : Code → ℕ → ℕ → Period = λ code start span. record { code = code; start = start; period = span } in
+    let made : Code → ℕ → ℕ → Period = λ code start period. record { code = code; start = start; period = period } in
     same_codec period_bytes period_cmp (IsPeriodIn limit)
-    (then_codec (λ code bytes. number_at w32 bytes >>= λ start. number_at w32 start.1 >>= λ span. checked (is_claim limit (made code start.0 span.0)) (made code start.0 span.0) span.1) (λ p. p.code) code_codec
-    (λ code. then_codec (λ start bytes. number_at w32 bytes >>= λ span. checked (is_claim limit (made code start span.0)) (made code start span.0) span.1) (λ p. p.start) (number_codec wide32)
-    (λ start. then_codec (λ span bytes. checked (is_claim limit (made code start span)) (made code start span) bytes) (λ p. p.period) (number_codec wide32)
-    (λ span. checked_codec (is_claim limit (made code start span)) (made code start span))
-    (λ span p g. ap (λ (x : Period). x.period) g.0))
+    (then_codec (λ code bytes. number_at w32 bytes >>= λ start. number_at w32 start.1 >>= λ period. checked (is_claim limit (made code start.0 period.0)) (made code start.0 period.0) period.1) (λ p. p.code) code_codec
+    (λ code. then_codec (λ start bytes. number_at w32 bytes >>= λ period. checked (is_claim limit (made code start period.0)) (made code start period.0) period.1) (λ p. p.start) (number_codec wide32)
+    (λ start. then_codec (λ period bytes. checked (is_claim limit (made code start period)) (made code start period) bytes) (λ p. p.period) (number_codec wide32)
+    (λ period. checked_codec (is_claim limit (made code start period)) (made code start period))
+    (λ period p g. ap (λ (x : Period). x.period) g.0))
     (λ start p g. ap (λ (x : Period). x.start) g.1.0))
     (λ code p g. ap (λ (x : Period). x.code) g.1.1.0))
     (λ p. ap (λ (z : List ℕ). code_bytes p.code ++ (u32 p.start ++ z)) (append-nil (u32 p.period)) ∙ sym (append_assoc (code_bytes p.code) (u32 p.start) (u32 p.period)))
@@ -242,31 +243,31 @@ IsBodyIn limit body = IsBody body × IsTrue (keeps_limit limit body)
 abbrev IsKind : ℕ → ℕ → Body → Type 0
 IsKind limit number body = (kind_of body ≡ number) × IsBodyIn limit body
 
-from_block : (limit number : ℕ) → number ≡ 1 → (b : Body) → IsKind limit number b → (x : Block) × (kind.Block x ≡ b) × IsBlockIn limit x
+from_block : (limit number : ℕ) → number ≡ BLOCK → (b : Body) → IsKind limit number b → (x : Block) × (kind.Block x ≡ b) × IsBlockIn limit x
 from_block limit number is (kind.Block x) h = (x, refl, h.1)
 from_block limit number is (kind.Period x) h = absurd (omega (arith, h.0, is))
 from_block limit number is (kind.Note x) h = absurd (omega (arith, h.0, is))
 from_block limit number is (kind.Removal x) h = absurd (omega (arith, h.0, is))
 
-from_period : (limit number : ℕ) → number ≡ 2 → (b : Body) → IsKind limit number b → (x : Period) × (kind.Period x ≡ b) × IsPeriodIn limit x
+from_period : (limit number : ℕ) → number ≡ PERIOD → (b : Body) → IsKind limit number b → (x : Period) × (kind.Period x ≡ b) × IsPeriodIn limit x
 from_period limit number is (kind.Block x) h = absurd (omega (arith, h.0, is))
 from_period limit number is (kind.Period x) h = (x, refl, h.1)
 from_period limit number is (kind.Note x) h = absurd (omega (arith, h.0, is))
 from_period limit number is (kind.Removal x) h = absurd (omega (arith, h.0, is))
 
-from_note : (limit number : ℕ) → number ≡ 3 → (b : Body) → IsKind limit number b → (x : Note) × (kind.Note x ≡ b) × IsNote x
+from_note : (limit number : ℕ) → number ≡ NOTE → (b : Body) → IsKind limit number b → (x : Note) × (kind.Note x ≡ b) × IsNote x
 from_note limit number is (kind.Block x) h = absurd (omega (arith, h.0, is))
 from_note limit number is (kind.Period x) h = absurd (omega (arith, h.0, is))
 from_note limit number is (kind.Note x) h = (x, refl, h.1.0)
 from_note limit number is (kind.Removal x) h = absurd (omega (arith, h.0, is))
 
-from_removal : (limit number : ℕ) → number ≡ 4 → (b : Body) → IsKind limit number b → (x : Removal) × (kind.Removal x ≡ b) × IsRemoval x
+from_removal : (limit number : ℕ) → number ≡ REMOVAL → (b : Body) → IsKind limit number b → (x : Removal) × (kind.Removal x ≡ b) × IsRemoval x
 from_removal limit number is (kind.Block x) h = absurd (omega (arith, h.0, is))
 from_removal limit number is (kind.Period x) h = absurd (omega (arith, h.0, is))
 from_removal limit number is (kind.Note x) h = absurd (omega (arith, h.0, is))
 from_removal limit number is (kind.Removal x) h = (x, refl, h.1.0)
 
-from_other : (limit number : ℕ) → (number ≡ 1 → ⊥) → (number ≡ 2 → ⊥) → (number ≡ 3 → ⊥) → (number ≡ 4 → ⊥) → (b : Body) → IsKind limit number b → ⊥
+from_other : (limit number : ℕ) → (number ≡ BLOCK → ⊥) → (number ≡ PERIOD → ⊥) → (number ≡ NOTE → ⊥) → (number ≡ REMOVAL → ⊥) → (b : Body) → IsKind limit number b → ⊥
 from_other limit number one two three four (kind.Block x) h = one (sym h.0)
 from_other limit number one two three four (kind.Period x) h = two (sym h.0)
 from_other limit number one two three four (kind.Note x) h = three (sym h.0)
@@ -275,13 +276,13 @@ from_other limit number one two three four (kind.Removal x) h = four (sym h.0)
 body_codec : (limit number : ℕ) → limit ≤ LIMIT → Codec (body_at limit number) body_bytes same_kind_cmp (IsKind limit number)
 unfolding body_at
 body_codec limit number low =
-    if_codec (eqb number 1)
+    if_codec (eqb number BLOCK)
     (λ is. variant_codec kind.Block body_bytes same_kind_cmp (IsKind limit number) (block_codec limit low) (from_block limit number (eqb-true _ _ is)) (λ b h. (sym (eqb-true _ _ is), h)) (λ b. refl) (λ a b. refl))
-    (λ one. if_codec (eqb number 2)
+    (λ one. if_codec (eqb number PERIOD)
     (λ is. variant_codec kind.Period body_bytes same_kind_cmp (IsKind limit number) (period_codec limit low) (from_period limit number (eqb-true _ _ is)) (λ b h. (sym (eqb-true _ _ is), h)) (λ b. refl) (λ a b. refl))
-    (λ two. if_codec (eqb number 3)
+    (λ two. if_codec (eqb number NOTE)
     (λ is. variant_codec kind.Note body_bytes same_kind_cmp (IsKind limit number) note_codec (from_note limit number (eqb-true _ _ is)) (λ n h. (sym (eqb-true _ _ is), (h, refl))) (λ b. refl) (λ a b. refl))
-    (λ three. if_codec (eqb number 4)
+    (λ three. if_codec (eqb number REMOVAL)
     (λ is. variant_codec kind.Removal body_bytes same_kind_cmp (IsKind limit number) removal_codec (from_removal limit number (eqb-true _ _ is)) (λ n h. (sym (eqb-true _ _ is), (h, refl))) (λ b. refl) (λ a b. refl))
     (λ four. refused_codec body_bytes same_kind_cmp (IsKind limit number) (from_other limit number (eqb-false _ _ one) (eqb-false _ _ two) (eqb-false _ _ three) (eqb-false _ _ four))))))
 

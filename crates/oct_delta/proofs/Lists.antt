@@ -10,7 +10,7 @@ use Rattle.oct_code.specs.declared.limits.TheConstants.{LIMIT}
 use Rattle.oct_ops.specs.Body.{Operation}
 use Rattle.oct_ops.specs.Order.{op_cmp}
 use Rattle.oct_ops.specs.OrderLaws.{op_cmp_total}
-use Rattle.oct_delta.specs.declared.fault.Fault.{Fault}
+use Rattle.oct_delta.specs.declared.fault.TextFault.{TextFault}
 use Rattle.oct_delta.specs.declared.fault.ReadError.{ReadError}
 use Rattle.oct_delta.specs.declared.fault.ReadError.TheVariants.{Memory, Fault as Unread}
 use Rattle.oct_delta.specs.Bytes.{IsBytes}
@@ -70,7 +70,7 @@ pub ops_read : (limit : ℕ) → limit ≤ LIMIT → (bytes : List ℕ) (ops : L
 ops_read limit low bytes ops is = unordered limit None (length ops) (flat_map op_bytes ops) (ops, []) (ops_again limit low bytes ops is)
 
 -- A list that the bytes spell is passed over, to the end.
-pub list_passes : (limit : ℕ) → limit ≤ LIMIT → (bytes rest : List ℕ) (n : ℕ) (r : Result (List ℕ) Fault) → number_at w32 bytes ≡ Ok (n, rest) → skipped (chain_at (next_op_at limit) None n rest) ≡ r
+pub list_passes : (limit : ℕ) → limit ≤ LIMIT → (bytes rest : List ℕ) (n : ℕ) (r : Result (List ℕ) TextFault) → number_at w32 bytes ≡ Ok (n, rest) → skipped (chain_at (next_op_at limit) None n rest) ≡ r
     → (ops : List Operation) → IsList limit bytes ops → r ≡ Ok []
 list_passes limit low bytes rest n r count read ops is =
     let same = ok_is (n, rest) (length ops, flat_map op_bytes ops) (sym count ∙ count_again limit bytes ops is) in
@@ -82,7 +82,7 @@ list_reads limit low bytes rest n count ops is =
     let same = ok_is (n, rest) (length ops, flat_map op_bytes ops) (sym count ∙ count_again limit bytes ops is) in
     ap (λ (x : ℕ × List ℕ). chain_at (λ _. op_at limit) None x.0 x.1) same ∙ ops_read limit low bytes ops is
 
-pub refused_by : (limit : ℕ) → limit ≤ LIMIT → (bytes rest : List ℕ) (n : ℕ) (f : Fault) → number_at w32 bytes ≡ Ok (n, rest) → skipped (chain_at (next_op_at limit) None n rest) ≡ Err f
+pub refused_by : (limit : ℕ) → limit ≤ LIMIT → (bytes rest : List ℕ) (n : ℕ) (f : TextFault) → number_at w32 bytes ≡ Ok (n, rest) → skipped (chain_at (next_op_at limit) None n rest) ≡ Err f
     → (ops : List Operation) → IsList limit bytes ops → ⊥
 refused_by limit low bytes rest n f count read ops is = no_err (list_passes limit low bytes rest n (Err f) count read ops is)
   where

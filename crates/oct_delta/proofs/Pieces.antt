@@ -12,8 +12,8 @@ use Rattle.oct_ops.specs.Body.{Operation}
 use Rattle.oct_ops.specs.Order.{op_cmp}
 use Rattle.oct_ops.specs.OrderLaws.{op_cmp_total}
 use Rattle.oct_delta.specs.declared.encoding.TheConstants.{MAX_OP_SIZE}
-use Rattle.oct_delta.specs.declared.fault.Fault.{Fault}
-use Rattle.oct_delta.specs.declared.fault.Fault.TheVariants.{Short, Malformed}
+use Rattle.oct_delta.specs.declared.fault.TextFault.{TextFault}
+use Rattle.oct_delta.specs.declared.fault.TextFault.TheVariants.{Short, Malformed}
 use Rattle.oct_delta.specs.declared.fault.ReadError.{ReadError}
 use Rattle.oct_delta.specs.declared.fault.ReadError.TheVariants as errors
 use Rattle.oct_delta.specs.declared.error.DeltaError.{DeltaError}
@@ -21,8 +21,8 @@ use Rattle.oct_delta.specs.declared.error.DeltaError.TheVariants as faults
 use Rattle.oct_delta.specs.declared.format.Edition.{Edition}
 use Rattle.oct_delta.specs.declared.format.Edition.TheVariants.{First, Second}
 use Rattle.oct_delta.specs.declared.state.Progress.{Progress}
-use Rattle.oct_delta.specs.declared.state.State.{State}
-use Rattle.oct_delta.specs.declared.state.State.TheVariants.{Reading, Failed}
+use Rattle.oct_delta.specs.declared.state.ReaderState.{ReaderState}
+use Rattle.oct_delta.specs.declared.state.ReaderState.TheVariants.{Reading, Failed}
 use Rattle.oct_delta.specs.Bytes.{IsBytes}
 use Rattle.oct_delta.specs.Text.{Bytes, u32, op_bytes, list_bytes}
 use Rattle.oct_delta.specs.Delta.{Fits, IsList, IsDeltaText}
@@ -44,9 +44,9 @@ with_front_ok front all after (Ok x) e =
     (x.0, ap (λ (z : List ℕ). let w : List Operation × List ℕ = (x.0, z) in Ok w) (ap (λ (w : List Operation × List ℕ). w.1) same), ap (λ (w : List Operation × List ℕ). w.0) same)
 with_front_ok front all after (Err f) e = absurd cc
 
-pub with_front_err : (front : List Operation) (f : Fault) (read : Read (List Operation)) → with_front front read ≡ Err f → read ≡ Err f
+pub with_front_err : (front : List Operation) (f : TextFault) (read : Read (List Operation)) → with_front front read ≡ Err f → read ≡ Err f
 with_front_err front f (Ok x) e = absurd cc
-with_front_err front f (Err g) e = ap (λ (h : Fault). failed {A = List Operation × List ℕ} h) (let same : g ≡ f = cc in same)
+with_front_err front f (Err g) e = ap (λ (h : TextFault). failed {A = List Operation × List ℕ} h) (let same : g ≡ f = cc in same)
 
 no_end : (front other : List Operation) → with_front front (failed Malformed) ≡ done (other, []) → ⊥
 no_end front other e = cc
@@ -62,7 +62,7 @@ next_is_short : (limit : ℕ) (before : Option Operation) (rest : List ℕ) → 
 unfolding next_at
 next_is_short limit before rest e = rw e refl
 
-pub fails_fault : {A : Type 0} (e : ReadError) (f : Fault) (read : Result A Fault) → e ≡ errors.Fault f → Fails e read → read ≡ Err f
+pub fails_fault : {A : Type 0} (e : ReadError) (f : TextFault) (read : Result A TextFault) → e ≡ errors.Fault f → Fails e read → read ≡ Err f
 fails_fault {A} e f read is h = subst (λ (x : ReadError). Fails x read) is h
 
 pub has_tag : (e : Edition) (list : Bytes) → HasTag ((format e).tag ++ list)
@@ -119,7 +119,7 @@ module _ (e : Edition) where
       ∙ ap (λ (x : ℕ × List ℕ). chain_at (next_op_at limit) None x.0 x.1) counts
       ∙ ops_again limit (low e) (list_bytes other) other list
 
-  hopeless_refused : (count : ℕ) (ops : List Operation) (rest : List ℕ) (f : Fault) → BeginsList limit count ops → IsBytes rest → whole_at limit (last_of ops) (count - length ops) rest ≡ Err f → IsHopeless (begun_bytes e count ops rest)
+  hopeless_refused : (count : ℕ) (ops : List Operation) (rest : List ℕ) (f : TextFault) → BeginsList limit count ops → IsBytes rest → whole_at limit (last_of ops) (count - length ops) rest ≡ Err f → IsHopeless (begun_bytes e count ops rest)
   hopeless_refused count ops rest f b fits read more other is =
       no_end ops other (ap (with_front ops) (sym (whole_refuses limit (low e) (last_of ops) (count - length ops) rest more f fits read)) ∙ continued count ops rest more other b is)
 
@@ -137,7 +137,7 @@ module _ (e : Edition) where
 
   -- ---- a step of the reader
 
-  pub reads_on_refused : (count : ℕ) (ops : List Operation) (rest bytes : List ℕ) (f : Fault) → BeginsList limit count ops → bytes ≡ rest → IsBytes bytes → with_front ops (whole_at limit (last_of ops) (count - length ops) bytes) ≡ Err f → IsHopeless (begun_bytes e count ops rest)
+  pub reads_on_refused : (count : ℕ) (ops : List Operation) (rest bytes : List ℕ) (f : TextFault) → BeginsList limit count ops → bytes ≡ rest → IsBytes bytes → with_front ops (whole_at limit (last_of ops) (count - length ops) bytes) ≡ Err f → IsHopeless (begun_bytes e count ops rest)
   reads_on_refused count ops rest bytes f b is fits read =
       subst (λ (z : List ℕ). IsHopeless (begun_bytes e count ops z)) is (hopeless_refused count ops bytes f b fits (with_front_err ops f (whole_at limit (last_of ops) (count - length ops) bytes) read))
 
@@ -246,36 +246,36 @@ left_within front after rest now parts is =
 
 -- ---- what a state tells
 
-pub unfinished_here : {A : Type 0} (s : State A) (p : Progress A) → s ≡ Reading p → IsReaderState s → length p.ops.items < p.count
+pub unfinished_here : {A : Type 0} (s : ReaderState A) (p : Progress A) → s ≡ Reading p → IsReaderState s → length p.ops.items < p.count
     → IfSome (fed s) (λ bytes. HasTag bytes × ((other : List Operation) → ¬ IsDeltaText bytes other))
 unfinished_here {A} s p is held lt =
-    subst (λ (z : State A). IsReaderState z → IfSome (fed z) (λ bytes. HasTag bytes × ((other : List Operation) → ¬ IsDeltaText bytes other))) (sym is)
+    subst (λ (z : ReaderState A). IsReaderState z → IfSome (fed z) (λ bytes. HasTag bytes × ((other : List Operation) → ¬ IsDeltaText bytes other))) (sym is)
     (λ q. (has_tag p.edition _, unfinished p.edition p.count p.ops.items p.rest.items q lt)) held
 
-pub finished_here : {A : Type 0} (s : State A) (p : Progress A) (list : List Operation) → s ≡ Reading p → IsReaderState s → p.count ≤ length p.ops.items → list ≡ p.ops.items → IfSome (fed s) (λ bytes. IsDeltaText bytes list)
+pub finished_here : {A : Type 0} (s : ReaderState A) (p : Progress A) (list : List Operation) → s ≡ Reading p → IsReaderState s → p.count ≤ length p.ops.items → list ≡ p.ops.items → IfSome (fed s) (λ bytes. IsDeltaText bytes list)
 finished_here {A} s p list is held le same =
     subst (λ (z : List Operation). IfSome (fed s) (λ bytes. IsDeltaText bytes z)) (sym same)
-    (subst (λ (z : State A). IsReaderState z → IfSome (fed z) (λ bytes. IsDeltaText bytes p.ops.items)) (sym is) (λ q. text_at_end p.edition p.count p.ops.items p.rest.items q le) held)
+    (subst (λ (z : ReaderState A). IsReaderState z → IfSome (fed z) (λ bytes. IsDeltaText bytes p.ops.items)) (sym is) (λ q. text_at_end p.edition p.count p.ops.items p.rest.items q le) held)
 
-pub whole_here : {A : Type 0} (s : State A) (p : Progress A) (value : Option (List ℕ)) (items : List Operation) → s ≡ Reading p → IsReaderState s → fed s ≡ value → items ≡ p.ops.items → IfSome value (λ bytes. AreWhole bytes items)
+pub whole_here : {A : Type 0} (s : ReaderState A) (p : Progress A) (value : Option (List ℕ)) (items : List Operation) → s ≡ Reading p → IsReaderState s → fed s ≡ value → items ≡ p.ops.items → IfSome value (λ bytes. AreWhole bytes items)
 whole_here {A} s p value items is held view same =
     subst (λ (v : Option (List ℕ)). IfSome v (λ bytes. AreWhole bytes items)) view
     (subst (λ (z : List Operation). IfSome (fed s) (λ bytes. AreWhole bytes z)) (sym same)
-    (subst (λ (z : State A). IsReaderState z → IfSome (fed z) (λ bytes. AreWhole bytes p.ops.items)) (sym is) (λ q. are_whole p.edition p.count p.ops.items p.rest.items q) held))
+    (subst (λ (z : ReaderState A). IsReaderState z → IfSome (fed z) (λ bytes. AreWhole bytes p.ops.items)) (sym is) (λ q. are_whole p.edition p.count p.ops.items p.rest.items q) held))
 
 -- ---- what a step tells of a piece
 
-pub told : {A : Type 0} (r : Result (State A) DeltaError) (s : State A) (old now piece : List ℕ) → fed s ≡ Some old → now ≡ old ++ piece → Tells r now → IfSome (fed s) (λ bytes. Tells r (bytes ++ piece))
+pub told : {A : Type 0} (r : Result (ReaderState A) DeltaError) (s : ReaderState A) (old now piece : List ℕ) → fed s ≡ Some old → now ≡ old ++ piece → Tells r now → IfSome (fed s) (λ bytes. Tells r (bytes ++ piece))
 told {A} r s old now piece is same t = subst (λ (v : Option (List ℕ)). IfSome v (λ bytes. Tells r (bytes ++ piece))) (sym is) (subst (Tells r) same t)
 
-pub no_room_tells : {A : Type 0} (r : Result (State A) DeltaError) (bytes : List ℕ) → IsErrAnd r (λ e. e ≡ faults.OutOfMemory) → Tells r bytes
+pub no_room_tells : {A : Type 0} (r : Result (ReaderState A) DeltaError) (bytes : List ℕ) → IsErrAnd r (λ e. e ≡ faults.OutOfMemory) → Tells r bytes
 no_room_tells {A} r bytes h =
     let p = err_from_is_err_and r h in
-    subst (λ (z : Result (State A) DeltaError). Tells z bytes) (sym p.1) (subst (λ (z : DeltaError). Tells {A = A} (Err z) bytes) (sym p.2) tt)
+    subst (λ (z : Result (ReaderState A) DeltaError). Tells z bytes) (sym p.1) (subst (λ (z : DeltaError). Tells {A = A} (Err z) bytes) (sym p.2) tt)
 
 -- a step that tells of bytes did not fail before
-pub told_unfailed : {A : Type 0} (r : Result (State A) DeltaError) (s : State A) (old now : List ℕ) → fed s ≡ Some old → Tells r now → IsErrOf r faults.Failed ↔ (fed s ≡ None)
-told_unfailed {A} r s old now is t = (λ e. absurd (subst (λ (z : Result (State A) DeltaError). Tells z now) e t), λ e. absurd (is_some old (sym is ∙ e)))
+pub told_unfailed : {A : Type 0} (r : Result (ReaderState A) DeltaError) (s : ReaderState A) (old now : List ℕ) → fed s ≡ Some old → Tells r now → IsErrOf r faults.Failed ↔ (fed s ≡ None)
+told_unfailed {A} r s old now is t = (λ e. absurd (subst (λ (z : Result (ReaderState A) DeltaError). Tells z now) e t), λ e. absurd (is_some old (sym is ∙ e)))
   where
     is_some : (bytes : List ℕ) → Some bytes ≡ None → ⊥
     is_some bytes e = cc
@@ -288,8 +288,8 @@ begun_more e count ops rest piece now is =
     ∙ ap (λ (y : List ℕ). (format e).tag ++ y) (append_assoc (u32 count) (flat_map op_bytes ops ++ rest) piece ∙ ap (λ (y : List ℕ). u32 count ++ y) (append_assoc (flat_map op_bytes ops) rest piece))
     )
 
-pub begins_still : {A : Type 0} (s : State A) (p : Progress A) → s ≡ Reading p → IsReaderState s → BeginsList (format p.edition).limit p.count p.ops.items
-begins_still {A} s p is held = (subst (λ (z : State A). IsReaderState z) is held).begins
+pub begins_still : {A : Type 0} (s : ReaderState A) (p : Progress A) → s ≡ Reading p → IsReaderState s → BeginsList (format p.edition).limit p.count p.ops.items
+begins_still {A} s p is held = (subst (λ (z : ReaderState A). IsReaderState z) is held).begins
 
-pub untold : {A : Type 0} (r : Result (State A) DeltaError) (s : State A) (piece : List ℕ) → s ≡ Failed → IfSome (fed s) (λ bytes. Tells r (bytes ++ piece))
-untold {A} r s piece is = subst (λ (z : State A). IfSome (fed z) (λ bytes. Tells r (bytes ++ piece))) (sym is) tt
+pub untold : {A : Type 0} (r : Result (ReaderState A) DeltaError) (s : ReaderState A) (piece : List ℕ) → s ≡ Failed → IfSome (fed s) (λ bytes. Tells r (bytes ++ piece))
+untold {A} r s piece is = subst (λ (z : ReaderState A). IfSome (fed z) (λ bytes. Tells r (bytes ++ piece))) (sym is) tt

@@ -19,7 +19,7 @@ use Rattle.oct_ops.specs.Operation.{Dot, Block, Period, Note, Removal}
 use Rattle.oct_ops.specs.Body as kind
 use Rattle.oct_ops.specs.Sets.{rises}
 use Rattle.oct_ops.specs.Valid.{IsDot, IsNote}
-use Rattle.oct_delta.specs.Reading.{is_count, is_span, is_claim}
+use Rattle.oct_delta.specs.Reading.{is_count, is_range, is_claim}
 
 -- of three tests in order each fails, where there is no fault
 no_test : {E : Type 0} (a b c : Bool) (x y z : E) → cond a (Some x) (cond b (Some y) (cond c (Some z) None)) ≡ None → (a ≡ false) × (b ≡ false) × (c ≡ false)
@@ -77,8 +77,8 @@ test_from_dot d h = grind (arith, nat_tests)
 counted : (n : ℕ) → eqb n 0 ≡ false → ltb MAX_ITEMS n ≡ false → is_count n ≡ true
 counted n some few = grind (arith, nat_tests)
 
-pub faultless_from_span : (limit : ℕ) (b : Block) → limit ≤ LIMIT → is_span limit b.start (length b.values) ≡ true → (block_fault b ≡ None) × (keeps_limit limit (kind.Block b) ≡ true)
-faultless_from_span limit b low h =
+pub faultless_from_range : (limit : ℕ) (b : Block) → limit ≤ LIMIT → is_range limit b.start (length b.values) ≡ true → (block_fault b ≡ None) × (keeps_limit limit (kind.Block b) ≡ true)
+faultless_from_range limit b low h =
     let outer = and_parts (is_count (length b.values)) (leb (b.start + length b.values) limit) h in
     let inner = and_parts (leb 1 (length b.values)) (leb (length b.values) 1024) outer.0 in
     let some : 1 ≤ length b.values = leb-true _ _ inner.0 in
@@ -86,8 +86,8 @@ faultless_from_span limit b low h =
     let end : b.start + length b.values ≤ limit = leb-true _ _ outer.1 in
     (no_fault (eqb (length b.values) 0) (ltb MAX_ITEMS (length b.values)) (ltb LIMIT (b.start + length b.values)) _ _ _ (ne_eqb _ _ (λ e. omega (arith, e, some))) (le-ltb _ _ few) (le-ltb _ _ (omega (arith, end, low))), outer.1)
 
-pub span_from_faultless : (limit : ℕ) (b : Block) → block_fault b ≡ None → keeps_limit limit (kind.Block b) ≡ true → is_span limit b.start (length b.values) ≡ true
-span_from_faultless limit b h k =
+pub range_from_faultless : (limit : ℕ) (b : Block) → block_fault b ≡ None → keeps_limit limit (kind.Block b) ≡ true → is_range limit b.start (length b.values) ≡ true
+range_from_faultless limit b h k =
     let tests = no_test (eqb (length b.values) 0) (ltb MAX_ITEMS (length b.values)) (ltb LIMIT (b.start + length b.values)) _ _ _ h in
     and_from _ _ (counted (length b.values) tests.0 tests.1) k
 

@@ -6,8 +6,8 @@ use Rattle.oct_code.specs.declared.limits.TheConstants.{LIMIT}
 use Rattle.oct_ops.specs.Body.{Operation}
 use Rattle.oct_ops.specs.Order.{op_cmp}
 use Rattle.oct_ops.specs.OrderLaws.{then_equal}
-use Rattle.oct_delta.specs.declared.fault.Fault.{Fault}
-use Rattle.oct_delta.specs.declared.fault.Fault.TheVariants.{Malformed}
+use Rattle.oct_delta.specs.declared.fault.TextFault.{TextFault}
+use Rattle.oct_delta.specs.declared.fault.TextFault.TheVariants.{Malformed}
 use Rattle.oct_delta.specs.Text.{op_bytes}
 use Rattle.oct_delta.specs.Delta.{Fits}
 use Rattle.oct_delta.specs.Bytes.{IsBytes}
@@ -47,32 +47,32 @@ follows_by_text limit low (Some b) previous o is fits =
 abbrev with_op : Operation → Read (List Operation) → Read (List Operation)
 with_op o read = read >>= λ others. Ok (o ∷ others.0, others.1)
 
-not_skipped : (read : Read Operation) (f : Fault) → skipped read ≡ Err f → read ≡ Err f
+not_skipped : (read : Read Operation) (f : TextFault) → skipped read ≡ Err f → read ≡ Err f
 not_skipped (Ok x) f e = absurd cc
-not_skipped (Err g) f e = ap (λ (h : Fault). Err h) (err_is g f e)
+not_skipped (Err g) f e = ap (λ (h : TextFault). Err h) (err_is g f e)
   where
-    err_is : (g f : Fault) → failed {A = List ℕ} g ≡ Err f → g ≡ f
+    err_is : (g f : TextFault) → failed {A = List ℕ} g ≡ Err f → g ≡ f
     err_is g f e = cc
 
 skipped-others : (o : Operation) (read : Read (List Operation)) → skipped (with_op o read) ≡ skipped read
 skipped-others o (Ok y) = refl
 skipped-others o (Err e) = refl
 
-pub passes_on : (limit : ℕ) (before : Option Operation) (count i : ℕ) (bytes rest : List ℕ) (o : Operation) (total : Result (List ℕ) Fault) → i < count → Passed limit bytes rest o → follows op_cmp before o ≡ true
+pub passes_on : (limit : ℕ) (before : Option Operation) (count i : ℕ) (bytes rest : List ℕ) (o : Operation) (total : Result (List ℕ) TextFault) → i < count → Passed limit bytes rest o → follows op_cmp before o ≡ true
     → skipped (chain_at (next_op_at limit) before (count - i) bytes) ≡ total → skipped (chain_at (next_op_at limit) (Some o) (count - (i + 1)) rest) ≡ total
 unfolding chain_at next_at
 passes_on limit before count i bytes rest o total lt p up so_far =
     let k : count - i ≡ suc (count - (i + 1)) = omega arith in
     sym (rw (k, p.read, up) (skipped-others o (chain_at (next_op_at limit) (Some o) (count - (i + 1)) rest))) ∙ so_far
 
-pub falls : (limit : ℕ) (before : Option Operation) (count i : ℕ) (bytes rest : List ℕ) (o : Operation) (total : Result (List ℕ) Fault) → i < count → Passed limit bytes rest o → follows op_cmp before o ≡ false
+pub falls : (limit : ℕ) (before : Option Operation) (count i : ℕ) (bytes rest : List ℕ) (o : Operation) (total : Result (List ℕ) TextFault) → i < count → Passed limit bytes rest o → follows op_cmp before o ≡ false
     → skipped (chain_at (next_op_at limit) before (count - i) bytes) ≡ total → total ≡ Err Malformed
 unfolding chain_at next_at
 falls limit before count i bytes rest o total lt p down so_far =
     let k : count - i ≡ suc (count - (i + 1)) = omega arith in
     sym so_far ∙ rw (k, p.read, down) refl
 
-pub stops : (limit : ℕ) (before : Option Operation) (count i : ℕ) (bytes : List ℕ) (f : Fault) (total : Result (List ℕ) Fault) → i < count → skipped (op_at limit bytes) ≡ Err f
+pub stops : (limit : ℕ) (before : Option Operation) (count i : ℕ) (bytes : List ℕ) (f : TextFault) (total : Result (List ℕ) TextFault) → i < count → skipped (op_at limit bytes) ≡ Err f
     → skipped (chain_at (next_op_at limit) before (count - i) bytes) ≡ total → total ≡ Err f
 unfolding chain_at next_at
 stops limit before count i bytes f total lt e so_far =
@@ -80,7 +80,7 @@ stops limit before count i bytes f total lt e so_far =
     let one : op_at limit bytes ≡ Err f = not_skipped (op_at limit bytes) f e in
     sym so_far ∙ rw (k, one) refl
 
-pub at_end : (limit : ℕ) (before : Option Operation) (count i : ℕ) (bytes : List ℕ) (total : Result (List ℕ) Fault) → count ≤ i
+pub at_end : (limit : ℕ) (before : Option Operation) (count i : ℕ) (bytes : List ℕ) (total : Result (List ℕ) TextFault) → count ≤ i
     → skipped (chain_at (next_op_at limit) before (count - i) bytes) ≡ total → total ≡ Ok bytes
 unfolding chain_at
 at_end limit before count i bytes total le so_far =

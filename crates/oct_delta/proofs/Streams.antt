@@ -3,11 +3,11 @@ use Rattle.std.proofs.Common.{◌≡◌, ℕ, suc, ◌-◌, ◌+◌, ◌≤◌, 
 use Rattle.std.specs.Prelude.{slice_get}
 use Rattle.std.proofs.lemmas.List.{append-nil, length-append}
 use Rattle.oct_ops.specs.Body.{Operation}
-use Rattle.oct_delta.specs.declared.fault.Fault.TheVariants.{Short}
+use Rattle.oct_delta.specs.declared.fault.TextFault.TheVariants.{Short}
 use Rattle.oct_delta.specs.declared.fault.ReadError.{ReadError}
 use Rattle.oct_delta.specs.declared.fault.ReadError.TheVariants as errors
 use Rattle.oct_ops.specs.Order.{op_cmp}
-use Rattle.oct_delta.specs.declared.fault.Fault.{Fault}
+use Rattle.oct_delta.specs.declared.fault.TextFault.{TextFault}
 use Rattle.oct_delta.specs.Reading.{Read, Fails, with_front, skipped, checked, follows, op_at, next_at, next_op_at}
 use Rattle.oct_delta.specs.Streaming.{last_of, whole_at, GivesNext}
 use Rattle.oct_delta.proofs.Codecs.{as_part, failed}
@@ -67,18 +67,18 @@ pub err_along : (e : ReadError) (old new : List ℕ) (r s : Read Operation) → 
 err_along errors.Memory old new r s same h = tt
 err_along (errors.Fault f) old new r s same h = (sym same ∙ h.0, h.1)
 
-pub skipped_err : {A : Type 0} (read : Read A) (f : Fault) → skipped read ≡ Err f → read ≡ Err f
+pub skipped_err : {A : Type 0} (read : Read A) (f : TextFault) → skipped read ≡ Err f → read ≡ Err f
 skipped_err (Ok x) f e = absurd cc
-skipped_err {A} (Err h) f e = ap (λ (x : Fault). failed {A = A × List ℕ} x) (let same : h ≡ f = cc in same)
+skipped_err {A} (Err h) f e = ap (λ (x : TextFault). failed {A = A × List ℕ} x) (let same : h ≡ f = cc in same)
 
 -- an operation whose text is passed over is read
-pub no_fault : (limit : ℕ) (bytes after : List ℕ) (e : ReadError) (f : Fault) → e ≡ errors.Fault f → skipped (op_at limit bytes) ≡ Ok after → Fails e (op_at limit bytes) → ⊥
+pub no_fault : (limit : ℕ) (bytes after : List ℕ) (e : ReadError) (f : TextFault) → e ≡ errors.Fault f → skipped (op_at limit bytes) ≡ Ok after → Fails e (op_at limit bytes) → ⊥
 no_fault limit bytes after e f is passed fails =
     let none : op_at limit bytes ≡ Err f = subst (λ (x : ReadError). Fails x (op_at limit bytes)) is fails in
     let both : skipped (failed {A = Operation × List ℕ} f) ≡ Ok after = ap skipped (sym none) ∙ passed in
     cc
 
-pub next_err : (limit : ℕ) (before : Option Operation) (bytes : List ℕ) (f : Fault) → op_at limit bytes ≡ Err f → next_op_at limit before bytes ≡ Err f
+pub next_err : (limit : ℕ) (before : Option Operation) (bytes : List ℕ) (f : TextFault) → op_at limit bytes ≡ Err f → next_op_at limit before bytes ≡ Err f
 unfolding next_at
 next_err limit before bytes f e = rw e refl
 

@@ -5,8 +5,8 @@ use Rattle.std.specs.List.{flat_map}
 use Rattle.oct_code.specs.declared.limits.TheConstants.{LIMIT}
 use Rattle.oct_ops.specs.Body.{Operation}
 use Rattle.oct_ops.specs.Order.{op_cmp}
-use Rattle.oct_delta.specs.declared.fault.Fault.{Fault}
-use Rattle.oct_delta.specs.declared.fault.Fault.TheVariants.{Short, Malformed}
+use Rattle.oct_delta.specs.declared.fault.TextFault.{TextFault}
+use Rattle.oct_delta.specs.declared.fault.TextFault.TheVariants.{Short, Malformed}
 use Rattle.oct_delta.specs.Bytes.{IsBytes}
 use Rattle.oct_delta.specs.Text.{op_bytes}
 use Rattle.oct_delta.specs.Reading.{◌>>=◌, Read, with_front, checked, follows, op_at, next_at, next_op_at, chain_at}
@@ -64,16 +64,16 @@ whole_takes limit low before (suc n) bytes x fits e = by (λ b z y. whole_takes 
     by deeper (Err Malformed) is e = absurd cc
 
 -- what is refused stays refused, whatever follows
-pub whole_refuses : (limit : ℕ) → limit ≤ LIMIT → (before : Option Operation) (n : ℕ) (bytes more : List ℕ) (f : Fault) → IsBytes bytes → whole_at limit before n bytes ≡ Err f → chain_at (next_op_at limit) before n (bytes ++ more) ≡ Err Malformed
+pub whole_refuses : (limit : ℕ) → limit ≤ LIMIT → (before : Option Operation) (n : ℕ) (bytes more : List ℕ) (f : TextFault) → IsBytes bytes → whole_at limit before n bytes ≡ Err f → chain_at (next_op_at limit) before n (bytes ++ more) ≡ Err Malformed
 unfolding whole_at chain_at
 whole_refuses limit low before zero bytes more f fits e = absurd cc
 whole_refuses limit low before (suc n) bytes more f fits e = by (λ b z g. whole_refuses limit low b n z more g) (next_op_at limit before bytes) refl e
   where
-    inner : (x : Operation) (r s : Read (List Operation)) → ((g : Fault) → r ≡ Err g → s ≡ Err Malformed) → as_part (λ others. x ∷ others) r ≡ Err f → as_part (λ others. x ∷ others) s ≡ Err Malformed
+    inner : (x : Operation) (r s : Read (List Operation)) → ((g : TextFault) → r ≡ Err g → s ≡ Err Malformed) → as_part (λ others. x ∷ others) r ≡ Err f → as_part (λ others. x ∷ others) s ≡ Err Malformed
     inner x (Ok y) s h e = absurd cc
     inner x (Err g) s h e = rw (h g refl) refl
 
-    by : ((b : Option Operation) (z : List ℕ) (g : Fault) → IsBytes z → whole_at limit b n z ≡ Err g → chain_at (next_op_at limit) b n (z ++ more) ≡ Err Malformed)
+    by : ((b : Option Operation) (z : List ℕ) (g : TextFault) → IsBytes z → whole_at limit b n z ≡ Err g → chain_at (next_op_at limit) b n (z ++ more) ≡ Err Malformed)
         → (r : Read Operation) → next_op_at limit before bytes ≡ r → if_whole bytes (first_of limit n) r ≡ Err f → chain_at (next_op_at limit) before (suc n) (bytes ++ more) ≡ Err Malformed
     by deeper (Ok y) is e =
         let t = (next_op_codec limit low before).takes bytes y fits is in

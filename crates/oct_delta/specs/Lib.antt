@@ -4,12 +4,12 @@ pub mod Delta
 pub mod Reading
 pub mod Decoding
 pub mod Clocks
-pub mod State
+pub mod ReaderState
 pub mod Taken
 pub mod TakenLaws
 pub mod Passing
 pub mod Formats
 pub mod Writing
 pub mod Streaming
-pub mod ReaderState
+pub mod State
 pub mod Spelling

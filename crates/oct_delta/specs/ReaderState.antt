@@ -4,13 +4,13 @@ use denote.Ref.{Bor}
 use Rattle.std.specs.List.{flat_map, All}
 use Rattle.oct_ops.specs.Body.{Operation}
 use Rattle.oct_ops.specs.Operations.{IsRising}
-use Rattle.oct_delta.specs.declared.fault.Fault.TheVariants.{Short}
+use Rattle.oct_delta.specs.declared.fault.TextFault.TheVariants.{Short}
 use Rattle.oct_delta.specs.declared.encoding.TheConstants.{MAX_OP_SIZE}
 use Rattle.oct_delta.specs.declared.error.DeltaError.{DeltaError}
 use Rattle.oct_delta.specs.declared.error.DeltaError.TheVariants as errors
 use Rattle.oct_delta.specs.declared.format.Edition.{Edition}
-use Rattle.oct_delta.specs.declared.state.State.{State}
-use Rattle.oct_delta.specs.declared.state.State.TheVariants.{Begun, Reading, Failed}
+use Rattle.oct_delta.specs.declared.state.ReaderState.{ReaderState}
+use Rattle.oct_delta.specs.declared.state.ReaderState.TheVariants.{Begun, Reading, Failed}
 use Rattle.oct_delta.specs.Text.{Bytes, u32, op_bytes}
 use Rattle.oct_delta.specs.Delta.{Fits, IsDeltaText}
 use Rattle.oct_delta.specs.Formats.{format}
@@ -22,7 +22,7 @@ abbrev pub begun_bytes : Edition → ℕ → List Operation → Bytes → Bytes
 begun_bytes e count ops rest = (format e).tag ++ (u32 count ++ (flat_map op_bytes ops ++ rest))
 
 -- the bytes that were fed, and none after a refusal
-abbrev pub fed : {A : Type 0} → State A → Option Bytes
+abbrev pub fed : {A : Type 0} → ReaderState A → Option Bytes
 fed (Begun bytes) = Some bytes.items
 fed (Reading p) = Some (begun_bytes p.edition p.count p.ops.items p.rest.items)
 fed Failed = None
@@ -45,7 +45,7 @@ pub record IsPartial (limit count : ℕ) (ops : List Operation) (rest : Bytes) :
 abbrev pub HasTag : Bytes → Type 0
 HasTag bytes = IsSome (format_at bytes)
 
-abbrev pub IsReaderState : {A : Type 0} → State A → Type 0
+abbrev pub IsReaderState : {A : Type 0} → ReaderState A → Type 0
 IsReaderState (Begun bytes) = (length bytes.items < 8) × (4 ≤ length bytes.items → HasTag bytes.items)
 IsReaderState (Reading p) = IsPartial (format p.edition).limit p.count p.ops.items p.rest.items
 IsReaderState Failed = Unit {0}
@@ -63,7 +63,7 @@ abbrev pub together : List (Bor Bytes) → Bytes
 together pieces = flat_map (λ (piece : Bor Bytes). piece.now) pieces
 
 -- what a step tells of the bytes that were fed
-abbrev pub Tells : {A : Type 0} → Result (State A) DeltaError → Bytes → Type 0
+abbrev pub Tells : {A : Type 0} → Result (ReaderState A) DeltaError → Bytes → Type 0
 Tells (Ok state) bytes = IsReaderState state × (fed state ≡ Some bytes)
 Tells (Err errors.Version) bytes = IsForeign bytes
 Tells (Err errors.Refused) bytes = HasTag bytes × IsHopeless bytes

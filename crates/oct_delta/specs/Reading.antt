@@ -12,22 +12,23 @@ use Rattle.oct_ops.specs.Operation.{Dot, Block, Period, Note, Removal}
 use Rattle.oct_ops.specs.Order.{op_cmp}
 use Rattle.oct_ops.specs.Body.{Body, Operation}
 use Rattle.oct_ops.specs.Body as kind
+use Rattle.oct_ops.specs.declared.kinds.TheConstants.{BLOCK, PERIOD, NOTE, REMOVAL}
 use Rattle.oct_ops.specs.declared.limits.TheConstants.{MAX_ITEMS}
-use Rattle.oct_delta.specs.declared.fault.Fault.{Fault}
-use Rattle.oct_delta.specs.declared.fault.Fault.TheVariants.{Short, Malformed}
+use Rattle.oct_delta.specs.declared.fault.TextFault.{TextFault}
+use Rattle.oct_delta.specs.declared.fault.TextFault.TheVariants.{Short, Malformed}
 use Rattle.oct_delta.specs.declared.fault.ReadError.{ReadError}
 use Rattle.oct_delta.specs.declared.fault.ReadError.TheVariants as errors
 use Rattle.oct_delta.specs.declared.input.Front.{Front}
 use Rattle.oct_delta.specs.Text.{Bytes}
 
 infixl 10 ◌>>=◌
-abbrev pub ◌>>=◌ : {A B : Type 0} → Result A Fault → (A → Result B Fault) → Result B Fault
+abbrev pub ◌>>=◌ : {A B : Type 0} → Result A TextFault → (A → Result B TextFault) → Result B TextFault
 (Ok x) >>= f = f x
 (Err e) >>= f = Err e
 
 -- what a reader of this type answers
 abbrev pub Read : Type 0 → Type 0
-Read A = Result (A × Bytes) Fault
+Read A = Result (A × Bytes) TextFault
 
 -- the value, where it passes
 abbrev pub checked : {A : Type 0} → Bool → A → Bytes → Read A
@@ -83,8 +84,8 @@ abbrev pub is_count : ℕ → Bool
 is_count count = nat_le 1 count && nat_le count MAX_ITEMS
 
 -- a block of so many values from this place on, in a game of so many places
-abbrev pub is_span : ℕ → ℕ → ℕ → Bool
-is_span limit start count = is_count count && nat_le (start + count) limit
+abbrev pub is_range : ℕ → ℕ → ℕ → Bool
+is_range limit start count = is_count count && nat_le (start + count) limit
 
 -- what stands before the values of a block
 unfoldable pub front_at : ℕ → Bytes → Read Front
@@ -92,7 +93,7 @@ front_at limit bytes = do
   code ← code_at bytes
   start ← number_at w32 code.1
   count ← number_at w16 start.1
-  checked (is_span limit start.0 count.0) (record { code = code.0; start = start.0; count = count.0 }) count.1
+  checked (is_range limit start.0 count.0) (record { code = code.0; start = start.0; count = count.0 }) count.1
 
 unfoldable pub block_at : ℕ → Bytes → Read Block
 block_at limit bytes = do
@@ -108,8 +109,8 @@ unfoldable pub period_at : ℕ → Bytes → Read Period
 period_at limit bytes = do
   code ← code_at bytes
   start ← number_at w32 code.1
-  span ← number_at w32 start.1
-  let period : Period = record { code = code.0; start = start.0; period = span.0 } in checked (is_claim limit period) period span.1
+  period ← number_at w32 start.1
+  let claim : Period = record { code = code.0; start = start.0; period = period.0 } in checked (is_claim limit claim) claim period.1
 
 unfoldable pub note_at : Bytes → Read Note
 note_at bytes = do
@@ -136,10 +137,10 @@ removal_at bytes = do
 
 unfoldable pub body_at : ℕ → ℕ → Bytes → Read Body
 body_at limit number bytes =
-    if number == 1 then (block_at limit bytes >>= λ block. Ok (kind.Block block.0, block.1))
-    else if number == 2 then (period_at limit bytes >>= λ period. Ok (kind.Period period.0, period.1))
-    else if number == 3 then (note_at bytes >>= λ note. Ok (kind.Note note.0, note.1))
-    else if number == 4 then (removal_at bytes >>= λ removal. Ok (kind.Removal removal.0, removal.1))
+    if number == BLOCK then (block_at limit bytes >>= λ block. Ok (kind.Block block.0, block.1))
+    else if number == PERIOD then (period_at limit bytes >>= λ period. Ok (kind.Period period.0, period.1))
+    else if number == NOTE then (note_at bytes >>= λ note. Ok (kind.Note note.0, note.1))
+    else if number == REMOVAL then (removal_at bytes >>= λ removal. Ok (kind.Removal removal.0, removal.1))
     else Err Malformed
 
 unfoldable pub op_at : ℕ → Bytes → Read Operation
@@ -166,21 +167,21 @@ list_at limit bytes = do
 -- ---- what a function returned, and what reading gives
 
 -- What a function returned, seen by view, is what reading gives.
-abbrev pub Gives : {X Y : Type 0} → (X → Y) → Result X Fault → Result Y Fault → Type 0
+abbrev pub Gives : {X Y : Type 0} → (X → Y) → Result X TextFault → Result Y TextFault → Type 0
 Gives view (Ok x) read = read ≡ Ok (view x)
 Gives view (Err e) read = read ≡ Err e
 
 -- The same, unless memory ran out.
-abbrev pub Fails : {Y : Type 0} → ReadError → Result Y Fault → Type 0
+abbrev pub Fails : {Y : Type 0} → ReadError → Result Y TextFault → Type 0
 Fails errors.Memory read = Unit {0}
 Fails (errors.Fault f) read = read ≡ Err f
 
-abbrev pub GivesIfRoom : {X Y : Type 0} → (X → Y) → Result X ReadError → Result Y Fault → Type 0
+abbrev pub GivesIfRoom : {X Y : Type 0} → (X → Y) → Result X ReadError → Result Y TextFault → Type 0
 GivesIfRoom view (Ok x) read = read ≡ Ok (view x)
 GivesIfRoom view (Err e) read = Fails e read
 
 -- the bytes after what is read
-abbrev pub skipped : {A : Type 0} → Read A → Result Bytes Fault
+abbrev pub skipped : {A : Type 0} → Read A → Result Bytes TextFault
 skipped (Ok x) = Ok x.1
 skipped (Err e) = Err e
 

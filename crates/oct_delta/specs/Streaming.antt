@@ -4,7 +4,7 @@ use Rattle.std.specs.List.{flat_map, All}
 use Rattle.oct_ops.specs.Body.{Operation}
 use Rattle.oct_ops.specs.Operations.{IsRising}
 use Rattle.oct_delta.specs.declared.encoding.TheConstants.{MAX_OP_SIZE}
-use Rattle.oct_delta.specs.declared.fault.Fault.TheVariants.{Short, Malformed}
+use Rattle.oct_delta.specs.declared.fault.TextFault.TheVariants.{Short, Malformed}
 use Rattle.oct_delta.specs.declared.fault.ReadError.{ReadError}
 use Rattle.oct_delta.specs.declared.fault.ReadError.TheVariants as errors
 use Rattle.oct_delta.specs.Text.{Bytes, u32, op_bytes}

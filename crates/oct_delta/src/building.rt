@@ -4,10 +4,10 @@ ghost use Rattle.std.specs.Prelude.{◌≡◌, ◌≤◌, None, length, IfOk};
 ghost use Rattle.oct_ops.specs.Views.{content};
 ghost use Rattle.oct_delta.specs.Reading.{GivesIfRoom, numbers_at, dots_at, removal_at, block_at, note_at, op_at, body_at, chain_at};
 
-use crate::fault::{Fault, ReadError};
+use crate::fault::{ReadError, TextFault};
 use crate::input::Input;
 use oct_code::LIMIT;
-use oct_ops::{Block, Body, Dot, Note, NoteError, Op, Removal};
+use oct_ops::{Block, Body, Dot, Note, NoteError, Op, Removal, kinds};
 use std::alloc::Allocator;
 
 impl Input<'_> {
@@ -34,7 +34,7 @@ impl Input<'_> {
         let values = self.numbers(alloc, front.count)?;
         match Block::new(front.code, front.start, values) {
             Ok(block) => Ok(block),
-            Err(_) => Err(ReadError::Fault(Fault::Malformed)),
+            Err(_) => Err(ReadError::Fault(TextFault::Malformed)),
         }
     }
 
@@ -47,8 +47,8 @@ impl Input<'_> {
         match Note::new(alloc, words.name, words.text) {
             Ok(note) => Ok(note),
             Err(NoteError::OutOfMemory) => Err(ReadError::Memory),
-            Err(NoteError::Name) => Err(ReadError::Fault(Fault::Malformed)),
-            Err(NoteError::Text) => Err(ReadError::Fault(Fault::Malformed)),
+            Err(NoteError::Name) => Err(ReadError::Fault(TextFault::Malformed)),
+            Err(NoteError::Text) => Err(ReadError::Fault(TextFault::Malformed)),
         }
     }
 
@@ -75,7 +75,7 @@ impl Input<'_> {
         let dots = self.dots(alloc, count)?;
         match Removal::new(dots) {
             Ok(removal) => Ok(removal),
-            Err(_) => Err(ReadError::Fault(Fault::Malformed)),
+            Err(_) => Err(ReadError::Fault(TextFault::Malformed)),
         }
     }
 
@@ -91,11 +91,11 @@ impl Input<'_> {
         ensures { GivesIfRoom (λ x. (content x, self.new)) result (body_at limit kind self.old) }
     {
         match kind {
-            1 => Ok(Body::Block(self.block(alloc, limit)?)),
-            2 => Ok(Body::Period(self.period(limit)?)),
-            3 => Ok(Body::Note(self.note(alloc)?)),
-            4 => Ok(Body::Removal(self.removal(alloc)?)),
-            _ => Err(ReadError::Fault(Fault::Malformed)),
+            kinds::BLOCK => Ok(Body::Block(self.block(alloc, limit)?)),
+            kinds::PERIOD => Ok(Body::Period(self.period(limit)?)),
+            kinds::NOTE => Ok(Body::Note(self.note(alloc)?)),
+            kinds::REMOVAL => Ok(Body::Removal(self.removal(alloc)?)),
+            _ => Err(ReadError::Fault(TextFault::Malformed)),
         }
     }
 

@@ -8,9 +8,10 @@ ghost use Rattle.oct_delta.specs.Text.{op_bytes};
 ghost use Rattle.oct_delta.specs.Passing.{Passed};
 ghost use Rattle.oct_delta.specs.Reading.{Gives, skipped, numbers_at, dots_at, removal_at, block_at, op_at, body_at, ops_at};
 
-use crate::fault::Fault;
+use crate::fault::TextFault;
 use crate::input::Input;
 use oct_code::LIMIT;
+use oct_ops::kinds;
 
 // Whether a text comes after the one before, byte by byte.
 fn is_greater(text: &[u8], previous: &[u8]) -> bool
@@ -21,7 +22,7 @@ fn is_greater(text: &[u8], previous: &[u8]) -> bool
 
 impl<'a> Input<'a> {
     // Passes over so many numbers of 32 bits.
-    fn skip_numbers(&mut self, count: u16) -> Result<(), Fault>
+    fn skip_numbers(&mut self, count: u16) -> Result<(), TextFault>
         ensures { Gives (λ _. self.new) result (skipped (numbers_at count self.old)) }
     {
         self.bytes(4 * count as usize)?;
@@ -30,7 +31,7 @@ impl<'a> Input<'a> {
 
     // Passes over a block within the limit.
     #[tactic(auto, unfolding(crate::specs::Reading::block_at))]
-    fn skip_block(&mut self, limit: usize) -> Result<(), Fault>
+    fn skip_block(&mut self, limit: usize) -> Result<(), TextFault>
         requires { limit ≤ LIMIT }
         ensures { Gives (λ _. self.new) result (skipped (block_at limit self.old)) }
     {
@@ -39,7 +40,7 @@ impl<'a> Input<'a> {
     }
 
     // Passes over so many dots, each above the one before.
-    fn skip_dots(&mut self, count: u16) -> Result<(), Fault>
+    fn skip_dots(&mut self, count: u16) -> Result<(), TextFault>
         ensures { Gives (λ _. self.new) result (skipped (dots_at count self.old)) }
     {
         let mut before = None;
@@ -51,7 +52,7 @@ impl<'a> Input<'a> {
 
     // Passes over a removal.
     #[tactic(auto, unfolding(crate::specs::Reading::removal_at))]
-    fn skip_removal(&mut self) -> Result<(), Fault>
+    fn skip_removal(&mut self) -> Result<(), TextFault>
         ensures { Gives (λ _. self.new) result (skipped (removal_at self.old)) }
     {
         let count = self.dot_count()?;
@@ -60,28 +61,28 @@ impl<'a> Input<'a> {
 
     // Passes over a body of the kind.
     #[tactic(auto, unfolding(crate::specs::Reading::body_at))]
-    fn skip_body(&mut self, limit: usize, kind: u8) -> Result<(), Fault>
+    fn skip_body(&mut self, limit: usize, kind: u8) -> Result<(), TextFault>
         requires { limit ≤ LIMIT }
         ensures { Gives (λ _. self.new) result (skipped (body_at limit kind self.old)) }
     {
         match kind {
-            1 => self.skip_block(limit),
-            2 => {
+            kinds::BLOCK => self.skip_block(limit),
+            kinds::PERIOD => {
                 self.period(limit)?;
                 Ok(())
             }
-            3 => {
+            kinds::NOTE => {
                 self.words()?;
                 Ok(())
             }
-            4 => self.skip_removal(),
-            _ => Err(Fault::Malformed),
+            kinds::REMOVAL => self.skip_removal(),
+            _ => Err(TextFault::Malformed),
         }
     }
 
     /// Passes over an operation.
     #[tactic(auto, unfolding(crate::specs::Reading::op_at))]
-    pub(crate) fn skip_op(&mut self, limit: usize) -> Result<(), Fault>
+    pub(crate) fn skip_op(&mut self, limit: usize) -> Result<(), TextFault>
         requires { limit ≤ LIMIT }
         ensures { Gives (λ _. self.new) result (skipped (op_at limit self.old)) }
     {
@@ -91,7 +92,7 @@ impl<'a> Input<'a> {
     }
 
     /// Passes over an operation, and gives its text.
-    pub(crate) fn op_text(&mut self, limit: usize) -> Result<&'a [u8], Fault>
+    pub(crate) fn op_text(&mut self, limit: usize) -> Result<&'a [u8], TextFault>
         requires { limit ≤ LIMIT }
         ensures value { Gives (λ _. self.new) result (skipped (op_at limit self.old)) }
         ensures text { IfOk result (λ text. (o : Operation) × Passed limit self.old self.new o × (text.now ≡ op_bytes o)) }
@@ -102,7 +103,7 @@ impl<'a> Input<'a> {
     }
 
     /// Passes over so many operations, each of them above the one before.
-    pub(crate) fn skip_ops(&mut self, limit: usize, count: u32) -> Result<(), Fault>
+    pub(crate) fn skip_ops(&mut self, limit: usize, count: u32) -> Result<(), TextFault>
         requires { limit ≤ LIMIT }
         ensures { Gives (λ _. self.new) result (skipped (ops_at limit count self.old)) }
     {
@@ -110,7 +111,7 @@ impl<'a> Input<'a> {
         for _ in 0..count {
             let text = self.op_text(limit)?;
             if !is_greater(text, previous) {
-                return Err(Fault::Malformed);
+                return Err(TextFault::Malformed);
             }
             previous = text;
         }

@@ -10,9 +10,9 @@ ghost use Rattle.oct_delta.specs.Clocks.{IsClockText, author_cmp, entry_at, entr
 ghost use Rattle.oct_delta.specs.Writing.{Keeps};
 
 use crate::error::ClockError;
-use crate::fault::{Fault, ReadError};
+use crate::fault::{ReadError, TextFault};
 use crate::input::Input;
-use crate::output::put_u32;
+use crate::output::{Put, put_each, put_u32};
 use oct_join::Clock;
 use std::alloc::{AllocError, Allocator};
 
@@ -29,34 +29,34 @@ fn author_follows(before: Option<(u32, u32)>, entry: (u32, u32)) -> bool
 impl Input<'_> {
     // An author and its number.
     #[tactic(auto, unfolding(crate::specs::Clocks::entry_at))]
-    fn entry(&mut self) -> Result<(u32, u32), Fault>
+    fn entry(&mut self) -> Result<(u32, u32), TextFault>
         ensures value { Gives (λ x. (x, self.new)) result (entry_at self.old) }
         ensures valid { IfOk result clock.IsEntry }
     {
         let author = self.u32()?;
         let through = self.u32()?;
         if author == 0 || through == 0 {
-            return Err(Fault::Malformed);
+            return Err(TextFault::Malformed);
         }
         Ok((author, through))
     }
 
     // An author above the one before, and its number.
     #[tactic(auto, unfolding(crate::specs::Reading::next_at))]
-    fn next_entry(&mut self, before: Option<(u32, u32)>) -> Result<(u32, u32), Fault>
+    fn next_entry(&mut self, before: Option<(u32, u32)>) -> Result<(u32, u32), TextFault>
         ensures value { Gives (λ x. (x, self.new)) result (next_at author_cmp entry_at before self.old) }
         ensures valid { IfOk result clock.IsEntry }
         ensures above { IfOk result (λ x. follows author_cmp before x ≡ true) }
     {
         let entry = self.entry()?;
         if !author_follows(before, entry) {
-            return Err(Fault::Malformed);
+            return Err(TextFault::Malformed);
         }
         Ok(entry)
     }
 
     // Passes over so many authors with their numbers.
-    fn skip_entries(&mut self, count: u32) -> Result<(), Fault>
+    fn skip_entries(&mut self, count: u32) -> Result<(), TextFault>
         ensures { Gives (λ _. self.new) result (skipped (chain_at (next_at author_cmp entry_at) None count self.old)) }
     {
         let mut before = None;
@@ -82,7 +82,7 @@ impl Input<'_> {
 }
 
 // Whether the bytes are a clock's text, without memory.
-fn check_clock(bytes: &[u8]) -> Result<(), Fault>
+fn check_clock(bytes: &[u8]) -> Result<(), TextFault>
     ensures ok { OnOk result ((es : Entries) × (entries_at bytes.now ≡ Ok (es, []))) }
     ensures err { OnErr result (all_of (entries_at bytes.now) ≡ None) }
 {
@@ -90,7 +90,7 @@ fn check_clock(bytes: &[u8]) -> Result<(), Fault>
     let count = input.u32()?;
     input.skip_entries(count)?;
     if !input.is_empty() {
-        return Err(Fault::Malformed);
+        return Err(TextFault::Malformed);
     }
     Ok(())
 }
@@ -125,24 +125,13 @@ pub fn decode_clock<A: Allocator>(alloc: A, bytes: &[u8]) -> Result<Clock<A>, Cl
     }
 }
 
-// Appends an author and its number.
-fn put_entry<A: Allocator>(out: &mut Vec<u8, A>, entry: (u32, u32)) -> Result<(), AllocError>
-    ensures ok { OnOk result (out.new.items ≡ out.old.items ++ entry_bytes entry) }
-    ensures kept { Keeps out.old.items out.new.items }
-{
-    put_u32(out, entry.0)?;
-    put_u32(out, entry.1)
-}
+impl Put for (u32, u32) {
+    ghost spelled = { entry_bytes };
 
-// Appends each author and its number.
-fn put_each<A: Allocator>(out: &mut Vec<u8, A>, entries: &[(u32, u32)]) -> Result<(), AllocError>
-    ensures ok { OnOk result (out.new.items ≡ out.old.items ++ flat_map entry_bytes entries.now) }
-    ensures kept { Keeps out.old.items out.new.items }
-{
-    for entry in entries {
-        put_entry(out, *entry)?;
+    fn put<A: Allocator>(&self, out: &mut Vec<u8, A>) -> Result<(), AllocError> {
+        put_u32(out, self.0)?;
+        put_u32(out, self.1)
     }
-    Ok(())
 }
 
 /// Appends how many authors there are, and then each with its number. After a refusal what was there before is at the

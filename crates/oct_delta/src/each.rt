@@ -8,21 +8,20 @@ ghost use Rattle.oct_delta.specs.Delta.{format_of, encoded};
 ghost use Rattle.oct_delta.specs.Formats.{format};
 ghost use Rattle.oct_delta.specs.Writing.{Keeps};
 
-use crate::encoding::put_op;
 use crate::error::EncodeError;
 use crate::format::Edition;
-use crate::output::{put_bytes, put_u32};
+use crate::output::{Put, put_bytes, put_u32};
 use oct_ops::Op;
 use std::alloc::{AllocError, Allocator};
 use std::collections::btree_set::Iter;
 
 // Appends operations.
-fn put_each<A: Allocator>(out: &mut Vec<u8, A>, ops: Iter<'_, Op<A>>) -> Result<(), AllocError>
+fn put_ops<A: Allocator>(out: &mut Vec<u8, A>, ops: Iter<'_, Op<A>>) -> Result<(), AllocError>
     ensures ok { OnOk result (out.new.items ≡ out.old.items ++ flat_map op_bytes ops.entry) }
     ensures kept { Keeps out.old.items out.new.items }
 {
     for op in ops {
-        put_op(out, op)?;
+        op.put(out)?;
     }
     Ok(())
 }
@@ -60,7 +59,7 @@ fn put_set<A: Allocator>(out: &mut Vec<u8, A>, ops: Iter<'_, Op<A>>) -> Result<(
     let all = ops.clone()?;
     put_bytes(out, &edition_of_each(all).tag())?;
     put_u32(out, count)?;
-    put_each(out, ops)
+    put_ops(out, ops)
 }
 
 /// Appends the one text of the operations that are left of an iterator over a set, as `encode` does for a list. No

@@ -1,7 +1,7 @@
 //! Deltas as bytes.
 
 ghost use Rattle.std.specs.Prelude.{◌≡◌, ◌↔◌, ◌≤◌, ◌<◌, ◌^◌, ◌∷◌, ◌++◌, [], length, OnOk, OnErr, IsErrOf};
-ghost use Rattle.std.specs.List.{flat_map, list_all};
+ghost use Rattle.std.specs.List.{list_all};
 ghost use Rattle.oct_ops.specs.Limits.{keeps_old_limits};
 ghost use Rattle.oct_ops.specs.Views.{content};
 ghost use Rattle.oct_delta.specs.Text.{code_bytes, dot_bytes, block_bytes, note_bytes, period_bytes, removal_bytes, body_bytes, op_bytes, u16, u32};
@@ -11,18 +11,18 @@ ghost use Rattle.oct_delta.specs.Writing.{Keeps};
 
 use crate::error::EncodeError;
 use crate::format::Edition;
-use crate::output::{put_byte, put_bytes, put_u16, put_u32};
+use crate::output::{Put, put_byte, put_bytes, put_each, put_u16, put_u32};
 use oct_code::Code;
 use oct_ops::{Block, Body, Dot, Note, Op, OpList, Period, Removal};
 use std::alloc::{AllocError, Allocator};
 
-// Appends a dot.
-fn put_dot<A: Allocator>(out: &mut Vec<u8, A>, dot: Dot) -> Result<(), AllocError>
-    ensures ok { OnOk result (out.new.items ≡ out.old.items ++ dot_bytes dot) }
-    ensures kept { Keeps out.old.items out.new.items }
-{
-    put_u32(out, dot.author())?;
-    put_u32(out, dot.number())
+impl Put for Dot {
+    ghost spelled = { dot_bytes };
+
+    fn put<A: Allocator>(&self, out: &mut Vec<u8, A>) -> Result<(), AllocError> {
+        put_u32(out, self.author())?;
+        put_u32(out, self.number())
+    }
 }
 
 // Appends a code: head, number of digits, digits.
@@ -35,19 +35,11 @@ fn put_code<A: Allocator>(out: &mut Vec<u8, A>, code: Code) -> Result<(), AllocE
     put_bytes(out, code.digits())
 }
 
-// Appends numbers of 32 bits.
-fn put_numbers<A: Allocator>(out: &mut Vec<u8, A>, numbers: &[u32]) -> Result<(), AllocError>
-    ensures ok { OnOk result (out.new.items ≡ out.old.items ++ flat_map u32 numbers.now) }
-    ensures kept { Keeps out.old.items out.new.items }
-{
-    for number in numbers {
-        put_u32(out, *number)?;
-    }
-    Ok(())
-}
-
 // Appends a block.
-fn put_block<A: Allocator>(out: &mut Vec<u8, A>, block: &Block<A>) -> Result<(), AllocError>
+fn put_block<A: Allocator, B: Allocator>(
+    out: &mut Vec<u8, A>,
+    block: &Block<B>,
+) -> Result<(), AllocError>
     ensures ok { OnOk result (out.new.items ≡ out.old.items ++ block_bytes block.now) }
     ensures kept { Keeps out.old.items out.new.items }
 {
@@ -55,7 +47,7 @@ fn put_block<A: Allocator>(out: &mut Vec<u8, A>, block: &Block<A>) -> Result<(),
     put_code(out, block.code())?;
     put_u32(out, block.start())?;
     put_u16(out, values.len() as u16)?;
-    put_numbers(out, values)
+    put_each(out, values)
 }
 
 // Appends a period claim.
@@ -69,7 +61,10 @@ fn put_period<A: Allocator>(out: &mut Vec<u8, A>, period: &Period) -> Result<(),
 }
 
 // Appends a note.
-fn put_note<A: Allocator>(out: &mut Vec<u8, A>, note: &Note<A>) -> Result<(), AllocError>
+fn put_note<A: Allocator, B: Allocator>(
+    out: &mut Vec<u8, A>,
+    note: &Note<B>,
+) -> Result<(), AllocError>
     ensures ok { OnOk result (out.new.items ≡ out.old.items ++ note_bytes note.now) }
     ensures kept { Keeps out.old.items out.new.items }
 {
@@ -81,29 +76,24 @@ fn put_note<A: Allocator>(out: &mut Vec<u8, A>, note: &Note<A>) -> Result<(), Al
     put_bytes(out, text)
 }
 
-// Appends dots.
-fn put_dots<A: Allocator>(out: &mut Vec<u8, A>, dots: &[Dot]) -> Result<(), AllocError>
-    ensures ok { OnOk result (out.new.items ≡ out.old.items ++ flat_map dot_bytes dots.now) }
-    ensures kept { Keeps out.old.items out.new.items }
-{
-    for dot in dots {
-        put_dot(out, *dot)?;
-    }
-    Ok(())
-}
-
 // Appends a removal.
-fn put_removal<A: Allocator>(out: &mut Vec<u8, A>, removal: &Removal<A>) -> Result<(), AllocError>
+fn put_removal<A: Allocator, B: Allocator>(
+    out: &mut Vec<u8, A>,
+    removal: &Removal<B>,
+) -> Result<(), AllocError>
     ensures ok { OnOk result (out.new.items ≡ out.old.items ++ removal_bytes removal.now) }
     ensures kept { Keeps out.old.items out.new.items }
 {
     let dots = removal.dots();
     put_u16(out, dots.len() as u16)?;
-    put_dots(out, dots)
+    put_each(out, dots)
 }
 
 // Appends a body, without its kind.
-fn put_body<A: Allocator>(out: &mut Vec<u8, A>, body: &Body<A>) -> Result<(), AllocError>
+fn put_body<A: Allocator, B: Allocator>(
+    out: &mut Vec<u8, A>,
+    body: &Body<B>,
+) -> Result<(), AllocError>
     ensures ok { OnOk result (out.new.items ≡ out.old.items ++ body_bytes (content body.now)) }
     ensures kept { Keeps out.old.items out.new.items }
 {
@@ -115,25 +105,14 @@ fn put_body<A: Allocator>(out: &mut Vec<u8, A>, body: &Body<A>) -> Result<(), Al
     }
 }
 
-/// Appends an operation. After a refusal what was there before is at the front.
-pub(crate) fn put_op<A: Allocator>(out: &mut Vec<u8, A>, op: &Op<A>) -> Result<(), AllocError>
-    ensures ok { OnOk result (out.new.items ≡ out.old.items ++ op_bytes op.now) }
-    ensures kept { Keeps out.old.items out.new.items }
-{
-    put_dot(out, op.dot())?;
-    put_byte(out, op.body().kind())?;
-    put_body(out, op.body())
-}
+impl<B: Allocator> Put for Op<B> {
+    ghost spelled = { op_bytes };
 
-// Appends operations.
-fn put_ops<A: Allocator>(out: &mut Vec<u8, A>, ops: &[Op<A>]) -> Result<(), AllocError>
-    ensures ok { OnOk result (out.new.items ≡ out.old.items ++ flat_map op_bytes ops.now) }
-    ensures kept { Keeps out.old.items out.new.items }
-{
-    for op in ops {
-        put_op(out, op)?;
+    fn put<A: Allocator>(&self, out: &mut Vec<u8, A>) -> Result<(), AllocError> {
+        self.dot().put(out)?;
+        put_byte(out, self.body().kind())?;
+        put_body(out, self.body())
     }
-    Ok(())
 }
 
 // Whether each operation keeps the limits of the first edition.
@@ -162,7 +141,7 @@ fn put_delta<A: Allocator>(out: &mut Vec<u8, A>, ops: &[Op<A>]) -> Result<(), Al
 {
     put_bytes(out, &edition_of(ops).tag())?;
     put_u32(out, ops.len() as u32)?;
-    put_ops(out, ops)
+    put_each(out, ops)
 }
 
 /// Appends the one text of a list that is written to `out`: in the old format where all operations keep its

@@ -4,9 +4,9 @@ ghost use Rattle.std.specs.Prelude.{◌≡◌, ◌==◌, ◌≤◌, length, IfOk
 ghost use Rattle.std.specs.Int.{w16, w32};
 ghost use Rattle.oct_ops.specs.DotOrder.{dot_cmp};
 ghost use Rattle.oct_delta.specs.Bytes.{IsBytes};
-ghost use Rattle.oct_delta.specs.Reading.{Gives, byte_at, number_at, bytes_at, code_at, dot_at, front_at, is_span, note_at, period_at, follows, next_at, dot_count_at};
+ghost use Rattle.oct_delta.specs.Reading.{Gives, byte_at, number_at, bytes_at, code_at, dot_at, front_at, is_range, note_at, period_at, follows, next_at, dot_count_at};
 
-use crate::fault::Fault;
+use crate::fault::TextFault;
 use byteorder::{BigEndian, ByteOrder};
 use oct_code::{Code, LIMIT};
 use oct_ops::{Dot, MAX_ITEMS, Period, is_name, is_text};
@@ -69,11 +69,11 @@ impl<'a> Input<'a> {
     }
 
     /// A byte.
-    pub(crate) fn byte(&mut self) -> Result<u8, Fault>
+    pub(crate) fn byte(&mut self) -> Result<u8, TextFault>
         ensures { Gives (λ x. (x, self.new)) result (byte_at self.old) }
     {
         match self.bytes {
-            [] => Err(Fault::Short),
+            [] => Err(TextFault::Short),
             [byte, rest @ ..] => {
                 self.bytes = rest;
                 Ok(*byte)
@@ -82,11 +82,11 @@ impl<'a> Input<'a> {
     }
 
     /// So many bytes.
-    pub(crate) fn bytes(&mut self, count: usize) -> Result<&'a [u8], Fault>
+    pub(crate) fn bytes(&mut self, count: usize) -> Result<&'a [u8], TextFault>
         ensures { Gives (λ x. (x.now, self.new)) result (bytes_at count self.old) }
     {
         if self.bytes.len() < count {
-            return Err(Fault::Short);
+            return Err(TextFault::Short);
         }
         let (front, rest) = self.bytes.split_at(count);
         self.bytes = rest;
@@ -95,7 +95,7 @@ impl<'a> Input<'a> {
 
     /// A number of 16 bits, big-endian.
     #[tactic(auto, using(crate::proofs::Numbers::big_u16))]
-    pub(crate) fn u16(&mut self) -> Result<u16, Fault>
+    pub(crate) fn u16(&mut self) -> Result<u16, TextFault>
         ensures { Gives (λ x. (x, self.new)) result (number_at w16 self.old) }
     {
         let front = self.bytes(2)?;
@@ -104,7 +104,7 @@ impl<'a> Input<'a> {
 
     /// A number of 32 bits, big-endian.
     #[tactic(auto, using(crate::proofs::Numbers::big_u32))]
-    pub(crate) fn u32(&mut self) -> Result<u32, Fault>
+    pub(crate) fn u32(&mut self) -> Result<u32, TextFault>
         ensures { Gives (λ x. (x, self.new)) result (number_at w32 self.old) }
     {
         let front = self.bytes(4)?;
@@ -113,7 +113,7 @@ impl<'a> Input<'a> {
 
     /// A code: head, number of digits, digits.
     #[tactic(auto, unfolding(crate::specs::Reading::code_at))]
-    pub(crate) fn code(&mut self) -> Result<Code, Fault>
+    pub(crate) fn code(&mut self) -> Result<Code, TextFault>
         ensures { Gives (λ x. (x, self.new)) result (code_at self.old) }
     {
         let head = self.byte()?;
@@ -121,56 +121,56 @@ impl<'a> Input<'a> {
         let digits = self.bytes(count as usize)?;
         match Code::from_digits(head, digits) {
             Ok(code) => Ok(code),
-            Err(_) => Err(Fault::Malformed),
+            Err(_) => Err(TextFault::Malformed),
         }
     }
 
     /// A dot.
     #[tactic(auto, unfolding(crate::specs::Reading::dot_at))]
-    pub(crate) fn dot(&mut self) -> Result<Dot, Fault>
+    pub(crate) fn dot(&mut self) -> Result<Dot, TextFault>
         ensures { Gives (λ x. (x, self.new)) result (dot_at self.old) }
     {
         let author = self.u32()?;
         let number = self.u32()?;
         match Dot::new(author, number) {
             Ok(dot) => Ok(dot),
-            Err(_) => Err(Fault::Malformed),
+            Err(_) => Err(TextFault::Malformed),
         }
     }
 
     /// What stands before the values of a block, whose places are below the limit.
     #[tactic(auto, unfolding(crate::specs::Reading::front_at))]
-    pub(crate) fn front(&mut self, limit: usize) -> Result<Front, Fault>
+    pub(crate) fn front(&mut self, limit: usize) -> Result<Front, TextFault>
         requires { limit ≤ LIMIT }
         ensures value { Gives (λ x. (x, self.new)) result (front_at limit self.old) }
-        ensures range { IfOk result (λ x. IsTrue (is_span limit x.start x.count)) }
+        ensures range { IfOk result (λ x. IsTrue (is_range limit x.start x.count)) }
     {
         let code = self.code()?;
         let start = self.u32()?;
         let count = self.u16()?;
-        if !is_span(limit, start, count) {
-            return Err(Fault::Malformed);
+        if !is_range(limit, start, count) {
+            return Err(TextFault::Malformed);
         }
         Ok(Front { code, start, count })
     }
 
     /// A period claim, whose start and period are at most the limit.
     #[tactic(auto, unfolding(crate::specs::Reading::period_at))]
-    pub(crate) fn period(&mut self, limit: usize) -> Result<Period, Fault>
+    pub(crate) fn period(&mut self, limit: usize) -> Result<Period, TextFault>
         ensures { Gives (λ x. (x, self.new)) result (period_at limit self.old) }
     {
         let code = self.code()?;
         let start = self.u32()?;
-        let span = self.u32()?;
-        match Period::new(code, start, span) {
-            Ok(period) if start as usize <= limit && span as usize <= limit => Ok(period),
-            _ => Err(Fault::Malformed),
+        let period = self.u32()?;
+        match Period::new(code, start, period) {
+            Ok(claim) if start as usize <= limit && period as usize <= limit => Ok(claim),
+            _ => Err(TextFault::Malformed),
         }
     }
 
     /// The name and the text of a note.
     #[tactic(auto, unfolding(crate::specs::Reading::note_at))]
-    pub(crate) fn words(&mut self) -> Result<Words<'a>, Fault>
+    pub(crate) fn words(&mut self) -> Result<Words<'a>, TextFault>
         ensures { Gives (λ x. (record { name = x.name.now; text = x.text.now }, self.new)) result (note_at self.old) }
     {
         let name_length = self.byte()?;
@@ -178,39 +178,39 @@ impl<'a> Input<'a> {
         let text_length = self.byte()?;
         let text = self.bytes(text_length as usize)?;
         if !is_name(name) || !is_text(text) {
-            return Err(Fault::Malformed);
+            return Err(TextFault::Malformed);
         }
         Ok(Words { name, text })
     }
 
     /// A dot above the one before.
     #[tactic(auto, unfolding(crate::specs::Reading::next_at))]
-    pub(crate) fn next_dot(&mut self, before: Option<Dot>) -> Result<Dot, Fault>
+    pub(crate) fn next_dot(&mut self, before: Option<Dot>) -> Result<Dot, TextFault>
         ensures { Gives (λ x. (x, self.new)) result (next_at dot_cmp dot_at before self.old) }
     {
         let dot = self.dot()?;
         if !dot_follows(before, dot) {
-            return Err(Fault::Malformed);
+            return Err(TextFault::Malformed);
         }
         Ok(dot)
     }
 
     /// How many dots a removal has: 1 to `MAX_ITEMS`.
     #[tactic(auto, unfolding(crate::specs::Reading::dot_count_at))]
-    pub(crate) fn dot_count(&mut self) -> Result<u16, Fault>
+    pub(crate) fn dot_count(&mut self) -> Result<u16, TextFault>
         ensures { Gives (λ x. (x, self.new)) result (dot_count_at self.old) }
     {
         let count = self.u16()?;
         if count == 0 || count as usize > MAX_ITEMS {
-            return Err(Fault::Malformed);
+            return Err(TextFault::Malformed);
         }
         Ok(count)
     }
 }
 
 // Whether a block may have so many values from the start on.
-fn is_span(limit: usize, start: u32, count: u16) -> bool
-    ensures { result ≡ is_span limit start count }
+fn is_range(limit: usize, start: u32, count: u16) -> bool
+    ensures { result ≡ is_range limit start count }
 {
     count >= 1 && count as usize <= MAX_ITEMS && start as usize + count as usize <= limit
 }

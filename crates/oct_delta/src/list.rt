@@ -4,14 +4,14 @@ ghost use Rattle.std.specs.Prelude.{◌≡◌, ◌≤◌, List, IfOk, IfErr, OnO
 ghost use Rattle.oct_ops.specs.Body.{Operation};
 ghost use Rattle.oct_delta.specs.Delta.{IsList};
 
-use crate::fault::{Fault, ReadError};
+use crate::fault::{ReadError, TextFault};
 use crate::input::Input;
 use oct_code::LIMIT;
 use oct_ops::Op;
 use std::alloc::Allocator;
 
 /// Whether the bytes are the text of a rising list of operations, without memory.
-pub(crate) fn check_list(limit: usize, bytes: &[u8]) -> Result<(), Fault>
+pub(crate) fn check_list(limit: usize, bytes: &[u8]) -> Result<(), TextFault>
     requires { limit ≤ LIMIT }
     ensures ok { OnOk result ((ops : List Operation) × IsList limit bytes.now ops) }
     ensures err { OnErr result ((ops : List Operation) → IsList limit bytes.now ops → ⊥) }
@@ -20,7 +20,7 @@ pub(crate) fn check_list(limit: usize, bytes: &[u8]) -> Result<(), Fault>
     let count = input.u32()?;
     input.skip_ops(limit, count)?;
     if !input.is_empty() {
-        return Err(Fault::Malformed);
+        return Err(TextFault::Malformed);
     }
     Ok(())
 }

@@ -1,7 +1,8 @@
 //! Bytes and numbers at the end of a vector. A refusal leaves what was there before at the front.
 
 ghost use Rattle.std.specs.Prelude.{◌≡◌, ◌∷◌, ◌++◌, [], OnOk};
-ghost use Rattle.oct_delta.specs.Text.{u16, u32};
+ghost use Rattle.std.specs.List.{flat_map};
+ghost use Rattle.oct_delta.specs.Text.{Bytes, u16, u32};
 ghost use Rattle.oct_delta.specs.Writing.{Keeps};
 
 use byteorder::{BigEndian, ByteOrder};
@@ -42,4 +43,36 @@ pub fn put_u32<A: Allocator>(out: &mut Vec<u8, A>, number: u32) -> Result<(), Al
     let mut bytes = [0; 4];
     BigEndian::write_u32(&mut bytes, number);
     put_bytes(out, &bytes)
+}
+
+/// What may stand in a text many times, one after the other.
+pub(crate) trait Put {
+    ghost spelled: { Self → Bytes };
+
+    /// Appends its bytes. After a refusal what was there before is at the front.
+    fn put<A: Allocator>(&self, out: &mut Vec<u8, A>) -> Result<(), AllocError>
+        ensures ok { OnOk result (out.new.items ≡ out.old.items ++ spelled self.now) }
+        ensures kept { Keeps out.old.items out.new.items };
+}
+
+impl Put for u32 {
+    ghost spelled = { u32 };
+
+    fn put<A: Allocator>(&self, out: &mut Vec<u8, A>) -> Result<(), AllocError> {
+        put_u32(out, *self)
+    }
+}
+
+/// Appends the bytes of each item.
+pub(crate) fn put_each<P: Put, A: Allocator>(
+    out: &mut Vec<u8, A>,
+    items: &[P],
+) -> Result<(), AllocError>
+    ensures ok { OnOk result (out.new.items ≡ out.old.items ++ flat_map P.spelled items.now) }
+    ensures kept { Keeps out.old.items out.new.items }
+{
+    for item in items {
+        item.put(out)?;
+    }
+    Ok(())
 }

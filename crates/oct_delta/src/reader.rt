@@ -12,7 +12,7 @@ use crate::error::DeltaError;
 use crate::fault::ReadError;
 use crate::format::split_tag;
 use crate::input::Input;
-use crate::state::{Progress, State};
+use crate::state::{Progress, ReaderState};
 use oct_ops::{Op, OpList};
 use std::alloc::{AllocError, Allocator};
 use std::marker::Model;
@@ -34,7 +34,10 @@ fn keep_from<A: Allocator + Copy>(
 }
 
 // Takes the operations that are whole from the front of the rest.
-fn read_on<A: Allocator + Copy>(alloc: A, progress: Progress<A>) -> Result<State<A>, DeltaError>
+fn read_on<A: Allocator + Copy>(
+    alloc: A,
+    progress: Progress<A>,
+) -> Result<ReaderState<A>, DeltaError>
     requires { BeginsList (format progress.edition).limit progress.count progress.ops.items }
     ensures { Tells result (begun_bytes progress.edition progress.count progress.ops.items progress.rest.items) }
 {
@@ -55,7 +58,7 @@ fn read_on<A: Allocator + Copy>(alloc: A, progress: Progress<A>) -> Result<State
     }
     let taken = rest.len() - input.rest().len();
     let rest = keep_from(alloc, rest, taken)?;
-    Ok(State::Reading(Progress {
+    Ok(ReaderState::Reading(Progress {
         edition,
         count,
         ops,
@@ -64,18 +67,18 @@ fn read_on<A: Allocator + Copy>(alloc: A, progress: Progress<A>) -> Result<State
 }
 
 // Reads the tag and the count where they are there.
-fn begin<A: Allocator + Copy>(alloc: A, bytes: Vec<u8, A>) -> Result<State<A>, DeltaError>
+fn begin<A: Allocator + Copy>(alloc: A, bytes: Vec<u8, A>) -> Result<ReaderState<A>, DeltaError>
     ensures { Tells result bytes.items }
 {
     if bytes.len() < 4 {
-        return Ok(State::Begun(bytes));
+        return Ok(ReaderState::Begun(bytes));
     }
     let Some((edition, list)) = split_tag(&bytes) else {
         return Err(DeltaError::Version);
     };
     let mut input = Input::new(list);
     let Ok(count) = input.u32() else {
-        return Ok(State::Begun(bytes));
+        return Ok(ReaderState::Begun(bytes));
     };
     let rest = Vec::from_slice(alloc, input.rest())?;
     let ops = Vec::new(alloc);
@@ -93,28 +96,28 @@ fn begin<A: Allocator + Copy>(alloc: A, bytes: Vec<u8, A>) -> Result<State<A>, D
 // The state after a piece.
 fn advance<A: Allocator + Copy>(
     alloc: A,
-    state: State<A>,
+    state: ReaderState<A>,
     piece: &[u8],
-) -> Result<State<A>, DeltaError>
+) -> Result<ReaderState<A>, DeltaError>
     requires { IsReaderState state }
     ensures failed { IsErrOf result DeltaError.Failed ↔ (fed state ≡ None) }
     ensures tells { IfSome (fed state) (λ bytes. Tells result (bytes ++ piece.now)) }
 {
     match state {
-        State::Begun(mut bytes) => {
+        ReaderState::Begun(mut bytes) => {
             bytes.extend_from_slice(piece)?;
             begin(alloc, bytes)
         }
-        State::Reading(mut progress) => {
+        ReaderState::Reading(mut progress) => {
             progress.rest.extend_from_slice(piece)?;
             read_on(alloc, progress)
         }
-        State::Failed => Err(DeltaError::Failed),
+        ReaderState::Failed => Err(DeltaError::Failed),
     }
 }
 
 // What is whole when no piece comes any more.
-fn end<A: Allocator + Copy>(state: State<A>) -> Result<OpList<A>, DeltaError>
+fn end<A: Allocator + Copy>(state: ReaderState<A>) -> Result<OpList<A>, DeltaError>
     requires { IsReaderState state }
     ensures ok { IfOk result (λ ops. IfSome (fed state) (λ bytes. IsDeltaText bytes ops)) }
     ensures version { IsErrOf result DeltaError.Version → IfSome (fed state) (λ bytes. format_at bytes ≡ None) }
@@ -123,20 +126,20 @@ fn end<A: Allocator + Copy>(state: State<A>) -> Result<OpList<A>, DeltaError>
     ensures memory { ¬ IsErrOf result DeltaError.OutOfMemory }
 {
     match state {
-        State::Begun(bytes) => {
+        ReaderState::Begun(bytes) => {
             if bytes.len() < 4 {
                 return Err(DeltaError::Version);
             }
             Err(DeltaError::Refused)
         }
-        State::Reading(progress) => {
+        ReaderState::Reading(progress) => {
             let Progress { count, ops, .. } = progress;
             if ops.len() < count as usize {
                 return Err(DeltaError::Refused);
             }
             Ok(OpList::of_rising(ops))
         }
-        State::Failed => Err(DeltaError::Failed),
+        ReaderState::Failed => Err(DeltaError::Failed),
     }
 }
 
@@ -146,7 +149,7 @@ fn end<A: Allocator + Copy>(state: State<A>) -> Result<OpList<A>, DeltaError>
 #[derive(Drop)]
 pub struct Reader<A: Allocator + Copy> {
     alloc: A,
-    state: State<A>,
+    state: ReaderState<A>,
 }
 
 impl<A: Allocator + Copy> Model for Reader<A> {
@@ -168,7 +171,7 @@ impl<A: Allocator + Copy> Reader<A> {
     {
         Reader {
             alloc,
-            state: State::Begun(Vec::new(alloc)),
+            state: ReaderState::Begun(Vec::new(alloc)),
         }
     }
 
@@ -185,7 +188,7 @@ impl<A: Allocator + Copy> Reader<A> {
         ensures failed { IsErrOf result DeltaError.Failed ↔ (self.old ≡ None) }
         ensures err { OnErr result (self.new ≡ None) }
     {
-        let state = mem::replace(&mut self.state, State::Failed);
+        let state = mem::replace(&mut self.state, ReaderState::Failed);
         self.state = advance(self.alloc, state, piece)?;
         Ok(())
     }
@@ -196,7 +199,7 @@ impl<A: Allocator + Copy> Reader<A> {
         ensures none { self.now ≡ None → result.now ≡ [] }
     {
         match &self.state {
-            State::Reading(progress) => &progress.ops,
+            ReaderState::Reading(progress) => &progress.ops,
             _ => &[],
         }
     }

@@ -15,7 +15,7 @@ pub(crate) struct Progress<A: Allocator> {
 
 /// How far a reader is.
 #[derive(Drop)]
-pub(crate) enum State<A: Allocator> {
+pub(crate) enum ReaderState<A: Allocator> {
     /// Fewer than eight bytes have come.
     Begun(Vec<u8, A>),
     /// The tag and the count have come.

@@ -5,7 +5,7 @@ ghost use Rattle.oct_ops.specs.Order.{op_cmp};
 ghost use Rattle.oct_delta.specs.Reading.{GivesIfRoom, follows, next_op_at, with_front};
 ghost use Rattle.oct_delta.specs.Streaming.{last_of, GivesNext, whole_at};
 
-use crate::fault::{Fault, ReadError};
+use crate::fault::{ReadError, TextFault};
 use crate::input::Input;
 use oct_code::LIMIT;
 use oct_ops::Op;
@@ -36,18 +36,18 @@ impl<'a> Input<'a> {
         let mut ahead = Input::new(self.rest());
         match ahead.skip_op(limit) {
             Ok(()) => {}
-            Err(Fault::Short) => return Ok(None),
-            Err(Fault::Malformed) => return Err(ReadError::Fault(Fault::Malformed)),
+            Err(TextFault::Short) => return Ok(None),
+            Err(TextFault::Malformed) => return Err(ReadError::Fault(TextFault::Malformed)),
         }
         match self.op(alloc, limit) {
             Ok(op) => {
                 if !follows(ops, &op) {
-                    return Err(ReadError::Fault(Fault::Malformed));
+                    return Err(ReadError::Fault(TextFault::Malformed));
                 }
                 Ok(Some(op))
             }
             Err(ReadError::Memory) => Err(ReadError::Memory),
-            Err(ReadError::Fault(_)) => Err(ReadError::Fault(Fault::Malformed)),
+            Err(ReadError::Fault(_)) => Err(ReadError::Fault(TextFault::Malformed)),
         }
     }
 

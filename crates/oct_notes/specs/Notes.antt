@@ -1,7 +1,6 @@
 -- Which notes are live. The operations are listed in their order.
 use Rattle.std.specs.Prelude.{◌≡◌, ℕ, nat_eq, Bool, true, false, not, ◌&&◌, List, [], map, IsTrue}
 use Rattle.std.specs.List.{list_any, list_all, filter}
-use Rattle.std.specs.List.Sorted.{IsStrictlySortedBy}
 use Rattle.std.specs.declared.cmp.Ordering.{Ordering}
 use Rattle.std.specs.Ordering.{nat_cmp, then_cmp, on, eq_by_cmp}
 use Rattle.std.specs.Cmp.Lexicographic.{slice_cmp, pointwise}
@@ -10,7 +9,7 @@ use Rattle.oct_ops.specs.Body.{Body, Operation}
 use Rattle.oct_ops.specs.Body as kind
 use Rattle.oct_ops.specs.DotOrder.{dot_cmp}
 use Rattle.oct_ops.specs.Operation.{Dot}
-use Rattle.oct_ops.specs.Operations.{Operations, keep}
+use Rattle.oct_ops.specs.Operations.{Operations, keep, listed}
 use Rattle.oct_ops.specs.Order.{op_cmp}
 
 abbrev pub is_note : Body → Bool
@@ -30,10 +29,9 @@ concerns_notes (kind.Removal r) = true
 abbrev pub notes_of : Operations → Operations
 notes_of ops = keep (λ o. concerns_notes o.body) ops
 
--- strictly rising, all of them notes and removals
-pub record AreNotes (ops : List Operation) : Type 0 where
-  pub rising : IsStrictlySortedBy op_cmp ops
-  pub kinds : IsTrue (list_all (λ o. concerns_notes o.body) ops)
+-- all of the set are notes and removals
+abbrev pub AreNotes : Operations → Type 0
+AreNotes ops = IsTrue (list_all (λ o. concerns_notes o.body) (listed ops))
 
 -- the name of a note; others have none
 abbrev pub name_of : Body → List ℕ

@@ -8,11 +8,11 @@ ghost use Rattle.oct_join.specs.SetBounds.{subset_order, union_bound};
 ghost use Rattle.oct_notes.specs.Notes as spec;
 
 use crate::removed::Removed;
-use oct_join::Join;
+use oct_join::{Join, OpSet};
 use oct_ops::{Body, Dot, Op};
 use std::alloc::{AllocError, Allocator};
 use std::cmp::Ordering;
-use std::collections::{BTreeSet, btree_set};
+use std::collections::btree_set;
 use std::marker::Model;
 
 /// A finite set of notes and removals, in memory of `A`: an observed-remove set (Shapiro et al. 2011). Operations are the
@@ -29,21 +29,21 @@ use std::marker::Model;
 /// each note.
 #[derive(Drop)]
 pub struct Notes<A: Allocator + Copy> {
-    ops: BTreeSet<Op<A>, A>,
+    ops: OpSet<A>,
     alloc: A,
 }
 
 impl<A: Allocator + Copy> Model for Notes<A> {
-    ghost use Rattle.oct_ops.specs.Operations.{Operations, operations_code, set_of};
+    ghost use Rattle.oct_ops.specs.Operations.{Operations, operations_code};
     ghost use Rattle.oct_notes.specs.Notes.{AreNotes};
 
     ghost Value = { Operations };
 
     ghost coded = { operations_code };
 
-    ghost view = { λ n. set_of n.ops.keys };
+    ghost view = { λ n. n.ops };
 
-    ghost invariant = { λ n. AreNotes n.ops.keys };
+    ghost invariant = { λ n. AreNotes n.ops };
 }
 
 impl<A: Allocator + Copy> Notes<A> {
@@ -52,7 +52,7 @@ impl<A: Allocator + Copy> Notes<A> {
         ensures { result ≡ empty }
     {
         Notes {
-            ops: BTreeSet::new(alloc),
+            ops: OpSet::new(alloc),
             alloc,
         }
     }
@@ -68,7 +68,7 @@ impl<A: Allocator + Copy> Notes<A> {
     pub fn is_empty(&self) -> bool
         ensures { IsTrue result ↔ (length (listed self.now) ≡ 0) }
     {
-        self.len() == 0
+        self.ops.is_empty()
     }
 
     /// Whether the operation is there, with this dot and this body.
@@ -92,7 +92,7 @@ impl<A: Allocator + Copy> Notes<A> {
     {
         match self.ops.insert(op) {
             Ok(_) => Ok(()),
-            Err(refused) => Err((AllocError, refused.value)),
+            Err(refused) => Err(refused),
         }
     }
 
@@ -104,14 +104,7 @@ impl<A: Allocator + Copy> Notes<A> {
         ensures err { OnErr result (self.new ≡ self.old) }
         ensures absent { OnErr result (contains self.old op.now ≡ false) }
     {
-        if self.contains(op) {
-            return Ok(());
-        }
-        let copy = op.copy(self.alloc)?;
-        match self.insert(copy) {
-            Ok(()) => Ok(()),
-            Err((refused, _)) => Err(refused),
-        }
+        self.ops.add(op)
     }
 
     /// Takes the operation out again, if it is there.
@@ -168,8 +161,7 @@ impl<A: Allocator + Copy> Notes<A> {
 
     // The operations in their order.
     fn iter(&self) -> btree_set::Iter<'_, Op<A>>
-        ensures value { result ≡ listed self.now }
-        ensures kind { spec.AreNotes (listed self.now) }
+        ensures { result ≡ listed self.now }
     {
         self.ops.iter()
     }
@@ -221,10 +213,7 @@ impl<A: Allocator + Copy> Join for Notes<A> {
     ghost bound = { union };
 
     fn join(&mut self, other: &Notes<A>) -> Result<(), AllocError> {
-        for op in other.iter() {
-            self.add(op)?;
-        }
-        Ok(())
+        self.ops.join(&other.ops)
     }
 
     ghost order = { subset_order op_cmp_total op_cmp_exact };

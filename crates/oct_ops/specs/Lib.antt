@@ -4,6 +4,7 @@ pub mod Body
 pub mod Codes
 pub mod DotOrder
 pub mod Faults
+pub mod Games
 pub mod Laws
 pub mod Limits
 pub mod ListOrder

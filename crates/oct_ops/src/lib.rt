@@ -15,6 +15,7 @@ mod block;
 mod dot;
 mod error;
 mod items;
+pub mod kinds;
 pub mod laws;
 mod limits;
 mod note;

@@ -1,6 +1,7 @@
 //! Operations, and their order.
 
 ghost use Rattle.std.specs.Prelude.{◌≡◌, true, IfOk};
+ghost use Rattle.oct_ops.specs.Games.{game_of_body};
 ghost use Rattle.oct_ops.specs.Limits.{keeps_old_limits};
 ghost use Rattle.oct_ops.specs.Order as order;
 ghost use Rattle.oct_ops.specs.Valid.{IsBody, IsDot, IsOp};
@@ -8,10 +9,11 @@ ghost use Rattle.oct_ops.specs.Views.{content};
 
 use crate::block::Block;
 use crate::dot::Dot;
+use crate::kinds;
 use crate::note::Note;
 use crate::period::Period;
 use crate::removal::Removal;
-use oct_code::OLD_LIMIT;
+use oct_code::{Code, OLD_LIMIT};
 use std::alloc::{AllocError, Allocator};
 use std::cmp::Ordering;
 use std::marker::Model;
@@ -81,15 +83,26 @@ fn is_valid_dot(dot: &Dot) -> bool
 }
 
 impl<A: Allocator> Body<A> {
+    /// The game of a block or a period claim. Notes and removals are of none.
+    pub fn code(&self) -> Option<Code>
+        ensures { result ≡ game_of_body (content self.now) }
+    {
+        match self {
+            Body::Block(block) => Some(block.code()),
+            Body::Period(period) => Some(period.code()),
+            Body::Note(_) | Body::Removal(_) => None,
+        }
+    }
+
     /// The number that stands for the kind in texts.
     pub fn kind(&self) -> u8
         ensures { result ≡ order.kind_of (content self.now) }
     {
         match self {
-            Body::Block(_) => 1,
-            Body::Period(_) => 2,
-            Body::Note(_) => 3,
-            Body::Removal(_) => 4,
+            Body::Block(_) => kinds::BLOCK,
+            Body::Period(_) => kinds::PERIOD,
+            Body::Note(_) => kinds::NOTE,
+            Body::Removal(_) => kinds::REMOVAL,
         }
     }
 }

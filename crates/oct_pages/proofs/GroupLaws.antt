@@ -3,6 +3,7 @@ use Rattle.std.proofs.Common.{◌≡◌, Bool, true, false, List, [], ◌∷◌,
 use Rattle.std.specs.Borrow.{Bor}
 use Rattle.std.specs.Prelude.{Vec, filter, unwrap_or}
 use Rattle.std.specs.List.{cons_option}
+use Rattle.std.specs.Option.{option_eq}
 use Rattle.std.specs.Ordering.{eq_by_cmp}
 use Rattle.std.specs.Cmp.{Equal-is}
 use Rattle.std.proofs.lemmas.List.{append-nil}
@@ -11,8 +12,8 @@ use Rattle.oct_code.specs.CodeOrder.{code_cmp_exact}
 use Rattle.oct_ops.specs.Body.{Body, Operation}
 use Rattle.oct_ops.specs.Body as kind
 use Rattle.oct_ops.specs.Operation.{Dot, Period}
-use Rattle.oct_store.specs.Summary.{is_of_game, of_code}
-use Rattle.oct_pages.specs.Catalogue.{Text, block_in, block_of_game, blocks_of, claim_in, claim_of_game, claims_of, game_of_body, if_some, under}
+use Rattle.oct_ops.specs.Games.{game_of_body, is_of_game, of_code}
+use Rattle.oct_pages.specs.Catalogue.{Text, block_in, block_of_game, blocks_of, claim_in, claim_of_game, claims_of, if_some, under}
 use Rattle.oct_pages.specs.Groups.{Groups, after, among, found, group_of, grown, if_any, lent, or_none}
 
 -- the groups are those of some first operations, and the rest is still to be grouped
@@ -40,22 +41,10 @@ any-end [] o = refl
 any-end (p ∷ ops) o = refl
 
 of_game : (q : Code) (o : Operation) (code : Code) → Some code ≡ game_of_body o.body → of_code q o ≡ code_eq code q
-of_game q o code is = of_body q o.body code is
-  where
-    of_body : (q : Code) (body : Body) (code : Code) → Some code ≡ game_of_body body → is_of_game q body ≡ code_eq code q
-    of_body q (kind.Block b) code is = ap (λ m. code_eq (unwrap_or m code) q) (sym is)
-    of_body q (kind.Period p) code is = ap (λ m. code_eq (unwrap_or m code) q) (sym is)
-    of_body q (kind.Note n) code is = cc
-    of_body q (kind.Removal r) code is = cc
+of_game q o code is = sym (ap (λ game. option_eq code_eq game (Some q)) is)
 
 of_none : (q : Code) (o : Operation) → None ≡ game_of_body o.body → of_code q o ≡ false
-of_none q o none = of_body q o.body none
-  where
-    of_body : (q : Code) (body : Body) → None ≡ game_of_body body → is_of_game q body ≡ false
-    of_body q (kind.Block b) none = cc
-    of_body q (kind.Period p) none = cc
-    of_body q (kind.Note n) none = refl
-    of_body q (kind.Removal r) none = refl
+of_none q o none = sym (ap (λ game. option_eq code_eq game (Some q)) none)
 
 -- what is found after the block was added, by whether it is one of the game
 found_next : (done : List Operation) (q : Code) (o : Operation) (code : Code) (t : Bool) → code_eq code q ≡ t

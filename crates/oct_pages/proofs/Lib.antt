@@ -1,9 +1,9 @@
 pub mod Rows
-mod Growing
+pub mod Growing
 mod Ranges
-mod Held
-mod Lines
-mod GameParts
+pub mod Held
+pub mod Lines
+pub mod GameParts
 pub mod Members
-mod GroupLaws
+pub mod GroupLaws
 mod Windows

@@ -1,11 +1,13 @@
 -- The catalogue of a set of operations, line by line. The operations are listed in their order.
-use Rattle.std.specs.Prelude.{ℕ, ◌+◌, ◌*◌, ◌/◌, Bool, true, false, nat_lt, List, [], ◌∷◌, ◌++◌, map, length, take, drop, codes, Option, Some, None}
+use Rattle.std.specs.Prelude.{ℕ, ◌*◌, Bool, true, false, nat_lt, List, [], ◌∷◌, ◌++◌, map, length, take, drop, codes, Option, Some, None}
 use Rattle.std.specs.List.{filter_map, flat_map, concat, range_with_len}
 use Rattle.std.specs.Fmt.{decimal}
+use Rattle.std.specs.Int.{div_ceil}
 use Rattle.oct_code.specs.Code.{Code, code_cmp, code_eq}
 use Rattle.oct_code.specs.CodeText.{code_text}
 use Rattle.oct_mex.specs.NimValues.{nim_values}
 use Rattle.oct_ops.specs.Arranged.{arranged}
+pub use Rattle.oct_ops.specs.Games.{game_of, game_of_body}
 use Rattle.oct_ops.specs.Operation.{Dot, Block, Period, Note}
 use Rattle.oct_ops.specs.Body as kind
 use Rattle.oct_ops.specs.Body.{Body, Operation}
@@ -30,16 +32,6 @@ abbrev pub dot_text : Dot → Text
 dot_text d = decimal d.author ++ codes "." ++ decimal d.number
 
 -- ---- games
-
--- the game of a block or a claim
-abbrev pub game_of_body : Body → Option Code
-game_of_body (kind.Block b) = Some b.code
-game_of_body (kind.Period p) = Some p.code
-game_of_body (kind.Note n) = None
-game_of_body (kind.Removal r) = None
-
-abbrev pub game_of : Operation → Option Code
-game_of o = game_of_body o.body
 
 -- the games that have a block or a claim, by head, then by k, then by the digits
 abbrev pub games : List Operation → List Code
@@ -92,11 +84,11 @@ status_text of_block.Proved = codes " proved"
 status_text (of_block.Refuted place claimed truth) = refutation_text place claimed truth
 status_text of_block.Pending = codes " pending"
 
-abbrev pub claim_text : Dot → Block → Text
-claim_text d b = codes "block " ++ dot_text d ++ labelled (codes " at ") b.start ++ labelled (codes " count ") (length b.values)
+abbrev pub block_head_text : Dot → Block → Text
+block_head_text d b = codes "block " ++ dot_text d ++ labelled (codes " at ") b.start ++ labelled (codes " count ") (length b.values)
 
 abbrev pub block_text : Dot → Block → Status → Text
-block_text d b s = claim_text d b ++ status_text s ++ codes "\n"
+block_text d b s = block_head_text d b ++ status_text s ++ codes "\n"
 
 abbrev pub block_line : List Block → List Period → Dot × Block → Text
 block_line blocks claims b = block_text b.0 b.1 (block_status blocks claims b.1)
@@ -106,11 +98,11 @@ period_status_text of_claim.Proved = codes " proved"
 period_status_text (of_claim.Refuted place) = labelled (codes " refuted at ") place
 period_status_text (of_claim.Pending count) = labelled (codes " pending needs ") count
 
-abbrev pub repetition_text : Dot → Period → Text
-repetition_text d p = codes "period " ++ dot_text d ++ labelled (codes " from ") p.start ++ labelled (codes " by ") p.period
+abbrev pub period_head_text : Dot → Period → Text
+period_head_text d p = codes "period " ++ dot_text d ++ labelled (codes " from ") p.start ++ labelled (codes " by ") p.period
 
 abbrev pub period_text : Dot → Period → PeriodStatus → Text
-period_text d p s = repetition_text d p ++ period_status_text s ++ codes "\n"
+period_text d p s = period_head_text d p ++ period_status_text s ++ codes "\n"
 
 abbrev pub period_line : List Block → Dot × Period → Text
 period_line blocks p = period_text p.0 p.1 (period_status blocks p.1)
@@ -122,12 +114,16 @@ value_text v = labelled (codes " ") v
 abbrev pub values_text : ℕ → List ℕ → Text
 values_text first values = labelled (codes "values ") first ++ flat_map value_text values ++ codes "\n"
 
--- sixteen values to a line, after the first one's place
+-- how many values stand in a line
+abbrev pub values_per_line : ℕ
+values_per_line = 16
+
+-- the values of a line, after the first one's place
 abbrev pub values_line : List ℕ → ℕ → Text
-values_line all i = values_text (16 * i) (take 16 (drop (16 * i) all))
+values_line all i = values_text (values_per_line * i) (take values_per_line (drop (values_per_line * i) all))
 
 abbrev pub values_lines : List ℕ → List Text
-values_lines all = map (values_line all) (range_with_len 0 ((length all + 15) / 16))
+values_lines all = map (values_line all) (range_with_len 0 (div_ceil (length all) values_per_line))
 
 abbrev pub game_text : Code → ℕ → Text
 game_text c k = codes "game " ++ code_text c ++ labelled (codes " known ") k ++ codes "\n"

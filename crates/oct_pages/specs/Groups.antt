@@ -5,7 +5,7 @@ use Rattle.std.specs.Ordering.{eq_by_cmp}
 use Rattle.oct_code.specs.Code.{Code, code_cmp}
 use Rattle.oct_ops.specs.Body.{Operation}
 use Rattle.oct_mex.specs.NimValues.{nim_values}
-use Rattle.oct_store.specs.Summary.{of_code}
+use Rattle.oct_ops.specs.Games.{of_code}
 use Rattle.oct_verify.specs.Filing.{blocks_in}
 use Rattle.oct_verify.specs.Known.{known}
 use Rattle.oct_period.specs.Claims.{claims_in}

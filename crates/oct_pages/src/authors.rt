@@ -8,7 +8,7 @@ ghost use Rattle.oct_pages.specs.Window.{Shown};
 ghost use Rattle.oct_store.specs.Summary as summary;
 
 use crate::window::Window;
-use crate::words::{append_labelled, append_labelled_dot, append_labelled_text, append_text};
+use crate::words::{append_labelled, append_labelled_dot, append_text};
 use oct_store::{Author, Fork, Store};
 use std::alloc::{AllocError, Allocator};
 
@@ -91,10 +91,6 @@ fn append_fork<A: Allocator>(out: &mut Vec<u8, A>, fork: &Fork) -> Result<(), Al
     ensures grown { Extends out.old.items out.new.items }
 {
     append_labelled_dot(out, b"fork ", fork.dot)?;
-    append_labelled_text(
-        out,
-        b" contents ",
-        itoa::Buffer::new().format(fork.contents).as_bytes(),
-    )?;
+    append_labelled(out, b" contents ", fork.contents)?;
     append_text(out, b"\n")
 }

@@ -1,7 +1,7 @@
 //! The lines of a game and its blocks.
 
 ghost use Rattle.std.specs.Prelude.{◌≡◌, ◌++◌, ◌∷◌, [], OnOk};
-ghost use Rattle.oct_pages.specs.Catalogue.{game_text, block_text, claim_text, refutation_text, status_text};
+ghost use Rattle.oct_pages.specs.Catalogue.{game_text, block_text, block_head_text, refutation_text, status_text};
 ghost use Rattle.oct_pages.specs.Growth.{Extends};
 ghost use Rattle.oct_pages.specs.Window.{Shown};
 
@@ -13,7 +13,7 @@ use oct_verify::Status;
 use std::alloc::{AllocError, Allocator};
 
 /// Appends the first line of a game, where it is shown.
-pub(crate) fn show_game<A: Allocator>(
+pub(crate) fn show_game_head<A: Allocator>(
     out: &mut Vec<u8, A>,
     window: &mut Window,
     code: &Code,
@@ -25,11 +25,11 @@ pub(crate) fn show_game<A: Allocator>(
     if !window.pass() {
         return Ok(());
     }
-    append_game(out, code, known)
+    append_game_head(out, code, known)
 }
 
 // Appends the first line of a game.
-fn append_game<A: Allocator>(
+fn append_game_head<A: Allocator>(
     out: &mut Vec<u8, A>,
     code: &Code,
     known: u32,
@@ -44,7 +44,10 @@ fn append_game<A: Allocator>(
 }
 
 // Appends a space and the words of a status.
-fn append_status<A: Allocator>(out: &mut Vec<u8, A>, status: &Status) -> Result<(), AllocError>
+fn append_block_status<A: Allocator>(
+    out: &mut Vec<u8, A>,
+    status: &Status,
+) -> Result<(), AllocError>
     ensures ok { OnOk result (out.new.items ≡ out.old.items ++ status_text status.now) }
     ensures grown { Extends out.old.items out.new.items }
 {
@@ -97,18 +100,18 @@ fn append_block<A: Allocator>(
     ensures ok { OnOk result (out.new.items ≡ out.old.items ++ block_text dot block.now status.now) }
     ensures grown { Extends out.old.items out.new.items }
 {
-    append_claim(out, dot, block)?;
-    append_status(out, status)?;
+    append_block_head(out, dot, block)?;
+    append_block_status(out, status)?;
     append_text(out, b"\n")
 }
 
 // Appends which block it is, where it begins and how many values it has.
-fn append_claim<A: Allocator>(
+fn append_block_head<A: Allocator>(
     out: &mut Vec<u8, A>,
     dot: Dot,
     block: &Block<A>,
 ) -> Result<(), AllocError>
-    ensures ok { OnOk result (out.new.items ≡ out.old.items ++ claim_text dot block.now) }
+    ensures ok { OnOk result (out.new.items ≡ out.old.items ++ block_head_text dot block.now) }
     ensures grown { Extends out.old.items out.new.items }
 {
     append_labelled_dot(out, b"block ", dot)?;

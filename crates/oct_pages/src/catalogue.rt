@@ -93,16 +93,16 @@ fn append_lines<A: Allocator + Copy>(
     ensures ok { OnOk result (Shown window.old window.new out.old.items out.new.items (lines (listed parts.now.store.now))) }
     ensures grown { Extends out.old.items out.new.items }
 {
-    show_line(out, window, b"census 2\n")?;
+    show_text(out, window, b"census 2\n")?;
     append_games(alloc, out, window, parts.store, parts.games)?;
     append_notes(out, window, parts.notes)?;
     append_forks(out, window, parts.store)?;
     append_authors(out, window, parts.store)?;
-    show_line(out, window, b"end\n")
+    show_text(out, window, b"end\n")
 }
 
 // Appends a line that is always the same, where it is shown.
-fn show_line<A: Allocator>(
+fn show_text<A: Allocator>(
     out: &mut Vec<u8, A>,
     window: &mut Window,
     line: &[u8],

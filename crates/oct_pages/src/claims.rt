@@ -1,7 +1,7 @@
 //! The lines of a game's period claims.
 
 ghost use Rattle.std.specs.Prelude.{◌≡◌, ◌++◌, ◌∷◌, [], OnOk};
-ghost use Rattle.oct_pages.specs.Catalogue.{period_status_text, period_text, repetition_text};
+ghost use Rattle.oct_pages.specs.Catalogue.{period_status_text, period_text, period_head_text};
 ghost use Rattle.oct_pages.specs.Growth.{Extends};
 ghost use Rattle.oct_pages.specs.Window.{Shown};
 
@@ -12,7 +12,7 @@ use oct_period::PeriodStatus;
 use std::alloc::{AllocError, Allocator};
 
 /// Appends the line of a claim, where it is shown.
-pub(crate) fn show_claim<A: Allocator>(
+pub(crate) fn show_period<A: Allocator>(
     out: &mut Vec<u8, A>,
     window: &mut Window,
     dot: Dot,
@@ -25,11 +25,11 @@ pub(crate) fn show_claim<A: Allocator>(
     if !window.pass() {
         return Ok(());
     }
-    append_claim(out, dot, period, status)
+    append_period(out, dot, period, status)
 }
 
 // Appends the line of a claim.
-fn append_claim<A: Allocator>(
+fn append_period<A: Allocator>(
     out: &mut Vec<u8, A>,
     dot: Dot,
     period: &Period,
@@ -38,18 +38,18 @@ fn append_claim<A: Allocator>(
     ensures ok { OnOk result (out.new.items ≡ out.old.items ++ period_text dot period.now status.now) }
     ensures grown { Extends out.old.items out.new.items }
 {
-    append_repetition(out, dot, period)?;
-    append_status(out, status)?;
+    append_period_head(out, dot, period)?;
+    append_period_status(out, status)?;
     append_text(out, b"\n")
 }
 
 // Appends which claim it is, and from where on it says that the values repeat.
-fn append_repetition<A: Allocator>(
+fn append_period_head<A: Allocator>(
     out: &mut Vec<u8, A>,
     dot: Dot,
     period: &Period,
 ) -> Result<(), AllocError>
-    ensures ok { OnOk result (out.new.items ≡ out.old.items ++ repetition_text dot period.now) }
+    ensures ok { OnOk result (out.new.items ≡ out.old.items ++ period_head_text dot period.now) }
     ensures grown { Extends out.old.items out.new.items }
 {
     append_labelled_dot(out, b"period ", dot)?;
@@ -58,7 +58,7 @@ fn append_repetition<A: Allocator>(
 }
 
 // Appends a space and the words of a status.
-fn append_status<A: Allocator>(
+fn append_period_status<A: Allocator>(
     out: &mut Vec<u8, A>,
     status: &PeriodStatus,
 ) -> Result<(), AllocError>

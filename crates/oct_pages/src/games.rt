@@ -17,8 +17,8 @@ ghost use Rattle.oct_pages.specs.Growth.{Extends};
 ghost use Rattle.oct_pages.specs.Parts.{AreGamesOf};
 ghost use Rattle.oct_pages.specs.Window.{Shown};
 
-use crate::blocks::{show_block, show_game};
-use crate::claims::show_claim;
+use crate::blocks::{show_block, show_game_head};
+use crate::claims::show_period;
 use crate::groups::{Groups, groups_of};
 use crate::values::append_values;
 use crate::window::Window;
@@ -81,10 +81,10 @@ fn append_game_lines<A: Allocator + Copy>(
     ensures grown { Extends out.old.items out.new.items }
 {
     let ledger = game.ledger();
-    show_game(out, window, code, ledger.known())?;
+    show_game_head(out, window, code, ledger.known())?;
     append_values(out, window, ledger.known_values())?;
     append_blocks(out, window, code, game, ops)?;
-    append_claims(out, window, code, game, ops)
+    append_periods(out, window, code, game, ops)
 }
 
 // Appends what is shown of the lines of the game's blocks.
@@ -129,7 +129,7 @@ fn append_block_of<A: Allocator + Copy>(
 }
 
 // Appends what is shown of the lines of the game's claims.
-fn append_claims<A: Allocator + Copy>(
+fn append_periods<A: Allocator + Copy>(
     out: &mut Vec<u8, A>,
     window: &mut Window,
     code: &Code,
@@ -141,13 +141,13 @@ fn append_claims<A: Allocator + Copy>(
     ensures grown { Extends out.old.items out.new.items }
 {
     for op in ops {
-        append_claim_of(out, window, op, code, game)?;
+        append_period_of(out, window, op, code, game)?;
     }
     Ok(())
 }
 
 // Appends what is shown of the line of an operation, where it is a claim of the game.
-fn append_claim_of<A: Allocator + Copy>(
+fn append_period_of<A: Allocator + Copy>(
     out: &mut Vec<u8, A>,
     window: &mut Window,
     op: &Op<A>,
@@ -162,11 +162,11 @@ fn append_claim_of<A: Allocator + Copy>(
         return Ok(());
     };
     let status = period_status(game.ledger(), period);
-    show_claim(out, window, op.dot(), period, &status)
+    show_period(out, window, op.dot(), period, &status)
 }
 
-// The block, where the body is one of the game.
-fn block_of_game<'a, A: Allocator>(body: &'a Body<A>, code: &Code) -> Option<&'a Block<A>>
+/// The block, where the body is one of the game.
+pub fn block_of_game<'a, A: Allocator>(body: &'a Body<A>, code: &Code) -> Option<&'a Block<A>>
     ensures { option_copied result ≡ block_of_game code.now (content body.now) }
 {
     match body {
@@ -175,8 +175,8 @@ fn block_of_game<'a, A: Allocator>(body: &'a Body<A>, code: &Code) -> Option<&'a
     }
 }
 
-// The claim, where the body is one of the game.
-fn claim_of_game<'a, A: Allocator>(body: &'a Body<A>, code: &Code) -> Option<&'a Period>
+/// The claim, where the body is one of the game.
+pub fn claim_of_game<'a, A: Allocator>(body: &'a Body<A>, code: &Code) -> Option<&'a Period>
     ensures { option_copied result ≡ claim_of_game code.now (content body.now) }
 {
     match body {

@@ -4,21 +4,19 @@ ghost use Rattle.std.specs.Prelude.{◌≡◌, ◌++◌, ◌∷◌, [], Some, ma
 ghost use Rattle.std.specs.BTreeMap as tree;
 ghost use Rattle.oct_code.specs.Code as octal;
 ghost use Rattle.oct_ops.specs.Operations.{listed};
-ghost use Rattle.oct_ops.specs.Views.{content};
-ghost use Rattle.oct_pages.specs.Catalogue.{game_of_body};
 ghost use Rattle.oct_pages.specs.Groups.{Groups, after, found, group_of, grown};
 
 use oct_code::Code;
-use oct_ops::{Body, Op};
+use oct_ops::Op;
 use oct_store::Store;
 use std::alloc::{AllocError, Allocator};
 use std::collections::BTreeMap;
 
 /// Operations by their games.
-pub(crate) type Groups<'a, A> = BTreeMap<Code, Vec<&'a Op<A>, A>, A>;
+pub type Groups<'a, A> = BTreeMap<Code, Vec<&'a Op<A>, A>, A>;
 
 /// The blocks and claims of the store by their games, in the order of the operations.
-pub(crate) fn groups_of<'a, A: Allocator + Copy>(
+pub fn groups_of<'a, A: Allocator + Copy>(
     alloc: A,
     store: &'a Store<A>,
 ) -> Result<Groups<'a, A>, AllocError>
@@ -26,22 +24,11 @@ pub(crate) fn groups_of<'a, A: Allocator + Copy>(
 {
     let mut groups = BTreeMap::new(alloc);
     for op in store.iter() {
-        if let Some(code) = game_of(op.body()) {
+        if let Some(code) = op.body().code() {
             add(&mut groups, alloc, code, op)?;
         }
     }
     Ok(groups)
-}
-
-// The game of a block or a claim.
-fn game_of<A: Allocator>(body: &Body<A>) -> Option<Code>
-    ensures { result ≡ game_of_body (content body.now) }
-{
-    match body {
-        Body::Block(block) => Some(block.code()),
-        Body::Period(period) => Some(period.code()),
-        Body::Note(_) | Body::Removal(_) => None,
-    }
 }
 
 // Adds an operation at the end of a game's.

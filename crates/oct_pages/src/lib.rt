@@ -15,6 +15,8 @@
 //!
 //! - `write_catalogue` appends the text, `write_page` one page of it.
 //! - `Parts` is what they read: the operations, and beside them each game and the notes.
+//! - `groups_of` gives the operations of each game, of which `block_of_game` and `claim_of_game` know their kind.
+//! - `append_text`, `append_number`, `append_dot` and the rest of `words` append a part of a line.
 //!
 //! `specs/Catalogue` is this text, line by line.
 #![tactic(auto)]
@@ -31,3 +33,9 @@ mod window;
 mod words;
 
 pub use catalogue::{Parts, write_catalogue, write_page};
+pub use games::{block_of_game, claim_of_game};
+pub use groups::{Groups, groups_of};
+pub use words::{
+    append_dot, append_labelled, append_labelled_dot, append_labelled_text, append_number,
+    append_text,
+};

@@ -2,7 +2,7 @@
 
 ghost use Rattle.std.specs.Prelude.{◌≡◌, ◌*◌, ◌<◌, ◌^◌, ◌++◌, ◌∷◌, [], OnOk, length};
 ghost use Rattle.std.specs.List.{flat_map};
-ghost use Rattle.oct_pages.specs.Catalogue.{value_text, values_text, values_line, values_lines};
+ghost use Rattle.oct_pages.specs.Catalogue.{value_text, values_per_line, values_text, values_line, values_lines};
 ghost use Rattle.oct_pages.specs.Growth.{Extends};
 ghost use Rattle.oct_pages.specs.Window.{Shown};
 
@@ -23,38 +23,38 @@ pub(crate) fn append_values<A: Allocator>(
     ensures ok { OnOk result (Shown window.old window.new out.old.items out.new.items (values_lines values.now)) }
     ensures grown { Extends out.old.items out.new.items }
 {
-    for line in 0..(values.len() + 15) / VALUES_PER_LINE {
-        show_line(out, window, values, line)?;
+    for line in 0..values.len().div_ceil(VALUES_PER_LINE) {
+        show_values(out, window, values, line)?;
     }
     Ok(())
 }
 
 // Appends the line of this number, counted from 0, where it is shown.
-fn show_line<A: Allocator>(
+fn show_values<A: Allocator>(
     out: &mut Vec<u8, A>,
     window: &mut Window,
     values: &[u32],
     line: usize,
 ) -> Result<(), AllocError>
     requires few { length values.now < 2 ^ 32 }
-    requires within { 16 * line < length values.now }
+    requires within { values_per_line * line < length values.now }
     ensures ok { OnOk result (Shown window.old window.new out.old.items out.new.items (values_line values.now line ∷ [])) }
     ensures grown { Extends out.old.items out.new.items }
 {
     if !window.pass() {
         return Ok(());
     }
-    append_line(out, values, line)
+    append_values_line(out, values, line)
 }
 
 // Appends the line of this number, counted from 0.
-fn append_line<A: Allocator>(
+fn append_values_line<A: Allocator>(
     out: &mut Vec<u8, A>,
     values: &[u32],
     line: usize,
 ) -> Result<(), AllocError>
     requires few { length values.now < 2 ^ 32 }
-    requires within { 16 * line < length values.now }
+    requires within { values_per_line * line < length values.now }
     ensures ok { OnOk result (out.new.items ≡ out.old.items ++ values_line values.now line) }
     ensures grown { Extends out.old.items out.new.items }
 {
@@ -73,12 +73,12 @@ fn append_row<A: Allocator>(
     ensures grown { Extends out.old.items out.new.items }
 {
     append_labelled(out, b"values ", first)?;
-    append_each(out, values)?;
+    append_each_value(out, values)?;
     append_text(out, b"\n")
 }
 
 // Appends each value after a space.
-fn append_each<A: Allocator>(out: &mut Vec<u8, A>, values: &[u32]) -> Result<(), AllocError>
+fn append_each_value<A: Allocator>(out: &mut Vec<u8, A>, values: &[u32]) -> Result<(), AllocError>
     ensures ok { OnOk result (out.new.items ≡ out.old.items ++ flat_map value_text values.now) }
     ensures grown { Extends out.old.items out.new.items }
 {

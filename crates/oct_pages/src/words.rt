@@ -1,15 +1,15 @@
 //! Words of a line.
 
 ghost use Rattle.std.specs.Prelude.{◌≡◌, ◌++◌, OnOk};
-ghost use Rattle.std.specs.Fmt.{decimal};
 ghost use Rattle.oct_pages.specs.Catalogue.{dot_text};
 ghost use Rattle.oct_pages.specs.Growth.{Extends};
 
+use itoa::Integer;
 use oct_ops::Dot;
 use std::alloc::{AllocError, Allocator};
 
 /// Appends a text.
-pub(crate) fn append_text<A: Allocator>(out: &mut Vec<u8, A>, text: &[u8]) -> Result<(), AllocError>
+pub fn append_text<A: Allocator>(out: &mut Vec<u8, A>, text: &[u8]) -> Result<(), AllocError>
     ensures ok { OnOk result (out.new.items ≡ out.old.items ++ text.now) }
     ensures grown { Extends out.old.items out.new.items }
 {
@@ -17,7 +17,7 @@ pub(crate) fn append_text<A: Allocator>(out: &mut Vec<u8, A>, text: &[u8]) -> Re
 }
 
 /// Appends a text, and after it another.
-pub(crate) fn append_labelled_text<A: Allocator>(
+pub fn append_labelled_text<A: Allocator>(
     out: &mut Vec<u8, A>,
     label: &[u8],
     text: &[u8],
@@ -30,23 +30,23 @@ pub(crate) fn append_labelled_text<A: Allocator>(
 }
 
 /// Appends a number in decimal digits.
-pub(crate) fn append_number<A: Allocator>(
+pub fn append_number<A: Allocator, N: Integer>(
     out: &mut Vec<u8, A>,
-    number: u32,
+    number: N,
 ) -> Result<(), AllocError>
-    ensures ok { OnOk result (out.new.items ≡ out.old.items ++ decimal number) }
+    ensures ok { OnOk result (out.new.items ≡ out.old.items ++ N.text number) }
     ensures grown { Extends out.old.items out.new.items }
 {
     append_text(out, itoa::Buffer::new().format(number).as_bytes())
 }
 
 /// Appends a text, and after it a number.
-pub(crate) fn append_labelled<A: Allocator>(
+pub fn append_labelled<A: Allocator, N: Integer>(
     out: &mut Vec<u8, A>,
     label: &[u8],
-    number: u32,
+    number: N,
 ) -> Result<(), AllocError>
-    ensures ok { OnOk result (out.new.items ≡ out.old.items ++ (label.now ++ decimal number)) }
+    ensures ok { OnOk result (out.new.items ≡ out.old.items ++ (label.now ++ N.text number)) }
     ensures grown { Extends out.old.items out.new.items }
 {
     append_text(out, label)?;
@@ -54,7 +54,7 @@ pub(crate) fn append_labelled<A: Allocator>(
 }
 
 /// Appends a dot as author, point, number.
-pub(crate) fn append_dot<A: Allocator>(out: &mut Vec<u8, A>, dot: Dot) -> Result<(), AllocError>
+pub fn append_dot<A: Allocator>(out: &mut Vec<u8, A>, dot: Dot) -> Result<(), AllocError>
     ensures ok { OnOk result (out.new.items ≡ out.old.items ++ dot_text dot) }
     ensures grown { Extends out.old.items out.new.items }
 {
@@ -63,7 +63,7 @@ pub(crate) fn append_dot<A: Allocator>(out: &mut Vec<u8, A>, dot: Dot) -> Result
 }
 
 /// Appends a text, and after it a dot.
-pub(crate) fn append_labelled_dot<A: Allocator>(
+pub fn append_labelled_dot<A: Allocator>(
     out: &mut Vec<u8, A>,
     label: &[u8],
     dot: Dot,

@@ -30,8 +30,8 @@ use std::alloc::{AllocError, Allocator};
 use std::collections::{BTreeSet, btree_set};
 use std::marker::Model;
 
-/// The blocks and the period claims of one game, each under its dot, with what is known from them. Only `add_block` and
-/// `add_period` ask for memory.
+/// The blocks and the period claims of one game, each under its dot, with what is known from them. Only `insert_block` and
+/// `insert_period` ask for memory.
 #[derive(Drop)]
 pub struct Game<A: Allocator + Copy> {
     ledger: Ledger<A>,
@@ -70,21 +70,21 @@ impl<A: Allocator + Copy> Game<A> {
         self.ledger.code()
     }
 
-    /// Adds a block of the game under its dot. A pair that is there changes nothing, and asks for no memory. Where memory is
+    /// Puts in a block of the game under its dot. A pair that is there changes nothing, and asks for no memory. Where memory is
     /// refused, nothing changes, and the block is handed back.
-    pub fn add_block(&mut self, dot: Dot, block: Block<A>) -> Result<(), (AllocError, Block<A>)>
+    pub fn insert_block(&mut self, dot: Dot, block: Block<A>) -> Result<(), (AllocError, Block<A>)>
         requires { block.code ≡ self.old.code }
         ensures ok { OnOk result (self.new ≡ record self.old { blocks = sets.insert self.old.blocks (dot, block) }) }
         ensures err { OnErr result (self.new ≡ self.old) }
         ensures absent { OnErr result (sets.contains self.old.blocks (dot, block) ≡ false) }
         ensures returned { IfErr result (λ refused. refused.1 ≡ block) }
     {
-        self.ledger.add(dot, block)
+        self.ledger.insert(dot, block)
     }
 
-    /// Adds a claim of the game under its dot. A pair that is there changes nothing, and asks for no memory. Where memory is
+    /// Puts in a claim of the game under its dot. A pair that is there changes nothing, and asks for no memory. Where memory is
     /// refused, nothing changes, and the claim is handed back.
-    pub fn add_period(&mut self, dot: Dot, period: Period) -> Result<(), (AllocError, Period)>
+    pub fn insert_period(&mut self, dot: Dot, period: Period) -> Result<(), (AllocError, Period)>
         requires { period.code ≡ self.old.code }
         ensures ok { OnOk result (self.new ≡ record self.old { claims = sets.insert self.old.claims (dot, period) }) }
         ensures err { OnErr result (self.new ≡ self.old) }

@@ -5,8 +5,8 @@
 //! (Guy and Smith, 1956), so the value of a heap of 10^9 beans may be read off the first period.
 //!
 //!     let mut game = Game::new(alloc, code);      // 0.3: one bean may be removed
-//!     game.add_block(first, values)?;             // 0 1 0 1 0 1 0 at 0
-//!     game.add_period(second, repeats)?;          // from 1 by 2: proved
+//!     game.insert_block(first, values)?;          // 0 1 0 1 0 1 0 at 0
+//!     game.insert_period(second, repeats)?;       // from 1 by 2: proved
 //!     game.heap_value(1_000_000_001)              // Some(1)
 //!     game.outcome(&[1, 1_000_000_001])           // NextLoses
 //!     game.winning_move(&[1_000_000_001])         // Some: of heap 0 remove 1 bean

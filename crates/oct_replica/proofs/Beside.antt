@@ -15,7 +15,7 @@ use Rattle.oct_ops.specs.Order.{op_cmp}
 use Rattle.oct_ops.specs.OrderLaws.{op_cmp_total, op_cmp_exact}
 use Rattle.oct_ops.specs.Sets as sets
 use Rattle.oct_ops.specs.SetLaws.{contains-insert, contains-remove, listed-empty, listed-insert, same_set}
-use Rattle.oct_store.specs.Summary.{of_code}
+use Rattle.oct_ops.specs.Games.{of_code}
 use Rattle.oct_notes.specs.Notes.{concerns_notes, notes_of}
 use Rattle.oct_verify.specs.Filing.{filing_cmp}
 use Rattle.oct_verify.specs.FilingLaws.{filing_cmp_total, filing_cmp_exact}
@@ -61,11 +61,6 @@ put_back old code held new found same q =
 pub put_in : (old : Games) (code of : Code) (held new : GameContent) (more : GameContent → GameContent) → Some held ≡ old code → code ≡ of → new ≡ more held → (q : Code) → after old code new q ≡ after old of (more (game_at old of)) q
 put_in old code of held new more found is grown q =
     let at : held ≡ game_at old of = ap (λ o. Rattle.std.specs.Prelude.unwrap_or o (new_game code)) found ∙ ap (game_at old) is in
-    (λ i. after old (is i) ((grown ∙ ap more at) i) q)
-
-pub put_new : (old : Games) (code of : Code) (new : GameContent) (more : GameContent → GameContent) → None ≡ old code → code ≡ of → new ≡ more (new_game code) → (q : Code) → after old code new q ≡ after old of (more (game_at old of)) q
-put_new old code of new more none is grown q =
-    let at : new_game code ≡ game_at old of = ap (λ o. Rattle.std.specs.Prelude.unwrap_or o (new_game code)) none ∙ ap (game_at old) is in
     (λ i. after old (is i) ((grown ∙ ap more at) i) q)
 
 -- ---- a game that is made empty, and then changed

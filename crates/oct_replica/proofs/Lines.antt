@@ -17,12 +17,13 @@ use Rattle.oct_ops.specs.Sets as sets
 use Rattle.oct_ops.specs.SetLaws as laws
 use Rattle.oct_ops.specs.Body.{Body, Operation}
 use Rattle.oct_ops.specs.Body as kind
+use Rattle.oct_ops.specs.Games.{game_of}
 use Rattle.oct_store.specs.Summary as summary
 use Rattle.oct_notes.specs.Notes.{live_notes}
 use Rattle.oct_verify.specs.Known.{known}
 use Rattle.oct_period.proofs.FarLaws as far
 use Rattle.oct_period.proofs.Statuses.{settled_claims_stay}
-use Rattle.oct_pages.specs.Catalogue.{Text, game_of, games, if_some, under, block_in, claim_in, blocks_of, claims_of, block_line, period_line, block_text, period_text, values_lines, game_text, heading, ending, game_lines, note_line, fork_line, author_line, lines}
+use Rattle.oct_pages.specs.Catalogue.{Text, games, if_some, under, block_in, claim_in, blocks_of, claims_of, block_line, period_line, block_text, period_text, values_lines, game_text, heading, ending, game_lines, note_line, fork_line, author_line, lines}
 use Rattle.oct_replica.specs.Settled.{blocks_in, claims_in, BlockLinesStay, ClaimLinesStay}
 use Rattle.oct_replica.proofs.Members.{In, In-among, among-In, In-map, In-listed, Has-listed, any_source, any-In}
 use Rattle.oct_replica.proofs.Settled.{In-filter_map, In-filter_map_source, blocks_grow, claims_grow, claims_later, start_some}

@@ -16,9 +16,9 @@ use Rattle.oct_ops.specs.Operation.{Dot}
 use Rattle.oct_ops.specs.Operations.{Operations, listed}
 use Rattle.oct_ops.specs.Sets as sets
 use Rattle.oct_ops.specs.SetLaws.{contains-set_of, listed-arranged, listed-set_of, rises-sorted, same_set}
-use Rattle.oct_store.specs.Summary.{of_code}
+use Rattle.oct_ops.specs.Games.{game_of, of_code}
 use Rattle.oct_period.specs.GameContent.{GameContent}
-use Rattle.oct_pages.specs.Catalogue.{game_of, games}
+use Rattle.oct_pages.specs.Catalogue.{games}
 use Rattle.oct_pages.specs.Parts.{AreParts, IsGameOf}
 use Rattle.oct_replica.specs.Beside.{AreBeside, content_in, has_game}
 use Rattle.oct_replica.proofs.Beside.{found_is}

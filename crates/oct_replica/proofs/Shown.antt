@@ -1,5 +1,6 @@
 -- Each line of a catalogue tells what is so.
 use Rattle.std.proofs.Common.{◌≡◌, ℕ, ◌+◌, ◌*◌, ◌/◌, ◌<◌, Bool, true, false, not, ◌&&◌, nat_lt, nat_le, [], ◌∷◌, ◌++◌, map, length, take, drop, slice_index, Option, Some, None, inl, inr, refl, ◌∙◌, subst, arith}
+use Rattle.std.specs.Int.{div_ceil}
 use Rattle.std.specs.List.{flat_map, range_with_len}
 use Rattle.std.proofs.lemmas.Bool.{leb-true}
 use Rattle.std.proofs.lemmas.List.{get_or-take, get_or-drop, length-take, length-drop}
@@ -28,7 +29,7 @@ use Rattle.oct_period.specs.FarBlocks.{block_status, has_proved}
 use Rattle.oct_period.specs.Periods.{needs, period_status, status_at}
 use Rattle.oct_period.specs.declared.status.PeriodStatus.{PeriodStatus}
 use Rattle.oct_period.specs.declared.status.PeriodStatus.TheVariants as of_claim
-use Rattle.oct_pages.specs.Catalogue.{Text, author_line, block_in, block_line, blocks_of, claim_in, claims_of, ending, fork_line, game_lines, game_text, games, heading, if_some, lines, note_line, period_line, under, values_line, values_lines}
+use Rattle.oct_pages.specs.Catalogue.{Text, author_line, block_in, block_line, blocks_of, claim_in, claims_of, ending, fork_line, game_lines, game_text, games, heading, if_some, lines, note_line, period_line, under, values_line, values_lines, values_per_line}
 use Rattle.oct_replica.specs.Settled.{AreValid, blocks_in, claims_in}
 use Rattle.oct_replica.specs.Shown.{BlockIsSo, ClaimIsSo, GameLinesAreSo, GameTells, Has, LinesAreSo, Tells, TellsAuthor, TellsBlock, TellsClaim, TellsFork, TellsKnown, TellsNote, TellsValues}
 use Rattle.oct_replica.specs.Shown as shown
@@ -37,43 +38,53 @@ use Rattle.oct_replica.proofs.Lines.{same_code}
 use Rattle.oct_replica.proofs.Members.{In, In-among, among-In, Has-listed}
 use Rattle.oct_replica.proofs.Settled.{claim_is_valid, contains-In, In-filter_map_source}
 
+-- ---- what was taken from an operation
+
+module _ {X : Type 0} (made : X → Body) (code : X → Code) where
+  -- the operation from which a block or a claim of the game was taken
+  pub record IsTakenFrom (c : Code) (o : Operation) (p : Dot × X) : Type 0 where
+    pub whole : o ≡ record { dot = p.0; body = made p.1 }
+    pub game : code p.1 ≡ c
+
+  taken_from : (c : Code) (d : Dot) (x : X) (t : Bool) (p : Dot × X) → code_eq (code x) c ≡ t → under d (if_some t x) ≡ Some p → IsTakenFrom c (record { dot = d; body = made x }) p
+  taken_from c d x true p e h =
+      let pair : Dot × X = (d, x) in
+      let same : pair ≡ p = cc in
+      subst (IsTakenFrom c (record { dot = d; body = made x })) same (record { whole = refl; game = same_code (code x) c e })
+  taken_from c d x false p e h = cc
+
+abbrev pub IsBlockOf : Code → Operation → Dot × Block → Type 0
+IsBlockOf = IsTakenFrom kind.Block (λ b. b.code)
+
+abbrev pub IsClaimOf : Code → Operation → Dot × Period → Type 0
+IsClaimOf = IsTakenFrom kind.Period (λ p. p.code)
+
 -- ---- values
 
-values_row : (c : Code) (k i j : ℕ) → j < length (take 16 (drop (16 * i) (nim_values c k))) → slice_index (take 16 (drop (16 * i) (nim_values c k))) j ≡ nim_value c (16 * i + j)
+values_row : (c : Code) (k i j : ℕ) → let row = take values_per_line (drop (values_per_line * i) (nim_values c k)) in j < length row → slice_index row j ≡ nim_value c (values_per_line * i + j)
 values_row c k i j lt =
     let all = nim_values c k in
-    let row = length-take 16 (drop (16 * i) all) in
-    let rest = length-drop (16 * i) all in
-    get_or-take 16 (drop (16 * i) all) j 0 (omega (arith, lt, row))
-    ∙ get_or-drop (16 * i) all j 0
-    ∙ nim_values-at c k (16 * i + j) (omega (arith, lt, row, rest, nim_values-length c k))
+    let first = values_per_line * i in
+    let row = length-take values_per_line (drop first all) in
+    let rest = length-drop first all in
+    get_or-take values_per_line (drop first all) j 0 (omega (arith, lt, row))
+    ∙ get_or-drop first all j 0
+    ∙ nim_values-at c k (first + j) (omega (arith, lt, row, rest, nim_values-length c k))
 
 values_tell : (c : Code) (k : ℕ) (line : Text) → In line (values_lines (nim_values c k)) → TellsValues c line
 values_tell c k line h =
-    let row = members.In-map_source (values_line (nim_values c k)) line (range_with_len 0 ((length (nim_values c k) + 15) / 16)) h in
+    let row = members.In-map_source (values_line (nim_values c k)) line (range_with_len 0 (div_ceil (length (nim_values c k)) values_per_line)) h in
     record {
-      first = 16 * row.0;
-      values = take 16 (drop (16 * row.0) (nim_values c k));
+      first = values_per_line * row.0;
+      values = take values_per_line (drop (values_per_line * row.0) (nim_values c k));
       are = values_row c k row.0;
       text = row.2;
     }
 
 -- ---- blocks
 
--- the operation from which a block was taken
-pub record IsBlockOf (c : Code) (o : Operation) (b : Dot × Block) : Type 0 where
-  pub whole : o ≡ record { dot = b.0; body = kind.Block b.1 }
-  pub game : b.1.code ≡ c
-
-block_from : (c : Code) (d : Dot) (x : Block) (t : Bool) (b : Dot × Block) → code_eq x.code c ≡ t → under d (if_some t x) ≡ Some b → IsBlockOf c (record { dot = d; body = kind.Block x }) b
-block_from c d x true b e h =
-    let pair : Dot × Block = (d, x) in
-    let same : pair ≡ b = cc in
-    subst (IsBlockOf c (record { dot = d; body = kind.Block x })) same (record { whole = refl; game = same_code x.code c e })
-block_from c d x false b e h = cc
-
 block_of_op : (c : Code) (d : Dot) (body : Body) (b : Dot × Block) → block_in c (record { dot = d; body = body }) ≡ Some b → IsBlockOf c (record { dot = d; body = body }) b
-block_of_op c d (kind.Block x) b h = block_from c d x (code_eq x.code c) b refl h
+block_of_op c d (kind.Block x) b h = taken_from kind.Block (λ y. y.code) c d x (code_eq x.code c) b refl h
 block_of_op c d (kind.Period x) b h = cc
 block_of_op c d (kind.Note x) b h = cc
 block_of_op c d (kind.Removal x) b h = cc
@@ -107,20 +118,9 @@ block_tells ops c line h =
 
 -- ---- claims
 
-pub record IsClaimOf (c : Code) (o : Operation) (p : Dot × Period) : Type 0 where
-  pub whole : o ≡ record { dot = p.0; body = kind.Period p.1 }
-  pub game : p.1.code ≡ c
-
-claim_from : (c : Code) (d : Dot) (x : Period) (t : Bool) (p : Dot × Period) → code_eq x.code c ≡ t → under d (if_some t x) ≡ Some p → IsClaimOf c (record { dot = d; body = kind.Period x }) p
-claim_from c d x true p e h =
-    let pair : Dot × Period = (d, x) in
-    let same : pair ≡ p = cc in
-    subst (IsClaimOf c (record { dot = d; body = kind.Period x })) same (record { whole = refl; game = same_code x.code c e })
-claim_from c d x false p e h = cc
-
 claim_of_op : (c : Code) (d : Dot) (body : Body) (p : Dot × Period) → claim_in c (record { dot = d; body = body }) ≡ Some p → IsClaimOf c (record { dot = d; body = body }) p
 claim_of_op c d (kind.Block x) p h = cc
-claim_of_op c d (kind.Period x) p h = claim_from c d x (code_eq x.code c) p refl h
+claim_of_op c d (kind.Period x) p h = taken_from kind.Period (λ y. y.code) c d x (code_eq x.code c) p refl h
 claim_of_op c d (kind.Note x) p h = cc
 claim_of_op c d (kind.Removal x) p h = cc
 

@@ -9,7 +9,7 @@ use Rattle.oct_ops.specs.Operation.{Dot, Block, Period}
 use Rattle.oct_ops.specs.Operations as set
 use Rattle.oct_ops.specs.Operations.{Operations, listed}
 use Rattle.oct_ops.specs.Sets as sets
-use Rattle.oct_store.specs.Summary.{of_code}
+use Rattle.oct_ops.specs.Games.{game_of_body, of_code}
 use Rattle.oct_notes.specs.Notes.{concerns_notes, notes_of}
 use Rattle.oct_period.specs.GameContent.{GameContent}
 use Rattle.oct_pages.specs.Catalogue.{blocks_of, claims_of}
@@ -58,12 +58,20 @@ with_block game d b = record game { blocks = sets.insert game.blocks (d, b) }
 abbrev pub with_period : GameContent → Dot → Period → GameContent
 with_period game d p = record game { claims = sets.insert game.claims (d, p) }
 
--- the games after a body was put in under its dot
+-- with a block or a claim under its dot; other bodies are of no game
+abbrev pub with_body : GameContent → Dot → Body → GameContent
+with_body game d (kind.Block b) = with_block game d b
+with_body game d (kind.Period p) = with_period game d p
+with_body game d (kind.Note n) = game
+with_body game d (kind.Removal r) = game
+
+-- the games after a body of this game, or of none, was put in under its dot
+abbrev pub filed_at : Games → Dot → Body → Option Code → Games
+filed_at games d body None = games
+filed_at games d body (Some c) = after games c (with_body (game_at games c) d body)
+
 abbrev pub filed : Games → Dot → Body → Games
-filed games d (kind.Block b) = after games b.code (with_block (game_at games b.code) d b)
-filed games d (kind.Period p) = after games p.code (with_period (game_at games p.code) d p)
-filed games d (kind.Note n) = games
-filed games d (kind.Removal r) = games
+filed games d body = filed_at games d body (game_of_body body)
 
 -- the notes after an operation was put in
 abbrev pub noted : Operations → Operation → Operations

@@ -1,13 +1,14 @@
 //! What is kept beside a set: its games and its notes.
 
-ghost use Rattle.std.specs.Prelude.{◌≡◌, None, IsSome, IfErr, OnOk, OnErr};
+ghost use Rattle.std.specs.Prelude.{◌≡◌, None, Some, IsSome, IfErr, OnOk, OnErr};
 ghost use Rattle.std.specs.BTreeMap as tree;
 ghost use Rattle.oct_code.specs.Code as octal;
-ghost use Rattle.oct_replica.specs.Beside.{HasOwnCode, after, filed, game_at, noted, with_block, with_period};
+ghost use Rattle.oct_ops.specs.Games.{game_of};
+ghost use Rattle.oct_replica.specs.Beside.{HasOwnCode, after, filed, game_at, noted, with_body};
 
 use oct_code::Code;
 use oct_notes::Notes;
-use oct_ops::{Block, Body, Dot, Op, Period};
+use oct_ops::{Body, Op};
 use oct_period::Game;
 use std::alloc::{AllocError, Allocator};
 use std::collections::BTreeMap;
@@ -27,116 +28,95 @@ pub(crate) fn file<A: Allocator + Copy>(
     ensures same_notes { OnErr result (notes.new ≡ notes.old) }
     ensures returned { IfErr result (λ refused. refused.1 ≡ op) }
 {
-    let dot = op.dot();
-    match op.into_body() {
-        Body::Block(block) => match file_block(games, alloc, dot, block) {
-            Ok(()) => Ok(()),
-            Err((refused, block)) => Err((refused, Op::new(dot, Body::Block(block)))),
-        },
-        Body::Period(period) => match file_period(games, alloc, dot, period) {
-            Ok(()) => Ok(()),
-            Err(refused) => Err((refused, Op::new(dot, Body::Period(period)))),
-        },
-        body => notes.insert(Op::new(dot, body)),
+    match op.body().code() {
+        Some(code) => file_in_game(games, alloc, code, op),
+        None => notes.insert(op),
     }
 }
 
-// Puts the block into its game.
-fn file_block<A: Allocator + Copy>(
+// Puts the operation into the game that it is of.
+fn file_in_game<A: Allocator + Copy>(
     games: &mut BTreeMap<Code, Game<A>, A>,
     alloc: A,
-    dot: Dot,
-    block: Block<A>,
-) -> Result<(), (AllocError, Block<A>)>
-    requires { HasOwnCode (tree.get octal.code_cmp games.old) }
-    ensures ok { OnOk result ((q : octal.Code) → tree.get octal.code_cmp games.new q ≡ after (tree.get octal.code_cmp games.old) block.code (with_block (game_at (tree.get octal.code_cmp games.old) block.code) dot block) q) }
-    ensures err { OnErr result ((q : octal.Code) → tree.get octal.code_cmp games.new q ≡ tree.get octal.code_cmp games.old q) }
-    ensures returned { IfErr result (λ refused. refused.1 ≡ block) }
-{
-    let code = block.code();
-    if let Some(game) = games.get_mut(&code) {
-        return game.add_block(dot, block);
-    }
-    add_game(games, alloc, dot, block)
-}
-
-// Makes the game of a block, which is not there, and puts the block into it. Without memory it goes again.
-fn add_game<A: Allocator + Copy>(
-    games: &mut BTreeMap<Code, Game<A>, A>,
-    alloc: A,
-    dot: Dot,
-    block: Block<A>,
-) -> Result<(), (AllocError, Block<A>)>
+    code: Code,
+    op: Op<A>,
+) -> Result<(), (AllocError, Op<A>)>
     requires own { HasOwnCode (tree.get octal.code_cmp games.old) }
-    requires absent { tree.get octal.code_cmp games.old block.code ≡ None }
-    ensures ok { OnOk result ((q : octal.Code) → tree.get octal.code_cmp games.new q ≡ after (tree.get octal.code_cmp games.old) block.code (with_block (game_at (tree.get octal.code_cmp games.old) block.code) dot block) q) }
+    requires game { game_of op ≡ Some code }
+    ensures ok { OnOk result ((q : octal.Code) → tree.get octal.code_cmp games.new q ≡ after (tree.get octal.code_cmp games.old) code (with_body (game_at (tree.get octal.code_cmp games.old) code) op.dot op.body) q) }
     ensures err { OnErr result ((q : octal.Code) → tree.get octal.code_cmp games.new q ≡ tree.get octal.code_cmp games.old q) }
-    ensures returned { IfErr result (λ refused. refused.1 ≡ block) }
+    ensures returned { IfErr result (λ refused. refused.1 ≡ op) }
 {
-    let code = block.code();
+    if let Some(game) = games.get_mut(&code) {
+        return insert_body(game, op);
+    }
+    file_in_new_game(games, alloc, code, op)
+}
+
+// Makes the game of an operation, which is not there, and puts the operation into it. Without memory it goes again.
+fn file_in_new_game<A: Allocator + Copy>(
+    games: &mut BTreeMap<Code, Game<A>, A>,
+    alloc: A,
+    code: Code,
+    op: Op<A>,
+) -> Result<(), (AllocError, Op<A>)>
+    requires own { HasOwnCode (tree.get octal.code_cmp games.old) }
+    requires absent { tree.get octal.code_cmp games.old code ≡ None }
+    requires game { game_of op ≡ Some code }
+    ensures ok { OnOk result ((q : octal.Code) → tree.get octal.code_cmp games.new q ≡ after (tree.get octal.code_cmp games.old) code (with_body (game_at (tree.get octal.code_cmp games.old) code) op.dot op.body) q) }
+    ensures err { OnErr result ((q : octal.Code) → tree.get octal.code_cmp games.new q ≡ tree.get octal.code_cmp games.old q) }
+    ensures returned { IfErr result (λ refused. refused.1 ≡ op) }
+{
     let game = Game::new(alloc, code);
     let Ok(_) = games.insert(code, game) else {
-        return Err((AllocError, block));
+        return Err((AllocError, op));
     };
-    if let Err(refused) = add_there(games, dot, block) {
+    if let Err(refused) = file_there(games, code, op) {
         games.remove(&code);
         return Err(refused);
     }
     Ok(())
 }
 
-// Puts the block into its game, which is there.
-fn add_there<A: Allocator + Copy>(
+// Puts the operation into its game, which is there.
+fn file_there<A: Allocator + Copy>(
     games: &mut BTreeMap<Code, Game<A>, A>,
-    dot: Dot,
-    block: Block<A>,
-) -> Result<(), (AllocError, Block<A>)>
+    code: Code,
+    op: Op<A>,
+) -> Result<(), (AllocError, Op<A>)>
     requires own { HasOwnCode (tree.get octal.code_cmp games.old) }
-    requires there { IsSome (tree.get octal.code_cmp games.old block.code) }
-    ensures ok { OnOk result ((q : octal.Code) → tree.get octal.code_cmp games.new q ≡ after (tree.get octal.code_cmp games.old) block.code (with_block (game_at (tree.get octal.code_cmp games.old) block.code) dot block) q) }
+    requires there { IsSome (tree.get octal.code_cmp games.old code) }
+    requires game { game_of op ≡ Some code }
+    ensures ok { OnOk result ((q : octal.Code) → tree.get octal.code_cmp games.new q ≡ after (tree.get octal.code_cmp games.old) code (with_body (game_at (tree.get octal.code_cmp games.old) code) op.dot op.body) q) }
     ensures err { OnErr result ((q : octal.Code) → tree.get octal.code_cmp games.new q ≡ tree.get octal.code_cmp games.old q) }
-    ensures returned { IfErr result (λ refused. refused.1 ≡ block) }
+    ensures returned { IfErr result (λ refused. refused.1 ≡ op) }
 {
-    let code = block.code();
     match games.get_mut(&code) {
-        Some(game) => game.add_block(dot, block),
+        Some(game) => insert_body(game, op),
         None => unreachable!(),
     }
 }
 
-// Puts the claim into its game.
-fn file_period<A: Allocator + Copy>(
-    games: &mut BTreeMap<Code, Game<A>, A>,
-    alloc: A,
-    dot: Dot,
-    period: Period,
-) -> Result<(), AllocError>
-    requires { HasOwnCode (tree.get octal.code_cmp games.old) }
-    ensures ok { OnOk result ((q : octal.Code) → tree.get octal.code_cmp games.new q ≡ after (tree.get octal.code_cmp games.old) period.code (with_period (game_at (tree.get octal.code_cmp games.old) period.code) dot period) q) }
-    ensures err { OnErr result ((q : octal.Code) → tree.get octal.code_cmp games.new q ≡ tree.get octal.code_cmp games.old q) }
-{
-    let code = period.code();
-    if let Some(game) = games.get_mut(&code) {
-        return add_period(game, dot, period);
-    }
-    let mut game = Game::new(alloc, code);
-    add_period(&mut game, dot, period)?;
-    games.insert(code, game)?;
-    Ok(())
-}
-
-// Puts the claim into this game.
-fn add_period<A: Allocator + Copy>(
+// Puts the block or the claim into this game.
+fn insert_body<A: Allocator + Copy>(
     game: &mut Game<A>,
-    dot: Dot,
-    period: Period,
-) -> Result<(), AllocError>
-    requires { period.code ≡ game.old.code }
-    ensures ok { OnOk result (game.new ≡ with_period game.old dot period) }
+    op: Op<A>,
+) -> Result<(), (AllocError, Op<A>)>
+    requires { game_of op ≡ Some game.old.code }
+    ensures ok { OnOk result (game.new ≡ with_body game.old op.dot op.body) }
     ensures err { OnErr result (game.new ≡ game.old) }
+    ensures returned { IfErr result (λ refused. refused.1 ≡ op) }
 {
-    match game.add_period(dot, period) {
-        Ok(()) => Ok(()),
-        Err((refused, _)) => Err(refused),
+    let dot = op.dot();
+    match op.into_body() {
+        Body::Block(block) => match game.insert_block(dot, block) {
+            Ok(()) => Ok(()),
+            Err((refused, block)) => Err((refused, Op::new(dot, Body::Block(block)))),
+        },
+        Body::Period(period) => match game.insert_period(dot, period) {
+            Ok(()) => Ok(()),
+            Err((refused, period)) => Err((refused, Op::new(dot, Body::Period(period)))),
+        },
+        Body::Note(_) | Body::Removal(_) => Ok(()),
     }
 }

@@ -42,7 +42,7 @@ use oct_code::Code;
 use oct_delta::{DeltaError, EncodeError, decode, encode};
 use oct_join::Clock;
 use oct_notes::Notes;
-use oct_ops::{Block, Body, Dot, Op, OpList, Period, Removal, RemovalError as Fault};
+use oct_ops::{Block, Body, Dot, Op, OpList, Period, Removal};
 use oct_pages::{Parts, write_catalogue, write_page};
 use oct_period::{Game, Move, Outcome, Unknown};
 use oct_store::Store;
@@ -149,7 +149,7 @@ impl<A: Allocator + Copy> Replica<A> {
         let mut done = 0;
         let mut new = 0;
         for op in list.into_vec() {
-            let Ok(is_new) = self.take_op(op) else {
+            let Ok(is_new) = self.insert(op) else {
                 return Err(TakeError::OutOfMemory { done });
             };
             if is_new {
@@ -187,7 +187,7 @@ impl<A: Allocator + Copy> Replica<A> {
         let Some(dot) = self.next_dot() else {
             return Err((IssueError::LastNumber, body));
         };
-        match self.take_op(Op::new(dot, body)) {
+        match self.insert(Op::new(dot, body)) {
             Ok(_) => Ok(dot),
             Err((_, op)) => Err((IssueError::OutOfMemory, op.into_body())),
         }
@@ -349,9 +349,9 @@ impl<A: Allocator + Copy> Replica<A> {
         };
         match Removal::new(dots) {
             Ok(removal) => Ok(removal),
-            Err((Fault::Empty, _)) => Err(RemovalError::NoNote),
-            Err((Fault::TooMany, _)) => Err(RemovalError::TooMany),
-            Err((Fault::NotRising, _)) => unreachable!(),
+            Err((oct_ops::RemovalError::Empty, _)) => Err(RemovalError::NoNote),
+            Err((oct_ops::RemovalError::TooMany, _)) => Err(RemovalError::TooMany),
+            Err((oct_ops::RemovalError::NotRising, _)) => unreachable!(),
         }
     }
 
@@ -430,9 +430,9 @@ impl<A: Allocator + Copy> Replica<A> {
         Some(own_dot(self.author, last + 1))
     }
 
-    // Takes in the operation, and says whether it is new. Memory can be refused only where it is; then nothing changes,
+    // Puts the operation in, and says whether it is new. Memory can be refused only where it is; then nothing changes,
     // and the operation comes back.
-    fn take_op(&mut self, op: Op<A>) -> Result<bool, (AllocError, Op<A>)>
+    fn insert(&mut self, op: Op<A>) -> Result<bool, (AllocError, Op<A>)>
         ensures added { IfOk result (λ added. added ≡ not (contains self.old.ops op)) }
         ensures ok { OnOk result (self.new ≡ record self.old { ops = insert self.old.ops op }) }
         ensures err { OnErr result (self.new ≡ self.old) }
@@ -442,11 +442,11 @@ impl<A: Allocator + Copy> Replica<A> {
         if self.store.contains(&op) {
             return Ok(false);
         }
-        self.take_new(op)?;
+        self.insert_new(op)?;
         Ok(true)
     }
 
-    // Takes in a copy of the operation, and says whether it is new. Memory can be refused only where it is; then nothing
+    // Puts in a copy of the operation, and says whether it is new. Memory can be refused only where it is; then nothing
     // changes.
     fn add(&mut self, op: &Op<A>) -> Result<bool, AllocError>
         ensures added { IfOk result (λ added. added ≡ not (contains self.old.ops op.now)) }
@@ -458,15 +458,15 @@ impl<A: Allocator + Copy> Replica<A> {
             return Ok(false);
         }
         let copy = op.copy(self.alloc)?;
-        match self.take_new(copy) {
+        match self.insert_new(copy) {
             Ok(()) => Ok(true),
             Err((refused, _)) => Err(refused),
         }
     }
 
-    // Takes in an operation that is not there: a copy goes into the set, and the operation itself into its game or the
+    // Puts in an operation that is not there: a copy goes into the set, and the operation itself into its game or the
     // notes. Without memory nothing changes, and the operation comes back.
-    fn take_new(&mut self, op: Op<A>) -> Result<(), (AllocError, Op<A>)>
+    fn insert_new(&mut self, op: Op<A>) -> Result<(), (AllocError, Op<A>)>
         requires { contains self.old.ops op ≡ false }
         ensures ok { OnOk result (self.new ≡ record self.old { ops = insert self.old.ops op }) }
         ensures err { OnErr result (self.new ≡ self.old) }

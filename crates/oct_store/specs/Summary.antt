@@ -3,14 +3,14 @@ use Rattle.std.specs.Prelude.{◌≡◌, ℕ, zero, suc, ◌+◌, ◌-◌, ◌&&
 use Rattle.std.specs.List.{list_any, filter, fold, count_by}
 use Rattle.std.specs.Ordering.{nat_cmp, eq_by_cmp}
 use Rattle.std.specs.FinMap as finmap
-use Rattle.oct_ops.specs.Code.{Code, code_eq}
+use Rattle.oct_ops.specs.Code.{Code}
 use Rattle.oct_ops.specs.Arranged.{arranged}
 use Rattle.oct_ops.specs.DotOrder.{dot_cmp}
+use Rattle.oct_ops.specs.Games.{of_code}
 use Rattle.oct_ops.specs.Operation.{Dot}
 use Rattle.oct_ops.specs.Operations.{Operations}
 use Rattle.oct_ops.specs.Operations.{keep}
-use Rattle.oct_ops.specs.Body.{Body, Operation}
-use Rattle.oct_ops.specs.Body as kind
+use Rattle.oct_ops.specs.Body.{Operation}
 use Rattle.oct_join.specs.Clock.{Clock, covers}
 
 abbrev pub dots : List Operation → List Dot
@@ -73,17 +73,6 @@ not_covered t o = not (covers t o.dot)
 -- the operations that a clock does not cover
 abbrev pub beyond : Operations → Clock → Operations
 beyond ops t = keep (not_covered t) ops
-
--- a block or a claim of the game
-abbrev pub is_of_game : Code → Body → Bool
-is_of_game c (kind.Block b) = code_eq b.code c
-is_of_game c (kind.Period p) = code_eq p.code c
-is_of_game c (kind.Note n) = false
-is_of_game c (kind.Removal r) = false
-
--- an operation of the game
-abbrev pub of_code : Code → Operation → Bool
-of_code c o = is_of_game c o.body
 
 -- the blocks and claims of the game
 abbrev pub of_game : Operations → Code → Operations

@@ -3,7 +3,6 @@
 ghost use Rattle.std.specs.Prelude.{◌≡◌, ◌↔◌, ◌++◌, not, false, length, IsTrue, IfOk, IfErr, OnOk, OnErr};
 ghost use Rattle.oct_ops.specs.Operations.{empty, insert, remove, contains, listed, union, IsSubset};
 ghost use Rattle.oct_ops.specs.OrderLaws.{op_cmp_total, op_cmp_exact};
-ghost use Rattle.oct_ops.specs.Views.{content};
 ghost use Rattle.oct_join.specs.SetBounds.{subset_order, union_bound};
 ghost use Rattle.oct_store.specs.Rows.{author_rows, fork_rows, fork_or_none};
 ghost use Rattle.oct_store.specs.Summary as summary;
@@ -11,10 +10,10 @@ ghost use Rattle.oct_store.specs.Summary as summary;
 use crate::author::Author;
 use crate::fork::Fork;
 use oct_code::Code;
-use oct_join::{Clock, Join};
-use oct_ops::{Body, Op, OpList};
+use oct_join::{Clock, Join, OpSet};
+use oct_ops::{Op, OpList};
 use std::alloc::{AllocError, Allocator};
-use std::collections::{BTreeSet, btree_set};
+use std::collections::btree_set;
 use std::marker::Model;
 
 /// A finite set of operations, in memory of `A`. Operations are the same only if dot and body are.
@@ -29,22 +28,18 @@ use std::marker::Model;
 /// read off the whole set is read in one pass over it, in the order of the operations.
 #[derive(Drop)]
 pub struct Store<A: Allocator + Copy> {
-    ops: BTreeSet<Op<A>, A>,
+    ops: OpSet<A>,
     alloc: A,
 }
 
 impl<A: Allocator + Copy> Model for Store<A> {
-    ghost use Rattle.std.specs.List.Sorted.{IsStrictlySortedBy};
-    ghost use Rattle.oct_ops.specs.Operations.{Operations, operations_code, set_of};
-    ghost use Rattle.oct_ops.specs.Order.{op_cmp};
+    ghost use Rattle.oct_ops.specs.Operations.{Operations, operations_code};
 
     ghost Value = { Operations };
 
     ghost coded = { operations_code };
 
-    ghost view = { λ s. set_of s.ops.keys };
-
-    ghost invariant = { λ s. IsStrictlySortedBy op_cmp s.ops.keys };
+    ghost view = { λ s. s.ops };
 }
 
 impl<A: Allocator + Copy> Store<A> {
@@ -53,7 +48,7 @@ impl<A: Allocator + Copy> Store<A> {
         ensures { result ≡ empty }
     {
         Store {
-            ops: BTreeSet::new(alloc),
+            ops: OpSet::new(alloc),
             alloc,
         }
     }
@@ -69,7 +64,7 @@ impl<A: Allocator + Copy> Store<A> {
     pub fn is_empty(&self) -> bool
         ensures { IsTrue result ↔ (length (listed self.now) ≡ 0) }
     {
-        self.len() == 0
+        self.ops.is_empty()
     }
 
     /// Whether the operation is there, with this dot and this body.
@@ -88,10 +83,7 @@ impl<A: Allocator + Copy> Store<A> {
         ensures absent { OnErr result (contains self.old op ≡ false) }
         ensures returned { IfErr result (λ refused. refused.1 ≡ op) }
     {
-        match self.ops.insert(op) {
-            Ok(added) => Ok(added),
-            Err(refused) => Err((AllocError, refused.value)),
-        }
+        self.ops.insert(op)
     }
 
     /// Takes the operation out, and says whether it was there.
@@ -214,26 +206,11 @@ impl<A: Allocator + Copy> Store<A> {
     {
         let mut list = Vec::new(self.alloc);
         for op in self.iter() {
-            if is_of_game(op.body(), code) {
+            if op.body().code() == Some(code) {
                 list.push(op.copy(self.alloc)?)?;
             }
         }
         Ok(OpList::of_rising(list))
-    }
-
-    // Takes in an operation of another store.
-    fn insert_copy(&mut self, op: &Op<A>) -> Result<(), AllocError>
-        ensures ok { OnOk result (self.new ≡ insert self.old op.now) }
-        ensures err { OnErr result (self.new ≡ self.old) }
-    {
-        if self.contains(op) {
-            return Ok(());
-        }
-        let copy = op.copy(self.alloc)?;
-        match self.insert(copy) {
-            Ok(_) => Ok(()),
-            Err((refused, _)) => Err(refused),
-        }
     }
 }
 
@@ -247,27 +224,13 @@ fn push_fork<A: Allocator>(forks: &mut Vec<Fork, A>, fork: Fork) -> Result<(), A
     Ok(())
 }
 
-// Whether the body is a block or a claim of the game.
-fn is_of_game<A: Allocator>(body: &Body<A>, code: Code) -> bool
-    ensures { result ≡ summary.is_of_game code (content body.now) }
-{
-    match body {
-        Body::Block(block) => block.code() == code,
-        Body::Period(period) => period.code() == code,
-        Body::Note(_) | Body::Removal(_) => false,
-    }
-}
-
 impl<A: Allocator + Copy> Join for Store<A> {
     ghost below = { IsSubset };
 
     ghost bound = { union };
 
     fn join(&mut self, other: &Store<A>) -> Result<(), AllocError> {
-        for op in other.iter() {
-            self.insert_copy(op)?;
-        }
-        Ok(())
+        self.ops.join(&other.ops)
     }
 
     ghost order = { subset_order op_cmp_total op_cmp_exact };

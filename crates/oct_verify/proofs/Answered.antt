@@ -11,7 +11,7 @@ use Rattle.oct_verify.specs.Filed.{Filed}
 use Rattle.oct_verify.specs.Filing.{Filing}
 use Rattle.oct_verify.specs.Kept.{filing_of, listed, blocks_of, IsPlaceOf}
 use Rattle.oct_verify.specs.Known.{IsKnownLength, known, status}
-use Rattle.oct_verify.specs.Paged.{paged}
+use Rattle.oct_verify.specs.Chunked.{chunked}
 use Rattle.oct_verify.specs.Shelf.{shelved, IsKept}
 use Rattle.oct_verify.specs.declared.shelf.Shelf.{Shelf}
 use Rattle.oct_verify.proofs.Filings.{listed_again}
@@ -31,7 +31,7 @@ blocks-listed (e ∷ es) = ap (λ bs. e.block ∷ bs) (blocks-listed es)
 
 module _ {A : Type 0} (s : Shelf A) (kept : IsKept s) where
   abbrev es : List Filed
-  es = paged s.entries
+  es = chunked s.entries
 
   abbrev code : Code
   code = s.comparer.values.code

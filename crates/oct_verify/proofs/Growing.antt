@@ -7,11 +7,11 @@ use Rattle.oct_code.specs.Code.{Code}
 use Rattle.oct_ops.specs.Operation.{Block}
 use Rattle.oct_verify.specs.Filed.{Filed}
 use Rattle.oct_verify.specs.Kept.{is_pending, IsSettling}
-use Rattle.oct_verify.specs.Paged.{paged, index_of, IsPaged, IsInside, IsBeside, content}
+use Rattle.oct_verify.specs.Chunked.{chunked, index_of, IsChunked, IsInside, IsBeside, content}
 use Rattle.oct_verify.specs.Shelf.{IsHalfway, IsKept}
 use Rattle.oct_verify.specs.Known.{first_wrong, verdict_at, verdict}
-use Rattle.oct_verify.specs.declared.pages.Pages.{Pages}
-use Rattle.oct_verify.specs.declared.pages.Place.{Place}
+use Rattle.oct_verify.specs.declared.chunks.Chunks.{Chunks}
+use Rattle.oct_verify.specs.declared.chunks.Place.{Place}
 use Rattle.oct_verify.specs.declared.shelf.Shelf.{Shelf}
 use Rattle.oct_verify.proofs.Joining.{end-upto}
 use Rattle.oct_verify.proofs.Keeping.{more_room}
@@ -46,26 +46,26 @@ module _ (code : Code) (es : List Filed) (settled known room : ℕ) (h : IsSettl
   waiting_not k d lo hi = ap (λ s. not (is_pending s)) (h.waiting k d lo hi)
 
 -- a place with an entry is one of the list
-pub inside_within : {X A : Type 0} (s : Pages X A) (place : Place) → IsInside s place → index_of s place < length (paged s)
-inside_within s place h = elim s.pages.items as (λ l. s.pages.items ≡ l → index_of s place < length (paged s)) [
-  | [] ↦ λ e. absurd (omega (arith, h.page, ap length e))
-  | v ∷ vs ↦ λ e. omega (arith, end-upto content s.pages.items place.page v h.page, h.at v)
+pub inside_within : {X A : Type 0} (s : Chunks X A) (place : Place) → IsInside s place → index_of s place < length (chunked s)
+inside_within s place h = elim s.chunks.items as (λ l. s.chunks.items ≡ l → index_of s place < length (chunked s)) [
+  | [] ↦ λ e. absurd (omega (arith, h.chunk, ap length e))
+  | v ∷ vs ↦ λ e. omega (arith, end-upto content s.chunks.items place.chunk v h.chunk, h.at v)
 ] refl
 
-pub beside_upto : {X A : Type 0} (s : Pages X A) (place : Place) → IsBeside s place → index_of s place ≤ length (paged s)
-beside_upto s place h = elim s.pages.items as (λ l. s.pages.items ≡ l → index_of s place ≤ length (paged s)) [
-  | [] ↦ λ e. absurd (omega (arith, h.page, ap length e))
-  | v ∷ vs ↦ λ e. omega (arith, end-upto content s.pages.items place.page v h.page, h.at v)
+pub beside_upto : {X A : Type 0} (s : Chunks X A) (place : Place) → IsBeside s place → index_of s place ≤ length (chunked s)
+beside_upto s place h = elim s.chunks.items as (λ l. s.chunks.items ≡ l → index_of s place ≤ length (chunked s)) [
+  | [] ↦ λ e. absurd (omega (arith, h.chunk, ap length e))
+  | v ∷ vs ↦ λ e. omega (arith, end-upto content s.chunks.items place.chunk v h.chunk, h.at v)
 ] refl
 
 -- a shelf whose content stays, and that may have more room
-module _ {A : Type 0} (s t : Shelf A) (kept : IsKept s) (pages : IsPaged t.entries) (same : paged t.entries ≡ paged s.entries) (known : t.known ≡ s.known) (checks : t.comparer.checks ≡ s.comparer.checks)
+module _ {A : Type 0} (s t : Shelf A) (kept : IsKept s) (chunks : IsChunked t.entries) (same : chunked t.entries ≡ chunked s.entries) (known : t.known ≡ s.known) (checks : t.comparer.checks ≡ s.comparer.checks)
     (code : t.comparer.values.code ≡ s.comparer.values.code) (len : t.comparer.values.len ≡ s.comparer.values.len) (room : s.comparer.values.room ≤ t.comparer.values.room) where
   pub halfway_grown : IsHalfway t
   halfway_grown =
-      let more = more_room s.comparer.values.code (paged s.entries) s.comparer.checks s.known s.comparer.values.room t.comparer.values.room room kept.halfway.settling in
+      let more = more_room s.comparer.values.code (chunked s.entries) s.comparer.checks s.known s.comparer.values.room t.comparer.values.room room kept.halfway.settling in
       record {
-        pages = pages;
+        chunks = chunks;
         settling = rw (code, same, checks, known) more;
         within = rw known kept.halfway.within;
         held = rw (known, len) kept.halfway.held;

@@ -1,8 +1,8 @@
+mod Chunking
 mod Ending
 mod Joining
 mod Lists
 mod Lookup
-mod Paging
 pub mod Answered
 pub mod Filings
 pub mod Growing

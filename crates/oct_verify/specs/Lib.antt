@@ -1,6 +1,7 @@
 pub use Rattle.oct_code.specs.Code
 pub use Rattle.oct_mex.specs.NimValues
 pub use Rattle.oct_ops.specs.Operation
+pub mod Chunked
 pub mod Filed
 pub mod Filing
 pub mod FilingLaws
@@ -8,5 +9,4 @@ pub mod Kept
 pub mod Known
 pub mod Laws
 pub mod Next
-pub mod Paged
 pub mod Shelf

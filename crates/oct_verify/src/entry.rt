@@ -5,9 +5,9 @@ ghost use Rattle.std.specs.Ordering.{is_lt};
 ghost use Rattle.oct_verify.specs.Filed.{Filed};
 ghost use Rattle.oct_verify.specs.Filing.{filing_cmp};
 ghost use Rattle.oct_verify.specs.Kept.{filing_of, is_pending};
-ghost use Rattle.oct_verify.specs.Paged.{paged, index_of, IsPaged, IsInside, IsItemAt};
+ghost use Rattle.oct_verify.specs.Chunked.{chunked, index_of, IsChunked, IsInside, IsItemAt};
 
-use crate::pages::{Pages, Place, Test};
+use crate::chunks::{Chunks, Place, Test};
 use crate::status::Status;
 use oct_ops::{Block, Dot};
 use std::alloc::Allocator;
@@ -68,16 +68,16 @@ impl<A: Allocator> Entry<A> {
     }
 }
 
-impl<A: Allocator + Copy> Pages<Entry<A>, A> {
+impl<A: Allocator + Copy> Chunks<Entry<A>, A> {
     /// Writes the status of the entry at a place.
     pub(crate) fn set_status(&mut self, place: Place, status: Status)
-        requires paged { IsPaged self.old }
+        requires chunked { IsChunked self.old }
         requires inside { IsInside self.old place }
-        ensures paged { IsPaged self.new }
+        ensures chunked { IsChunked self.new }
         ensures len { self.new.len ≡ self.old.len }
-        ensures items { (e : Filed) → IsItemAt self.old place e → paged self.new ≡ set (paged self.old) (index_of self.old place) (record e { status = status }) }
+        ensures items { (e : Filed) → IsItemAt self.old place e → chunked self.new ≡ set (chunked self.old) (index_of self.old place) (record e { status = status }) }
     {
-        self.pages[place.page][place.at].set_status(status);
+        self.chunks[place.chunk][place.at].set_status(status);
     }
 }
 

@@ -14,7 +14,7 @@ use oct_ops::{Block, Dot};
 use std::alloc::{AllocError, Allocator};
 use std::marker::Model;
 
-/// A finite set of blocks of one game, each under its dot, with what is known from them. Only `add` asks for memory.
+/// A finite set of blocks of one game, each under its dot, with what is known from them. Only `insert` asks for memory.
 #[derive(Drop)]
 pub struct Ledger<A: Allocator + Copy> {
     shelf: Shelf<A>,
@@ -51,17 +51,17 @@ impl<A: Allocator + Copy> Ledger<A> {
         self.shelf.comparer.values.code()
     }
 
-    /// Adds a block of the game under its dot, and settles blocks that waited until none of them starts at or below the known
+    /// Puts in a block of the game under its dot, and settles blocks that waited until none of them starts at or below the known
     /// length. A pair that is there changes nothing, and asks for no memory. All memory is asked for first: where it is
     /// refused, nothing changes, and the block is handed back.
-    pub fn add(&mut self, dot: Dot, block: Block<A>) -> Result<(), (AllocError, Block<A>)>
+    pub fn insert(&mut self, dot: Dot, block: Block<A>) -> Result<(), (AllocError, Block<A>)>
         requires { block.code ≡ self.old.code }
         ensures ok { OnOk result (self.new ≡ record self.old { blocks = sets.insert self.old.blocks (dot, block) }) }
         ensures err { OnErr result (self.new ≡ self.old) }
         ensures absent { OnErr result (sets.contains self.old.blocks (dot, block) ≡ false) }
         ensures returned { IfErr result (λ refused. refused.1 ≡ block) }
     {
-        self.shelf.add(dot, block)
+        self.shelf.insert(dot, block)
     }
 
     /// The known length: the greatest number, from 1 on, such that each heap from 1 on below it lies in some true block.

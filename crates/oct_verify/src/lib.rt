@@ -5,20 +5,20 @@
 //! in turn. What the ledger says is that of its set of blocks alone, whatever their order:
 //!
 //!     let mut ledger = Ledger::new(alloc, kayles);
-//!     ledger.add(far, at_7)?;        // waits: known 1
-//!     ledger.add(near, at_1_to_6)?;  // settles both: known 8
-//!     ledger.status(&far, &at_7)     // Proved
+//!     ledger.insert(far, at_7)?;        // waits: known 1
+//!     ledger.insert(near, at_1_to_6)?;  // settles both: known 8
+//!     ledger.status(&far, &at_7)        // Proved
 //!
 //! - `Ledger` is a code and a finite set of pairs of a dot and a block.
 //! - `Status` says whether a block is proved, refuted at its least wrong place, or pending.
 //! - `laws` says what holds of all sets of blocks.
 #![tactic(auto)]
 
+mod chunks;
 mod comparer;
 mod entry;
 pub mod laws;
 mod ledger;
-mod pages;
 mod shelf;
 mod status;
 

@@ -3,12 +3,12 @@
 ghost use Rattle.std.specs.Prelude.{◌≡◌, ◌+◌, ◌<◌, ◌≤◌, ◌^◌, true, false, [], vec_len, OnOk, OnErr, IfOk, IfErr, MatchResult, MatchOption};
 ghost use Rattle.oct_ops.specs.Sets as sets;
 ghost use Rattle.oct_verify.specs.Kept.{grown, IsGap, IsPlaceOf};
-ghost use Rattle.oct_verify.specs.Paged.{paged, index_of, IsInside, IsNear};
-ghost use Rattle.oct_verify.specs.Shelf.{shelved, IsHalfway, IsKept, IsNextReached, IsOpen};
+ghost use Rattle.oct_verify.specs.Chunked.{chunked, index_of, IsInside, IsNear};
+ghost use Rattle.oct_verify.specs.Shelf.{shelved, IsHalfway, IsKept, IsNextReached, HasRoomFor};
 
+use crate::chunks::{Chunks, Place};
 use crate::comparer::Comparer;
 use crate::entry::{Entry, IsBefore, IsSettled};
-use crate::pages::{Pages, Place};
 use crate::status::Status;
 use oct_code::Code;
 use oct_ops::{Block, Dot};
@@ -19,7 +19,7 @@ use std::cmp::Ordering;
 #[derive(Drop)]
 pub(crate) struct Shelf<A: Allocator + Copy> {
     pub(crate) comparer: Comparer<A>,
-    pub(crate) entries: Pages<Entry<A>, A>,
+    pub(crate) entries: Chunks<Entry<A>, A>,
     pub(crate) known: u32,
 }
 
@@ -38,11 +38,11 @@ impl<A: Allocator + Copy> Shelf<A> {
     pub(crate) fn new(alloc: A, code: Code) -> Shelf<A>
         ensures code { result.comparer.values.code ≡ code }
         ensures kept { IsKept result }
-        ensures empty { paged result.entries ≡ [] }
+        ensures empty { chunked result.entries ≡ [] }
     {
         Shelf {
             comparer: Comparer::new(alloc, code),
-            entries: Pages::new(alloc),
+            entries: Chunks::new(alloc),
             known: 1,
         }
     }
@@ -51,8 +51,8 @@ impl<A: Allocator + Copy> Shelf<A> {
     pub(crate) fn place(&self, dot: &Dot, block: &Block<A>) -> Result<Place, Place>
         requires { IsHalfway self.now }
         ensures { MatchResult result
-            (λ p. IsInside self.now.entries p × IsPlaceOf (paged self.now.entries) (dot.now, block.now) (index_of self.now.entries p))
-            (λ p. IsNear self.now.entries p × IsGap (paged self.now.entries) (dot.now, block.now) (index_of self.now.entries p)) }
+            (λ p. IsInside self.now.entries p × IsPlaceOf (chunked self.now.entries) (dot.now, block.now) (index_of self.now.entries p))
+            (λ p. IsNear self.now.entries p × IsGap (chunked self.now.entries) (dot.now, block.now) (index_of self.now.entries p)) }
     {
         let place = self.entries.partition_point(&IsBefore { dot, block });
         let Some(here) = self.entries.get(place) else {
@@ -106,13 +106,13 @@ impl<A: Allocator + Copy> Shelf<A> {
     }
 
     // The place for a block that is not here yet, with room for it and its values.
-    fn open(&mut self, dot: &Dot, block: &Block<A>) -> Result<Option<Place>, AllocError>
+    fn make_room(&mut self, dot: &Dot, block: &Block<A>) -> Result<Option<Place>, AllocError>
         requires kept { IsKept self.old }
         requires game { block.now.code ≡ self.old.comparer.values.code }
         ensures kept { IsKept self.new }
         ensures code { self.new.comparer.values.code ≡ self.old.comparer.values.code }
         ensures filings { shelved self.new ≡ shelved self.old }
-        ensures ok { IfOk result (λ found. MatchOption found (sets.contains (shelved self.new) (dot.now, block.now) ≡ true) (IsOpen self.new (dot.now, block.now))) }
+        ensures ok { IfOk result (λ found. MatchOption found (sets.contains (shelved self.new) (dot.now, block.now) ≡ true) (HasRoomFor self.new (dot.now, block.now))) }
         ensures absent { OnErr result (sets.contains (shelved self.old) (dot.now, block.now) ≡ false) }
     {
         let Err(place) = self.place(dot, block) else {
@@ -122,35 +122,35 @@ impl<A: Allocator + Copy> Shelf<A> {
         Ok(Some(self.entries.room_at(place)?))
     }
 
-    // Judges a block that starts at or below the known length, and files it.
-    fn file_reached(&mut self, place: Place, dot: Dot, block: Block<A>)
+    // Judges a block that starts at or below the known length, and puts it in.
+    fn insert_reached(&mut self, place: Place, dot: Dot, block: Block<A>)
         requires kept { IsKept self.old }
         requires reached { block.start ≤ self.old.known }
-        requires open { IsOpen self.old (dot, block) place }
+        requires room { HasRoomFor self.old (dot, block) place }
         ensures halfway { IsHalfway self.new }
         ensures code { self.new.comparer.values.code ≡ self.old.comparer.values.code }
         ensures filings { shelved self.new ≡ sets.insert (shelved self.old) (dot, block) }
     {
         let status = self.comparer.compare(&block);
         self.known = grown(self.known, status, block.end());
-        self.entries.put(place, Entry::new(dot, block, status));
+        self.entries.insert(place, Entry::new(dot, block, status));
     }
 
-    // Files a block that starts beyond the known length.
-    fn file_parked(&mut self, place: Place, dot: Dot, block: Block<A>)
+    // Puts in a block that starts beyond the known length.
+    fn insert_parked(&mut self, place: Place, dot: Dot, block: Block<A>)
         requires kept { IsKept self.old }
         requires beyond { self.old.known < block.start }
-        requires open { IsOpen self.old (dot, block) place }
+        requires room { HasRoomFor self.old (dot, block) place }
         ensures halfway { IsHalfway self.new }
         ensures code { self.new.comparer.values.code ≡ self.old.comparer.values.code }
         ensures filings { shelved self.new ≡ sets.insert (shelved self.old) (dot, block) }
     {
         self.entries
-            .put(place, Entry::new(dot, block, Status::Pending));
+            .insert(place, Entry::new(dot, block, Status::Pending));
     }
 
-    /// Adds a block. A refusal hands it back, which is not filed, and leaves what is filed as it was.
-    pub(crate) fn add(&mut self, dot: Dot, block: Block<A>) -> Result<(), (AllocError, Block<A>)>
+    /// Puts a block in. A refusal hands it back, which is not there, and leaves what is there as it was.
+    pub(crate) fn insert(&mut self, dot: Dot, block: Block<A>) -> Result<(), (AllocError, Block<A>)>
         requires kept { IsKept self.old }
         requires game { block.code ≡ self.old.comparer.values.code }
         ensures kept { IsKept self.new }
@@ -160,15 +160,15 @@ impl<A: Allocator + Copy> Shelf<A> {
         ensures absent { OnErr result (sets.contains (shelved self.old) (dot, block) ≡ false) }
         ensures returned { IfErr result (λ refusal. refusal.1 ≡ block) }
     {
-        let place = match self.open(&dot, &block) {
+        let place = match self.make_room(&dot, &block) {
             Err(refusal) => return Err((refusal, block)),
             Ok(None) => return Ok(()),
             Ok(Some(place)) => place,
         };
         if block.start() <= self.known {
-            self.file_reached(place, dot, block);
+            self.insert_reached(place, dot, block);
         } else {
-            self.file_parked(place, dot, block);
+            self.insert_parked(place, dot, block);
         }
         self.settle_waiting();
         Ok(())

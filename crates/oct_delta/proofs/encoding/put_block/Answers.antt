@@ -8,4 +8,4 @@ pub returns-in_err-put_u16-clause-kept : goal.returns-in_err-put_u16-clause-kept
 returns-in_err-put_u16-clause-kept g c = keeps_then _ _ _ (keeps_then _ _ _ c.put_code.ensures.kept c.put_u32.ensures.kept) c.put_u16.ensures.kept
 
 pub returns-clause-kept : goal.returns-clause-kept
-returns-clause-kept g c = keeps_then _ _ _ (keeps_then _ _ _ (keeps_then _ _ _ c.put_code.ensures.kept c.put_u32.ensures.kept) c.put_u16.ensures.kept) c.put_numbers.ensures.kept
+returns-clause-kept g c = keeps_then _ _ _ (keeps_then _ _ _ (keeps_then _ _ _ c.put_code.ensures.kept c.put_u32.ensures.kept) c.put_u16.ensures.kept) c.put_each.ensures.kept

@@ -21,8 +21,8 @@ pub returns-clause-ok : goal.returns-clause-ok
 returns-clause-ok g c =
     let ops = c.args.ops.now in
     let tag : c.tag.result ≡ (format_of ops).tag = c.tag.ensures ∙ ap (λ f. f.tag) c.edition_of.ensures in
-    subst (λ (t : Bytes). OnOk c.put_ops.result (c.put_ops.new.out.items ≡ c.args.out.now.items ++ (t ++ list_bytes ops))) tag
-    (in_three c.put_ops.result c.args.out.now.items c.put_bytes.new.out.items c.put_u32.new.out.items c.put_ops.new.out.items c.tag.result (u32 (length ops)) (flat_map op_bytes ops) c.in_ok-put_bytes.ensures.ok c.in_ok-put_u32.ensures.ok c.put_ops.ensures.ok)
+    subst (λ (t : Bytes). OnOk c.put_each.result (c.put_each.new.out.items ≡ c.args.out.now.items ++ (t ++ list_bytes ops))) tag
+    (in_three c.put_each.result c.args.out.now.items c.put_bytes.new.out.items c.put_u32.new.out.items c.put_each.new.out.items c.tag.result (u32 (length ops)) (flat_map op_bytes ops) c.in_ok-put_bytes.ensures.ok c.in_ok-put_u32.ensures.ok c.put_each.ensures.ok)
 
 pub returns-clause-kept : goal.returns-clause-kept
-returns-clause-kept g c = keeps_then _ _ _ (keeps_then _ _ _ c.put_bytes.ensures.kept c.put_u32.ensures.kept) c.put_ops.ensures.kept
+returns-clause-kept g c = keeps_then _ _ _ (keeps_then _ _ _ c.put_bytes.ensures.kept c.put_u32.ensures.kept) c.put_each.ensures.kept

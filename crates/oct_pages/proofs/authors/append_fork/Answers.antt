@@ -1,21 +1,16 @@
-use Rattle.std.proofs.Common.{◌++◌, ◌∙◌}
-use Rattle.std.specs.Prelude.{codes}
 use Rattle.std.proofs.lemmas.Result.{on_ok_weaker}
-use Rattle.oct_pages.specs.Catalogue.{dot_text}
 use Rattle.oct_pages.proofs.Growing.{extends_trans, grown_thrice}
 use Rattle.oct_pages.proofs.authors.append_fork.Goals as goal
 
 pub returns-in_err-append_labelled_dot-clause-grown : goal.returns-in_err-append_labelled_dot-clause-grown
 returns-in_err-append_labelled_dot-clause-grown g c = c.append_labelled_dot.ensures.grown
 
-pub returns-in_err-append_labelled_text-clause-grown : goal.returns-in_err-append_labelled_text-clause-grown
-returns-in_err-append_labelled_text-clause-grown g c = extends_trans _ _ _ c.append_labelled_dot.ensures.grown c.append_labelled_text.ensures.grown
+pub returns-in_err-append_labelled-clause-grown : goal.returns-in_err-append_labelled-clause-grown
+returns-in_err-append_labelled-clause-grown g c = extends_trans _ _ _ c.append_labelled_dot.ensures.grown c.append_labelled.ensures.grown
 
 pub returns-clause-ok : goal.returns-clause-ok
 returns-clause-ok g c =
-    on_ok_weaker c.append_text.result (λ last.
-    grown_thrice c.args.out.now.items _ _ _ _ _ _ c.in_ok-append_labelled_dot.ensures.ok c.in_ok-append_labelled_text.ensures.ok last
-    ∙ (λ i. c.args.out.now.items ++ (codes "fork " ++ dot_text c.args.fork.now.dot ++ (codes " contents " ++ (c.as_bytes.ensures.value ∙ c.format.ensures.text) i) ++ codes "\n"))) c.append_text.ensures.ok
+    on_ok_weaker c.append_text.result (λ last. grown_thrice _ _ _ _ _ _ _ c.in_ok-append_labelled_dot.ensures.ok c.in_ok-append_labelled.ensures.ok last) c.append_text.ensures.ok
 
 pub returns-clause-grown : goal.returns-clause-grown
-returns-clause-grown g c = extends_trans _ _ _ c.append_labelled_dot.ensures.grown (extends_trans _ _ _ c.append_labelled_text.ensures.grown c.append_text.ensures.grown)
+returns-clause-grown g c = extends_trans _ _ _ c.append_labelled_dot.ensures.grown (extends_trans _ _ _ c.append_labelled.ensures.grown c.append_text.ensures.grown)

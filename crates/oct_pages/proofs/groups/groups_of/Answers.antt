@@ -3,7 +3,7 @@ use Rattle.std.specs.Map.{lookup}
 use Rattle.std.specs.BTreeMap as tree
 use Rattle.oct_code.specs.Code.{code_cmp}
 use Rattle.oct_ops.specs.Operations.{listed}
-use Rattle.oct_pages.specs.Catalogue.{game_of_body}
+use Rattle.oct_ops.specs.Games.{game_of_body}
 use Rattle.oct_pages.specs.Groups.{found, lent}
 use Rattle.oct_pages.proofs.GroupLaws.{Grouping, all_grouped, begin, grouped_next, passed_over}
 use Rattle.oct_pages.proofs.groups.groups_of.Goals as goal
@@ -16,8 +16,8 @@ loop-op-init g c =
 pub loop-op-preserved-in-Continue-1 : goal.loop-op-preserved-in-Continue-1
 loop-op-preserved-in-Continue-1 g c =
     let groups = found (tree.get code_cmp c.loop-op.groups) in
-    grouped_next (listed c.args.store.now) c.next.new.self groups (found (tree.get code_cmp c.add.new.groups)) c.in-Some.op.now c.in-Some-game_of.code
-    (c.in-Some-game_of.ensures ∙ ap game_of_body c.body.ensures.value)
+    grouped_next (listed c.args.store.now) c.next.new.self groups (found (tree.get code_cmp c.add.new.groups)) c.in-Some.op.now c.in-Some-code.code
+    (c.in-Some-code.ensures ∙ ap game_of_body c.body.ensures.value)
     (subst (λ ops. Grouping (listed c.args.store.now) ops groups) c.in-Some.ensures.steps c.loop-op.invariant)
     c.in_ok-add.ensures
 

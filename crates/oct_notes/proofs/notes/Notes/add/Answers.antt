@@ -1,7 +1,5 @@
-use Rattle.std.proofs.Common.{sym, ◌∙◌}
-use Rattle.oct_ops.specs.SetLaws.{insert_held}
-use Rattle.oct_ops.specs.OrderLaws.{op_cmp_total, op_cmp_exact}
+use Rattle.oct_notes.proofs.Held.{notes_changed, notes-insert}
 use Rattle.oct_notes.proofs.notes.Notes.add.Goals as goal
 
-pub returns-then-contains-clause-ok : goal.returns-then-contains-clause-ok
-returns-then-contains-clause-ok g c = sym (insert_held op_cmp_total op_cmp_exact _ _ (sym c.contains.ensures.value ∙ c.if-contains.true))
+pub invariant_of-self : goal.invariant_of-self
+invariant_of-self g c = notes_changed c.add.result _ _ _ c.add.ensures.ok c.add.ensures.err c.self.invariant (notes-insert _ c.args.op.now c.self.invariant c.requires)

@@ -1,30 +1,5 @@
-use Rattle.std.proofs.Common.{sym, ap, subst, ◌∙◌}
-use Rattle.oct_ops.specs.Operations as set
-use Rattle.oct_ops.specs.SetLaws.{contains-keys, keys_added}
-use Rattle.oct_ops.specs.OrderLaws.{op_cmp_total, op_cmp_exact}
-use Rattle.oct_notes.specs.Notes.{AreNotes}
-use Rattle.oct_notes.proofs.Held.{kinds_with}
+use Rattle.oct_notes.proofs.Held.{notes_changed, notes-insert}
 use Rattle.oct_notes.proofs.notes.Notes.insert.Goals as goal
-use Rattle.oct_notes.proofs.notes.Notes.insert.Goals.{in-Ok, in-Err}
 
 pub invariant_of-self : goal.invariant_of-self
-invariant_of-self g c =
-    elim c.match-insert.branch [
-      | in-Ok w ↦ record { rising = c.insert.ensures.ordered; kinds = kinds_with _ _ c.args.op c.self.invariant.kinds c.requires w.in-Ok.ensures.keys }
-      | in-Err w ↦ subst AreNotes (sym (w.in-Err.ensures.err)) c.self.invariant
-    ]
-
-pub returns-clause-ok : goal.returns-clause-ok
-returns-clause-ok g c =
-    elim c.match-insert.branch [
-      | in-Ok w ↦ rw w.result-is (keys_added op_cmp_total op_cmp_exact _ _ _ w.in-Ok.ensures.updates ∙ ap (λ s. set.insert s c.args.op) c.self.view_is)
-      | in-Err w ↦ rw w.result-is tt
-    ]
-
-pub returns-clause-absent : goal.returns-clause-absent
-returns-clause-absent g c =
-    let seen = sym (contains-keys op_cmp_total op_cmp_exact c.self.inside.ops c.args.op) ∙ ap (λ s. set.contains s c.args.op) c.self.view_is in
-    elim c.match-insert.branch [
-      | in-Ok w ↦ rw w.result-is tt
-      | in-Err w ↦ rw w.result-is (sym seen ∙ w.in-Err.ensures.absent)
-    ]
+invariant_of-self g c = notes_changed c.insert.result _ _ _ c.insert.ensures.ok c.insert.ensures.err c.self.invariant (notes-insert _ c.args.op c.self.invariant c.requires)

@@ -1,4 +1,7 @@
+use Rattle.std.proofs.Common.{sym, subst}
+use Rattle.oct_notes.specs.Notes.{AreNotes}
+use Rattle.oct_notes.proofs.Held.{notes-empty}
 use Rattle.oct_notes.proofs.notes.Notes.new.Goals as goal
 
-pub returns : goal.returns
-returns g c = cc
+pub invariant_of-result : goal.invariant_of-result
+invariant_of-result g c = subst AreNotes (sym c.new.ensures) notes-empty

@@ -21,7 +21,7 @@ pub loop-op-preserved : goal.loop-op-preserved
 loop-op-preserved g c =
     let old = c.args.self.now in
     let now = c.loop-op.self in
-    let new = c.take_op.new.self in
+    let new = c.insert.new.self in
     let list = c.args.list in
     let rest = into_iter_items c.loop-op.op-iterator in
     let next = into_iter_items c.next.new.self in
@@ -43,7 +43,7 @@ loop-op-preserved g c =
 
 pub returns-in_default-clause-err : goal.returns-in_default-clause-err
 returns-in_default-clause-err g c =
-    takes_cut c.args.self.now c.loop-op.self c.take_op.new.self c.args.list (into_iter_items c.loop-op.op-iterator) (into_iter_items c.next.new.self) c.loop-op.done c.loop-op.new c.in-Some.op c.loop-op.invariant.along
+    takes_cut c.args.self.now c.loop-op.self c.insert.new.self c.args.list (into_iter_items c.loop-op.op-iterator) (into_iter_items c.next.new.self) c.loop-op.done c.loop-op.new c.in-Some.op c.loop-op.invariant.along
     c.in-Some.ensures.steps.0 c.in_default.ensures.err
 
 pub returns-clause-ok : goal.returns-clause-ok

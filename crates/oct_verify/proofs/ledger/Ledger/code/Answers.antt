@@ -2,7 +2,7 @@ use Rattle.std.proofs.Common.{sym, subst}
 use Rattle.oct_ops.specs.Sets as set
 use Rattle.oct_verify.specs.Filing.{AreBlocksOf, GameBlocks}
 use Rattle.oct_verify.specs.Kept.{listed}
-use Rattle.oct_verify.specs.Paged.{paged}
+use Rattle.oct_verify.specs.Chunked.{chunked}
 use Rattle.oct_verify.proofs.Filings.{listed_again}
 use Rattle.oct_verify.proofs.ledger.Ledger.code.Goals as goal
 
@@ -14,4 +14,4 @@ returns-clause-game g c =
     let shelf = c.self.inside.shelf in
     let settling = c.self.invariant.halfway.settling in
     subst (λ (game : GameBlocks). AreBlocksOf game.code (set.listed game.blocks)) c.self.view_is
-    (subst (AreBlocksOf shelf.comparer.values.code) (sym (listed_again (listed (paged shelf.entries)) settling.rising)) (λ k d lt. (settling.fits k d lt).game))
+    (subst (AreBlocksOf shelf.comparer.values.code) (sym (listed_again (listed (chunked shelf.entries)) settling.rising)) (λ k d lt. (settling.fits k d lt).game))

@@ -3,7 +3,7 @@ use Rattle.oct_ops.specs.Sets.{contains}
 use Rattle.oct_verify.specs.Filed.{Filed}
 use Rattle.oct_verify.specs.Filing.{Filing, GameBlocks, blocks_in}
 use Rattle.oct_verify.specs.Known.{status}
-use Rattle.oct_verify.specs.Paged.{paged, index_of}
+use Rattle.oct_verify.specs.Chunked.{chunked, index_of}
 use Rattle.oct_verify.proofs.Answered.{status_is}
 use Rattle.oct_verify.proofs.Searching.{gap_not_filed}
 use Rattle.oct_verify.proofs.ledger.Ledger.status.Goals as goal
@@ -12,7 +12,7 @@ pub unreachable-requires : goal.unreachable-requires
 unreachable-requires g c =
     let target : Filing = (c.args.dot.now, c.args.block.now) in
     let entries = c.self.inside.shelf.entries in
-    gap_not_filed (paged entries) target (index_of entries c.in-Err.field-0) c.in-Err.ensures.1 (ap (λ (g : GameBlocks). contains g.blocks target) c.self.view_is ∙ c.requires)
+    gap_not_filed (chunked entries) target (index_of entries c.in-Err.field-0) c.in-Err.ensures.1 (ap (λ (g : GameBlocks). contains g.blocks target) c.self.view_is ∙ c.requires)
 
 pub returns : goal.returns
 returns g c =

@@ -7,7 +7,7 @@ returns-clause-code g c = cc
 pub returns-clause-kept : goal.returns-clause-kept
 returns-clause-kept g c = record {
   halfway = record {
-    pages = c.new-2.ensures.paged;
+    chunks = c.new-2.ensures.chunked;
     settling = rw c.new-2.ensures.empty record {
       rising = λ i j d lt within. absurd (omega arith);
       mark = omega arith;

@@ -1,14 +1,14 @@
 use Rattle.std.proofs.Common.{◌≡◌, ◌<◌, ◌≤◌, length, get_or, sym, ap, subst, ◌∙◌, arith}
 use Rattle.std.proofs.lemmas.List.{get_or_default}
 use Rattle.oct_verify.specs.Filed.{Filed}
-use Rattle.oct_verify.specs.Paged.{paged, index_of}
+use Rattle.oct_verify.specs.Chunked.{chunked, index_of}
 use Rattle.oct_verify.proofs.Keeping.{parked_from_first}
 use Rattle.oct_verify.proofs.Growing.{inside_within, one_mark, is_settled, done_settled, waiting_not}
 use Rattle.oct_verify.proofs.shelf.Shelf.next_reached.Goals as goal
 
 pub returns-then-start-self : goal.returns-then-start-self
 returns-then-start-self g c =
-    let es = paged c.args.self.now.entries in
+    let es = chunked c.args.self.now.entries in
     let code = c.args.self.now.comparer.values.code in
     let settling = c.requires.settling in
     let settled = c.args.self.now.comparer.checks in
@@ -30,7 +30,7 @@ returns-then-start-self g c =
 
 pub returns-else-start-self : goal.returns-else-start-self
 returns-else-start-self g c =
-    let es = paged c.args.self.now.entries in
+    let es = chunked c.args.self.now.entries in
     let code = c.args.self.now.comparer.values.code in
     let settling = c.requires.settling in
     let settled = c.args.self.now.comparer.checks in
