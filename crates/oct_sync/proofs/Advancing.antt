@@ -5,12 +5,12 @@ use Rattle.oct_delta.specs.Text.{Bytes}
 use Rattle.oct_ops.specs.Operations.{Operations}
 use Rattle.oct_sync.specs.Frames.{split_frames}
 use Rattle.oct_sync.specs.Session.{IsDone, Session, Point, fed, on_split, wanted}
-use Rattle.oct_sync.specs.SessionState.{Fails, IsState, standing_of}
+use Rattle.oct_sync.specs.SessionState.{Fails, IsSessionState, standing_of}
 use Rattle.oct_sync.specs.Standing.{Ends, IsAt, IsRest, Known, Standing, ended}
 use Rattle.oct_sync.specs.declared.error.SyncError.{SyncError}
 use Rattle.oct_sync.specs.declared.error.SyncError.TheVariants as fault
 use Rattle.oct_sync.specs.declared.role.Role.{Role}
-use Rattle.oct_sync.specs.declared.state.State.{State}
+use Rattle.oct_sync.specs.declared.state.SessionState.{SessionState}
 use Rattle.oct_sync.proofs.Cutting.{any_cutting, done_fails, split_failed}
 use Rattle.oct_sync.proofs.Stepping.{still}
 
@@ -20,7 +20,7 @@ pub record Moved (role : Role) (p : Point) (piece rest : Bytes) (s : Standing) (
   pub cut : piece ≡ front ++ rest
   pub at : IsAt role s held sent (fed role p front)
 
-pub begin : {A : Type 0} (role : Role) (s : State A) (held : Operations) (sent : Bytes) (p : Point) (piece : Bytes) → IsState s → IsAt role (standing_of role s) held sent p → Moved role p piece piece (standing_of role s) held sent
+pub begin : {A : Type 0} (role : Role) (s : SessionState A) (held : Operations) (sent : Bytes) (p : Point) (piece : Bytes) → IsSessionState s → IsAt role (standing_of role s) held sent p → Moved role p piece piece (standing_of role s) held sent
 begin role s held sent p piece valid at = record {
   front = [];
   cut = refl;

@@ -9,7 +9,7 @@ use Rattle.oct_sync.specs.declared.error.SyncError.{SyncError}
 use Rattle.oct_sync.specs.declared.role.Role.{Role}
 use Rattle.oct_sync.specs.declared.state.Due.{Due}
 use Rattle.oct_sync.specs.declared.state.Due.TheVariants as due
-use Rattle.oct_sync.specs.declared.state.State.{State}
+use Rattle.oct_sync.specs.declared.state.SessionState.{SessionState}
 
 -- what is due shows no fault
 pub due_sound : {A : Type 0} (d : Due A) → HasNotFailed (phase_of d)
@@ -22,7 +22,7 @@ due_sound due.Nothing = tt
 pub nowhere : (old : Option Standing) (held : Operations) (sent : Bytes) {X : Type 0} → old ≡ None → (role : Role) (p : Point) → StandsAt role old held sent p → X
 nowhere old held sent none role p at = absurd (subst (λ (s : Option Standing). StandsAt role s held sent p) none at)
 
-module _ {A : Type 0} (mine : Role) (s : State A) (old : Option Standing) (held : Operations) (sent : Bytes) (is : Some (standing_of mine s) ≡ old) where
+module _ {A : Type 0} (mine : Role) (s : SessionState A) (old : Option Standing) (held : Operations) (sent : Bytes) (is : Some (standing_of mine s) ≡ old) where
   stood : (role : Role) (p : Point) → StandsAt role old held sent p → IsAt role (standing_of mine s) held sent p
   stood role p at = subst (λ (v : Option Standing). StandsAt role v held sent p) (sym is) at
 
@@ -32,7 +32,7 @@ module _ {A : Type 0} (mine : Role) (s : State A) (old : Option Standing) (held 
       let here = stood role p at in
       subst (λ (r : Role). T r p) here.role_is (told p (subst (λ (r : Role). IsAt r (standing_of mine s) held sent p) (sym here.role_is) here))
 
-  pub stands_on : (t : State A) (held' : Operations) (sent' piece : Bytes) → ((p : Point) → IsAt mine (standing_of mine s) held sent p → IsAt mine (standing_of mine t) held' sent' (fed mine p piece))
+  pub stands_on : (t : SessionState A) (held' : Operations) (sent' piece : Bytes) → ((p : Point) → IsAt mine (standing_of mine s) held sent p → IsAt mine (standing_of mine t) held' sent' (fed mine p piece))
       → (role : Role) (p : Point) → StandsAt role old held sent p → IsAt role (standing_of mine t) held' sent' (fed role p piece)
   stands_on t held' sent' piece told = in_any (λ role p. IsAt role (standing_of mine t) held' sent' (fed role p piece)) told
 

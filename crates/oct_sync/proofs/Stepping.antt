@@ -11,12 +11,12 @@ use Rattle.oct_ops.specs.SetLaws.{union-empty}
 use Rattle.oct_sync.specs.Frames.{Frame, Split, delta_tag, length_field, tag_field, is_length, begins_whole, split_within, split_frames}
 use Rattle.oct_sync.specs.Session.{wanted_in as phase_wants}
 use Rattle.oct_sync.specs.Session.{wanted, Phase, AwaitsClock, AwaitsDeltas, AwaitsEnd, IsDone, HasFailed, Session, Point, failed_if, fed, head_fault, is_due, is_head, missing_bytes, on_due, on_frame, on_head, on_rest_in, on_split, rest_fault}
-use Rattle.oct_sync.specs.SessionState.{Fails, Stops, IsCounted, IsDeltaFront, IsFront, IsIncoming, IsOpenPhase, IsState, IsWholeFrame, kept_by, kept_of, kept_of_delta, missing_of, phase_of, point, standing_of, wanted_by, wanted_in}
+use Rattle.oct_sync.specs.SessionState.{Fails, Stops, IsCounted, IsDeltaFront, IsFront, IsIncoming, IsOpenPhase, IsSessionState, IsWholeFrame, kept_by, kept_of, kept_of_delta, missing_of, phase_of, point, standing_of, wanted_by, wanted_in}
 use Rattle.oct_sync.specs.declared.state.Due.{Due}
 use Rattle.oct_sync.specs.declared.state.Due.TheVariants as due
 use Rattle.oct_sync.specs.declared.state.Incoming.{Incoming}
 use Rattle.oct_sync.specs.declared.state.Incoming.TheVariants as incoming
-use Rattle.oct_sync.specs.declared.state.State.{State}
+use Rattle.oct_sync.specs.declared.state.SessionState.{SessionState}
 use Rattle.oct_sync.specs.Standing.{Kept, Known, Standing, IsAt, IsRest, ended}
 use Rattle.oct_sync.specs.declared.error.SyncError.{SyncError}
 use Rattle.oct_sync.specs.declared.error.SyncError.TheVariants as fault
@@ -234,7 +234,7 @@ module _ (phase : Phase) (head b : Bytes) (missing : ℕ) (known : Option Bytes)
 
 -- ---- a session at the start of a frame
 
-pub starts_at : {A : Type 0} (role : Role) (s : State A) (d : Due A) (held : Operations) (sent : Bytes) (p : Point) → s.due ≡ d → kept_of s.incoming ≡ Known []
+pub starts_at : {A : Type 0} (role : Role) (s : SessionState A) (d : Due A) (held : Operations) (sent : Bytes) (p : Point) → s.due ≡ d → kept_of s.incoming ≡ Known []
     → p ≡ record { session = record { phase = phase_of d; held = held; sent = sent }; rest = [] } → IsAt role (standing_of role s) held sent p
 starts_at role s d held sent p same none e = record {
   role_is = refl;
@@ -277,7 +277,7 @@ tail_is b = let left : length (drop 5 b) ≡ length b - 5 = length-drop 5 b in t
 
 -- ---- no byte more
 
-pub still : {A : Type 0} (role : Role) (s : State A) (held : Operations) (sent : Bytes) (p : Point) → IsState s → IsAt role (standing_of role s) held sent p → fed role p [] ≡ p
+pub still : {A : Type 0} (role : Role) (s : SessionState A) (held : Operations) (sent : Bytes) (p : Point) → IsSessionState s → IsAt role (standing_of role s) held sent p → fed role p [] ≡ p
 still {A} role s held sent p valid at = still_in s.due s.incoming valid at
   where
     standing : Due A → Incoming A → Standing
@@ -308,7 +308,7 @@ pub not_less : (n : ℕ) → 5 ≤ n → ltb n 5 ≡ false
 not_less n long = elim (ltb n 5) as (λ b. ltb n 5 ≡ b → b ≡ false) [ true ↦ λ e. let less = leb-true (suc n) 5 e in absurd (omega (arith, less, long)) | false ↦ λ _. refl ] refl
 
 -- a session that wants nothing is done
-pub done_from : {A : Type 0} (s : State A) → IsState s → wanted_by s ≡ 0 → phase_of s.due ≡ IsDone
+pub done_from : {A : Type 0} (s : SessionState A) → IsSessionState s → wanted_by s ≡ 0 → phase_of s.due ≡ IsDone
 done_from {A} s valid none = done_in s.due s.incoming valid none
   where
     wants : (phase : Phase) (i : Incoming A) → IsIncoming phase i → missing_of i ≡ 0 → ⊥
@@ -331,7 +331,7 @@ done_from {A} s valid none = done_in s.due s.incoming valid none
     done_in due.End i valid none = absurd (wants AwaitsEnd i valid none)
     done_in due.Nothing i valid none = refl
 
-pub done_kept : {A : Type 0} (s : State A) → IsState s → phase_of s.due ≡ IsDone → kept_of s.incoming ≡ Known []
+pub done_kept : {A : Type 0} (s : SessionState A) → IsSessionState s → phase_of s.due ≡ IsDone → kept_of s.incoming ≡ Known []
 done_kept {A} s valid done = kept_in (phase_of s.due) s.incoming valid done
   where
     kept_in : (phase : Phase) (i : Incoming A) → IsIncoming phase i → phase ≡ IsDone → kept_of i ≡ Known []
@@ -339,7 +339,7 @@ done_kept {A} s valid done = kept_in (phase_of s.due) s.incoming valid done
     kept_in phase (incoming.Delta d) front done = not_done phase front.2 done
 
 -- what it wants is what the point wants
-pub wanted_at : {A : Type 0} (r role : Role) (s : State A) (held : Operations) (sent : Bytes) (p : Point) → IsState s → IsAt role (standing_of r s) held sent p → wanted_by s ≡ wanted p
+pub wanted_at : {A : Type 0} (r role : Role) (s : SessionState A) (held : Operations) (sent : Bytes) (p : Point) → IsSessionState s → IsAt role (standing_of r s) held sent p → wanted_by s ≡ wanted p
 wanted_at {A} r role s held sent p valid at = sym (ap (λ (t : Session). phase_wants t.phase p.rest) at.session ∙ sym (want s.due s.incoming valid at.rest))
   where
     missing_is : (phase : Phase) (i : Incoming A) → IsIncoming phase i → IsRest (kept_of i) p.rest → missing_of i ≡ missing_bytes p.rest

@@ -3,17 +3,17 @@ use Rattle.std.proofs.Common.{◌≡◌, ℕ, suc, ◌+◌, ◌-◌, ◌≤◌, 
 use Rattle.std.proofs.lemmas.Bool.{and_parts, leb-true, leb-false, le-leb}
 use Rattle.oct_sync.specs.Frames.{is_length, length_field, max_frame}
 use Rattle.oct_sync.specs.Session.{AwaitsClock, AwaitsDeltas, AwaitsEnd, IsDone, Phase, missing_bytes}
-use Rattle.oct_sync.specs.SessionState.{IsIncoming, IsState, missing_of, phase_of, wanted_by, wanted_in}
+use Rattle.oct_sync.specs.SessionState.{IsIncoming, IsSessionState, missing_of, phase_of, wanted_by, wanted_in}
 use Rattle.oct_sync.specs.Standing.{progress_in}
 use Rattle.oct_sync.specs.declared.progress.Progress.TheVariants.{More}
 use Rattle.oct_sync.specs.declared.state.Due.{Due}
 use Rattle.oct_sync.specs.declared.state.Due.TheVariants as due
 use Rattle.oct_sync.specs.declared.state.Incoming.{Incoming}
 use Rattle.oct_sync.specs.declared.state.Incoming.TheVariants as incoming
-use Rattle.oct_sync.specs.declared.state.State.{State}
+use Rattle.oct_sync.specs.declared.state.SessionState.{SessionState}
 use Rattle.oct_sync.proofs.Stepping.{done_from, faultless_head, not_less}
 
-pub some_wanted : {A : Type 0} (s : State A) → IsState s → progress_in (phase_of s.due) ≡ More → 1 ≤ wanted_by s
+pub some_wanted : {A : Type 0} (s : SessionState A) → IsSessionState s → progress_in (phase_of s.due) ≡ More → 1 ≤ wanted_by s
 some_wanted s valid more = elim (leb 1 (wanted_by s)) as (λ b. leb 1 (wanted_by s) ≡ b → 1 ≤ wanted_by s) [
   | true ↦ λ e. leb-true 1 (wanted_by s) e
   | false ↦ λ e.
@@ -42,7 +42,7 @@ most_of phase (incoming.Kept bytes) front = elim (leb 5 (length bytes.items)) as
       omega (arith, counts)
 ] refl
 
-pub most_wanted : {A : Type 0} (s : State A) → IsState s → wanted_by s ≤ max_frame
+pub most_wanted : {A : Type 0} (s : SessionState A) → IsSessionState s → wanted_by s ≤ max_frame
 most_wanted {A} s valid = most_in s.due s.incoming valid
   where
     most_in : (d : Due A) (i : Incoming A) → IsIncoming (phase_of d) i → wanted_in (phase_of d) i ≤ max_frame

@@ -14,7 +14,7 @@ use Rattle.oct_sync.specs.declared.state.Due.{Due}
 use Rattle.oct_sync.specs.declared.state.Due.TheVariants as due
 use Rattle.oct_sync.specs.declared.state.Incoming.{Incoming}
 use Rattle.oct_sync.specs.declared.state.Incoming.TheVariants as incoming
-use Rattle.oct_sync.specs.declared.state.State.{State}
+use Rattle.oct_sync.specs.declared.state.SessionState.{SessionState}
 
 abbrev pub phase_of : {A : Type 0} → Due A → Phase
 phase_of due.Clock = AwaitsClock
@@ -34,10 +34,10 @@ abbrev pub kept_of : {A : Type 0} → Incoming A → Kept
 kept_of (incoming.Kept bytes) = Known bytes.items
 kept_of (incoming.Delta d) = kept_of_delta d
 
-abbrev pub standing_of : {A : Type 0} → Role → State A → Standing
+abbrev pub standing_of : {A : Type 0} → Role → SessionState A → Standing
 standing_of role s = record { role = role; phase = phase_of s.due; kept = kept_of s.incoming }
 
-abbrev pub standing_if : {A : Type 0} → Role → Option (State A) → Option Standing
+abbrev pub standing_if : {A : Type 0} → Role → Option (SessionState A) → Option Standing
 standing_if role None = None
 standing_if role (Some s) = Some (standing_of role s)
 
@@ -73,12 +73,12 @@ abbrev pub IsIncoming : {A : Type 0} → Phase → Incoming A → Type 0
 IsIncoming phase (incoming.Kept bytes) = IsFront phase bytes.items
 IsIncoming phase (incoming.Delta d) = IsDeltaFront phase d.head.items d.missing d.reader × (1 ≤ d.missing) × IsOpenPhase phase
 
-abbrev pub IsState : {A : Type 0} → State A → Type 0
-IsState s = IsIncoming (phase_of s.due) s.incoming
+abbrev pub IsSessionState : {A : Type 0} → SessionState A → Type 0
+IsSessionState s = IsIncoming (phase_of s.due) s.incoming
 
-abbrev pub IsStateIf : {A : Type 0} → Option (State A) → Type 0
-IsStateIf None = Unit {0}
-IsStateIf (Some s) = IsState s
+abbrev pub IsSessionStateIf : {A : Type 0} → Option (SessionState A) → Type 0
+IsSessionStateIf None = Unit {0}
+IsSessionStateIf (Some s) = IsSessionState s
 
 -- bytes of one frame, of which at most a clock frame goes on after the fifth
 abbrev pub IsShort : Bytes → Type 0
@@ -100,7 +100,7 @@ wanted_in IsDone frame = 0
 wanted_in (HasFailed f) frame = 0
 wanted_in phase frame = missing_of frame
 
-abbrev pub wanted_by : {A : Type 0} → State A → ℕ
+abbrev pub wanted_by : {A : Type 0} → SessionState A → ℕ
 wanted_by s = wanted_in (phase_of s.due) s.incoming
 
 abbrev pub point : Phase → Operations → Bytes → Bytes → Point
@@ -122,6 +122,6 @@ Fails role p bytes fault.Write held sent = ⊥
 Fails role p bytes fault.Turns held sent = ⊥
 Fails role p bytes e held sent = (fed role p bytes).session ≡ ended e held sent
 
-abbrev pub Steps : {A : Type 0} → Role → Point → Bytes → Result (State A) SyncError → Operations → Bytes → Type 0
+abbrev pub Steps : {A : Type 0} → Role → Point → Bytes → Result (SessionState A) SyncError → Operations → Bytes → Type 0
 Steps role p bytes (Ok next) held sent = IsAt role (standing_of role next) held sent (fed role p bytes)
 Steps role p bytes (Err e) held sent = Fails role p bytes e held sent

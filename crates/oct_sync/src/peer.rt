@@ -28,7 +28,7 @@ pub trait Peer<A: Allocator + Copy> {
         ensures { IfOk result (λ list. list ≡ listed (summary.beyond (held self.now) clock.now)) };
 
     /// Moves the operations in; the author stays. After a refusal the first so many are in, and no other.
-    fn append(&mut self, ops: &mut Vec<Op<A>, A>) -> Result<(), AllocError>
+    fn take_ops(&mut self, ops: &mut Vec<Op<A>, A>) -> Result<(), AllocError>
         requires rises { IsRising ops.old.items }
         requires few { length ops.old.items < 2 ^ 32 }
         ensures ok { OnOk result (held self.new ≡ union (held self.old) (set_of ops.old.items)) }
@@ -49,7 +49,7 @@ impl<A: Allocator + Copy> Peer<A> for Replica<A> {
         Replica::beyond(self, clock)
     }
 
-    fn append(&mut self, ops: &mut Vec<Op<A>, A>) -> Result<(), AllocError> {
+    fn take_ops(&mut self, ops: &mut Vec<Op<A>, A>) -> Result<(), AllocError> {
         let empty = Vec::new(*ops.allocator());
         let list = OpList::of_rising(mem::replace(ops, empty));
         match self.take_list(list) {

@@ -6,7 +6,7 @@ ghost use Rattle.oct_delta.specs.Text.{Bytes};
 ghost use Rattle.oct_sync.specs.Frames.{clock_tag, end_tag, length_field, max_frame, tag_field};
 ghost use Rattle.oct_sync.specs.Session as session;
 ghost use Rattle.oct_sync.specs.Session.{Phase, Point, missing_bytes};
-ghost use Rattle.oct_sync.specs.SessionState.{IsCounted, IsDeltaFront, IsOpenPhase, IsShort, IsState, IsWholeFrame, Steps, kept_of, kept_of_delta, phase_of, point, standing_of, wanted_by};
+ghost use Rattle.oct_sync.specs.SessionState.{IsCounted, IsDeltaFront, IsOpenPhase, IsShort, IsSessionState, IsWholeFrame, Steps, kept_of, kept_of_delta, phase_of, point, standing_of, wanted_by};
 ghost use Rattle.oct_sync.specs.Standing.{Ends, IsAt, IsRest, Known, progress_in};
 
 use crate::error::SyncError;
@@ -16,7 +16,7 @@ use crate::peer::Peer;
 use crate::progress::Progress;
 use crate::role::Role;
 use crate::sending::{send_answer, send_end, send_missing};
-use crate::state::{Delta, Due, Incoming, State};
+use crate::state::{Delta, Due, Incoming, SessionState};
 use oct_delta::laws::texts_are_read;
 use oct_delta::{ClockError, DeltaError, Reader, decode_clock};
 use std::alloc::{AllocError, Allocator};
@@ -95,26 +95,21 @@ fn feed_delta<A: Allocator + Copy>(delta: Delta<A>, piece: &[u8]) -> Result<Delt
         missing: missing - piece.len(),
         reader,
     };
-    match fed {
-        Ok(()) => Ok(delta),
-        Err(fault) => match fault {
-            DeltaError::OutOfMemory => Err(AllocError),
-            // The reader keeps these to itself.
-            DeltaError::Version => Ok(delta),
-            DeltaError::Refused => Ok(delta),
-            DeltaError::Failed => Ok(delta),
-        },
+    // The reader keeps any other refusal to itself.
+    if fed == Err(DeltaError::OutOfMemory) {
+        return Err(AllocError);
     }
+    Ok(delta)
 }
 
-impl<A: Allocator + Copy> State<A> {
+impl<A: Allocator + Copy> SessionState<A> {
     /// No byte of the next frame came.
-    pub(crate) fn new(alloc: A, due: Due<A>) -> State<A>
+    pub(crate) fn new(alloc: A, due: Due<A>) -> SessionState<A>
         ensures due { result.due ≡ due }
         ensures kept { kept_of result.incoming ≡ Known [] }
-        ensures valid { IsState result }
+        ensures valid { IsSessionState result }
     {
-        State {
+        SessionState {
             due,
             incoming: Incoming::Kept(Vec::new(alloc)),
         }
@@ -128,16 +123,16 @@ fn end_delta<A: Allocator + Copy, P: Peer<A>>(
     due: Due<A>,
     delta: Delta<A>,
     peer: &mut P,
-) -> Result<State<A>, SyncError>
+) -> Result<SessionState<A>, SyncError>
     requires open { IsOpenPhase (phase_of due) }
     requires front { IsDeltaFront (phase_of due) delta.head.items delta.missing delta.reader }
     ensures author { P.author peer.new ≡ P.author peer.old }
     ensures sound { IfErr result (λ e. e ≢ SyncError.Failed) }
-    ensures valid { IfOk result IsState }
+    ensures valid { IfOk result IsSessionState }
     ensures steps { (sent r y : Bytes) → IsRest (kept_of_delta delta) (r ++ y) → Steps role (point (phase_of due) (P.held peer.old) sent r) y result (P.held peer.new) sent }
 {
     if delta.missing > 0 {
-        return Ok(State {
+        return Ok(SessionState {
             due,
             incoming: Incoming::Delta(delta),
         });
@@ -147,8 +142,8 @@ fn end_delta<A: Allocator + Copy, P: Peer<A>>(
     match reader.finish() {
         Ok(list) => {
             let mut ops = list.into_vec();
-            match peer.append(&mut ops) {
-                Ok(()) => Ok(State::new(alloc, due)),
+            match peer.take_ops(&mut ops) {
+                Ok(()) => Ok(SessionState::new(alloc, due)),
                 Err(_) => Err(SyncError::OutOfMemory),
             }
         }
@@ -164,48 +159,48 @@ fn end_frame<A: Allocator + Copy, P: Peer<A>>(
     frame: &[u8],
     peer: &P,
     out: &mut Vec<u8, A>,
-) -> Result<State<A>, SyncError>
+) -> Result<SessionState<A>, SyncError>
     requires open { IsOpenPhase (phase_of due) }
     requires whole { IsWholeFrame (phase_of due) frame.now }
     requires tag { (tag_field frame.now ≡ clock_tag) ⊎ (tag_field frame.now ≡ end_tag) }
     ensures sound { IfErr result (λ e. e ≢ SyncError.Failed) }
-    ensures valid { IfOk result IsState }
+    ensures valid { IfOk result IsSessionState }
     ensures steps { (r y : Bytes) → r ++ y ≡ frame.now → Steps role (point (phase_of due) (P.held peer.now) out.old.items r) y result (P.held peer.now) out.new.items }
 {
     if frame[4] == CLOCK {
         match on_clock(alloc, role, peer, &frame[5..], out) {
-            Ok(next) => Ok(State::new(alloc, next)),
+            Ok(next) => Ok(SessionState::new(alloc, next)),
             Err(fault) => Err(fault),
         }
     } else {
         match on_end(alloc, role, due, peer, out) {
-            Ok(next) => Ok(State::new(alloc, next)),
+            Ok(next) => Ok(SessionState::new(alloc, next)),
             Err(_) => Err(SyncError::OutOfMemory),
         }
     }
 }
 
 // Does what the bytes of a frame do that came, of which at most the last part is missing.
-fn settle<A: Allocator + Copy, P: Peer<A>>(
+fn feed_frame<A: Allocator + Copy, P: Peer<A>>(
     alloc: A,
     role: Role,
     due: Due<A>,
     bytes: Vec<u8, A>,
     peer: &mut P,
     out: &mut Vec<u8, A>,
-) -> Result<State<A>, SyncError>
+) -> Result<SessionState<A>, SyncError>
     requires open { IsOpenPhase (phase_of due) }
     requires short { IsShort bytes.items }
     ensures author { P.author peer.new ≡ P.author peer.old }
     ensures sound { IfErr result (λ e. e ≢ SyncError.Failed) }
-    ensures valid { IfOk result IsState }
+    ensures valid { IfOk result IsSessionState }
     ensures steps { (r y : Bytes) → r ++ y ≡ bytes.items → Steps role (point (phase_of due) (P.held peer.old) out.old.items r) y result (P.held peer.new) out.new.items }
 {
     if let Some(fault) = first_fault(&due, &bytes) {
         return Err(fault);
     }
     if bytes.len() < 5 {
-        return Ok(State {
+        return Ok(SessionState {
             due,
             incoming: Incoming::Kept(bytes),
         });
@@ -221,7 +216,7 @@ fn settle<A: Allocator + Copy, P: Peer<A>>(
         return end_delta(alloc, role, due, delta, peer);
     }
     if missing > 0 {
-        return Ok(State {
+        return Ok(SessionState {
             due,
             incoming: Incoming::Kept(bytes),
         });
@@ -242,8 +237,8 @@ fn missing_bytes(bytes: &[u8]) -> usize
 }
 
 /// How many bytes a session wants, which is 0 where it is done.
-pub(crate) fn wanted<A: Allocator + Copy>(state: &State<A>) -> usize
-    requires { IsState state.now }
+pub(crate) fn wanted<A: Allocator + Copy>(state: &SessionState<A>) -> usize
+    requires { IsSessionState state.now }
     ensures value { result ≡ wanted_by state.now }
     ensures open { 0 < result → IsOpenPhase (phase_of state.now.due) }
     ensures some { progress_in (phase_of state.now.due) ≡ Progress.More → 1 ≤ result }
@@ -262,24 +257,24 @@ pub(crate) fn wanted<A: Allocator + Copy>(state: &State<A>) -> usize
 pub(crate) fn step<A: Allocator + Copy, P: Peer<A>>(
     alloc: A,
     role: Role,
-    state: State<A>,
+    state: SessionState<A>,
     peer: &mut P,
     piece: &[u8],
     out: &mut Vec<u8, A>,
-) -> Result<State<A>, SyncError>
-    requires valid { IsState state }
+) -> Result<SessionState<A>, SyncError>
+    requires valid { IsSessionState state }
     requires some { 0 < length piece.now }
     requires fits { length piece.now ≤ wanted_by state }
     ensures author { P.author peer.new ≡ P.author peer.old }
     ensures sound { IfErr result (λ e. e ≢ SyncError.Failed) }
-    ensures valid { IfOk result IsState }
+    ensures valid { IfOk result IsSessionState }
     ensures steps { (p : Point) → IsAt role (standing_of role state) (P.held peer.old) out.old.items p → Steps role p piece.now result (P.held peer.new) out.new.items }
 {
-    let State { due, incoming } = state;
+    let SessionState { due, incoming } = state;
     match incoming {
         Incoming::Kept(mut bytes) => {
             match bytes.extend_from_slice(piece) {
-                Ok(()) => settle(alloc, role, due, bytes, peer, out),
+                Ok(()) => feed_frame(alloc, role, due, bytes, peer, out),
                 Err(_) => Err(SyncError::OutOfMemory),
             }
         }
@@ -294,15 +289,15 @@ pub(crate) fn step<A: Allocator + Copy, P: Peer<A>>(
 pub(crate) fn advance<A: Allocator + Copy, P: Peer<A>>(
     alloc: A,
     role: Role,
-    state: State<A>,
+    state: SessionState<A>,
     peer: &mut P,
     piece: &[u8],
     out: &mut Vec<u8, A>,
-) -> Result<State<A>, SyncError>
-    requires { IsState state }
+) -> Result<SessionState<A>, SyncError>
+    requires { IsSessionState state }
     ensures author { P.author peer.new ≡ P.author peer.old }
     ensures sound { IfErr result (λ e. e ≢ SyncError.Failed) }
-    ensures valid { IfOk result IsState }
+    ensures valid { IfOk result IsSessionState }
     ensures ok { IfOk result (λ next. (p : Point) → IsAt role (standing_of role state) (P.held peer.old) out.old.items p → IsAt role (standing_of role next) (P.held peer.new) out.new.items (session.fed role p piece.now)) }
     ensures err { IfErr result (λ e. (p : Point) → IsAt role (standing_of role state) (P.held peer.old) out.old.items p → Ends role p piece.now e (P.held peer.new) out.new.items) }
 {

@@ -15,7 +15,7 @@ use crate::progress::Progress;
 use crate::receiving;
 use crate::role::Role;
 use crate::sending::send_clock;
-use crate::state::{Due, State};
+use crate::state::{Due, SessionState};
 use std::alloc::{AllocError, Allocator};
 use std::marker::Model;
 
@@ -29,13 +29,13 @@ use std::marker::Model;
 pub struct Session<A: Allocator + Copy> {
     alloc: A,
     role: Role,
-    state: Option<State<A>>,
+    state: Option<SessionState<A>>,
 }
 
 impl<A: Allocator + Copy> Model for Session<A> {
     ghost use Rattle.std.specs.Prelude.{Option};
     ghost use Rattle.oct_sync.specs.Standing.{Standing, session_code};
-    ghost use Rattle.oct_sync.specs.SessionState.{IsStateIf, standing_if};
+    ghost use Rattle.oct_sync.specs.SessionState.{IsSessionStateIf, standing_if};
 
     ghost Value = { Option Standing };
 
@@ -43,7 +43,7 @@ impl<A: Allocator + Copy> Model for Session<A> {
 
     ghost view = { λ s. standing_if s.role s.state };
 
-    ghost invariant = { λ s. IsStateIf s.state };
+    ghost invariant = { λ s. IsSessionStateIf s.state };
 }
 
 impl<A: Allocator + Copy> Session<A> {
@@ -75,7 +75,7 @@ impl<A: Allocator + Copy> Session<A> {
         Session {
             alloc,
             role,
-            state: Some(State::new(alloc, Due::Clock)),
+            state: Some(SessionState::new(alloc, Due::Clock)),
         }
     }
 
@@ -128,7 +128,7 @@ impl<A: Allocator + Copy> Session<A> {
 }
 
 // Whether a frame is due.
-fn progress_of<A: Allocator + Copy>(state: &State<A>) -> Progress
+fn progress_of<A: Allocator + Copy>(state: &SessionState<A>) -> Progress
     ensures { result ≡ progress_in (phase_of state.now.due) }
 {
     match &state.due {

@@ -39,7 +39,7 @@ pub(crate) enum Incoming<A: Allocator + Copy> {
 
 /// Which frames are due, and what came of the next one.
 #[derive(Drop)]
-pub(crate) struct State<A: Allocator + Copy> {
+pub(crate) struct SessionState<A: Allocator + Copy> {
     pub(crate) due: Due<A>,
     pub(crate) incoming: Incoming<A>,
 }

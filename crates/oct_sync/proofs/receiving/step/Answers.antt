@@ -13,7 +13,7 @@ returns-in-Ok-clause-steps g c p at =
     let bytes = c.in-Kept.bytes.items in
     let at' : IsAt role (record { role = role; phase = phase; kept = Known bytes }) held sent p = subst (λ i. IsAt role (record { role = role; phase = phase; kept = kept_of i }) held sent p) c.in-Kept.is at in
     let p_is : p ≡ point phase held sent bytes = known_point role phase (Known bytes) held sent p at' ∙ ap (point phase held sent) at'.rest in
-    subst (λ q. Steps role q c.args.piece.now c.settle.result (g.P.Peer.held c.settle.new.peer) c.settle.new.out.items) (sym p_is) (c.settle.ensures.steps bytes c.args.piece.now (sym c.in-Ok.ensures.items))
+    subst (λ q. Steps role q c.args.piece.now c.feed_frame.result (g.P.Peer.held c.feed_frame.new.peer) c.feed_frame.new.out.items) (sym p_is) (c.feed_frame.ensures.steps bytes c.args.piece.now (sym c.in-Ok.ensures.items))
 
 pub returns-in-Err-clause-steps : goal.returns-in-Err-clause-steps
 returns-in-Err-clause-steps g c p at =
@@ -33,8 +33,8 @@ pub returns-in-Err-feed_delta-clause-steps : goal.returns-in-Err-feed_delta-clau
 returns-in-Err-feed_delta-clause-steps g c p at =
     stops_here c.args.role p c.args.piece.now (g.P.Peer.held c.args.peer.now) c.args.out.now.items (sym (ap (λ s. s.held) at.session)) (sym (ap (λ s. s.sent) at.session))
 
-pub settle-requires-clause-open : goal.settle-requires-clause-open
-settle-requires-clause-open g c = open_where (phase_of c.args.state.due) c.args.state.incoming (length c.args.piece.now) c.requires.some c.requires.fits
+pub feed_frame-requires-clause-open : goal.feed_frame-requires-clause-open
+feed_frame-requires-clause-open g c = open_where (phase_of c.args.state.due) c.args.state.incoming (length c.args.piece.now) c.requires.some c.requires.fits
 
 pub feed_delta-requires-clause-counted : goal.feed_delta-requires-clause-counted
 feed_delta-requires-clause-counted g c = (subst (IsIncoming (phase_of c.args.state.due)) c.in-Delta.is c.requires.valid).0.counted

@@ -5,7 +5,7 @@ use Rattle.oct_replica.specs.Content.{ReplicaContent}
 use Rattle.oct_replica.specs.Taking.{IsCutBy}
 use Rattle.oct_replica.specs.declared.error.TakeError.{TakeError}
 use Rattle.oct_replica.specs.declared.error.TakeError.TheVariants.{Version, Refused, OutOfMemory}
-use Rattle.oct_sync.proofs.peer.ReplicaPeer.append.Goals as goal
+use Rattle.oct_sync.proofs.peer.ReplicaPeer.take_ops.Goals as goal
 
 first_in : (old new : ReplicaContent) (list : List Operation) (e : TakeError) → IsCutBy old new list e → (count : ℕ) × (new.ops ≡ union old.ops (set_of (take count list)))
 first_in old new list Version cut = absurd cut

@@ -6,7 +6,7 @@ use Rattle.oct_sync.specs.SessionState.{IsDeltaFront, IsWholeFrame, phase_of}
 use Rattle.oct_sync.specs.Standing.{Known}
 use Rattle.oct_sync.proofs.Settling.{clock_begins, clock_or_end, delta_begins, frame_ends}
 use Rattle.oct_sync.proofs.Stepping.{fed_front, is_at, not_begun, not_done, shown_fails}
-use Rattle.oct_sync.proofs.receiving.settle.Goals as goal
+use Rattle.oct_sync.proofs.receiving.feed_frame.Goals as goal
 
 pub returns-in-Some-clause-steps : goal.returns-in-Some-clause-steps
 returns-in-Some-clause-steps g c r y e =
