@@ -1,18 +1,10 @@
 -- Lines of rows.
-use Rattle.std.proofs.Common.{◌≡◌, ℕ, suc, ◌≤◌, ◌<◌, ◌+◌, add-one, get_or, sym, List, [], ◌∷◌, map, length, drop, ap, ◌∙◌, subst}
-use Rattle.std.proofs.lemmas.List.{drop_all}
+use Rattle.std.proofs.Common.{◌≡◌, ℕ, suc, ◌<◌, ◌+◌, add-one, get_or, sym, List, [], ◌∷◌, map, length, drop, ap, ◌∙◌}
 use Rattle.std.proofs.Math.Seq.{drop-cons}
-use Rattle.std.proofs.lemmas.Simd.{map-map}
 use Rattle.oct_pages.specs.Catalogue.{Text}
 use Rattle.oct_pages.specs.Window.{Shown}
 use Rattle.oct_pages.specs.declared.window.Window.{Window}
-use Rattle.oct_pages.proofs.Windows.{Showing, all_shown, showing_next}
-
--- a loop over rows, once it has reached their end
-pub rows_done : {X Y : Type 0} (f : Y → Text) (g : X → Y) (w v : Window) (old new : Text) (rows : List Y) (i : ℕ) (xs : List X)
-    → Showing w v old new (map f rows) (map f (drop i rows)) → length rows ≤ i → rows ≡ map g xs → Shown w v old new (map (λ x. f (g x)) xs)
-rows_done f g w v old new rows i xs so_far end is =
-    subst (Shown w v old new) (ap (map f) is ∙ map-map f g xs) (all_shown w v old new (map f rows) (map f (drop i rows)) (ap (map f) (drop_all i rows end)) so_far)
+use Rattle.oct_pages.proofs.Windows.{Showing, showing_next}
 
 -- the first of those that are left
 pub row_next : {X : Type 0} (xs : List X) (i : ℕ) (x other : X) → i < length xs → x ≡ get_or xs i other → drop i xs ≡ x ∷ drop (i + 1) xs

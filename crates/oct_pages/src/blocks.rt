@@ -1,46 +1,32 @@
 //! The lines of a game and its blocks.
 
-ghost use Rattle.std.specs.Prelude.{◌≡◌, ◌++◌, ◌∷◌, [], OnOk};
+ghost use Rattle.std.specs.Prelude.{◌≡◌, ◌++◌, OnOk};
 ghost use Rattle.oct_pages.specs.Catalogue.{game_text, block_text, block_head_text, refutation_text, status_text};
 ghost use Rattle.oct_pages.specs.Growth.{Extends};
-ghost use Rattle.oct_pages.specs.Window.{Shown};
 
-use crate::window::Window;
+use crate::line::Line;
 use crate::words::{append_labelled, append_labelled_dot, append_text};
 use oct_code::Code;
 use oct_ops::{Block, Dot};
 use oct_verify::Status;
 use std::alloc::{AllocError, Allocator};
 
-/// Appends the first line of a game, where it is shown.
-pub(crate) fn show_game_head<A: Allocator>(
-    out: &mut Vec<u8, A>,
-    window: &mut Window,
-    code: &Code,
-    known: u32,
-) -> Result<(), AllocError>
-    ensures ok { OnOk result (Shown window.old window.new out.old.items out.new.items (game_text code.now known ∷ [])) }
-    ensures grown { Extends out.old.items out.new.items }
-{
-    if !window.pass() {
-        return Ok(());
-    }
-    append_game_head(out, code, known)
+/// What the first line of a game says.
+#[derive(Drop)]
+pub(crate) struct GameHead<'a> {
+    pub(crate) code: &'a Code,
+    pub(crate) known: u32,
 }
 
-// Appends the first line of a game.
-fn append_game_head<A: Allocator>(
-    out: &mut Vec<u8, A>,
-    code: &Code,
-    known: u32,
-) -> Result<(), AllocError>
-    ensures ok { OnOk result (out.new.items ≡ out.old.items ++ game_text code.now known) }
-    ensures grown { Extends out.old.items out.new.items }
-{
-    append_text(out, b"game ")?;
-    code.append_text(out)?;
-    append_labelled(out, b" known ", known)?;
-    append_text(out, b"\n")
+impl Line for GameHead<'_> {
+    ghost spelled = { λ h. game_text h.code.now h.known };
+
+    fn append<A: Allocator>(&self, out: &mut Vec<u8, A>) -> Result<(), AllocError> {
+        append_text(out, b"game ")?;
+        self.code.append_text(out)?;
+        append_labelled(out, b" known ", self.known)?;
+        append_text(out, b"\n")
+    }
 }
 
 // Appends a space and the words of a status.
@@ -73,43 +59,29 @@ fn append_refutation<A: Allocator>(
     append_labelled(out, b" true ", truth)
 }
 
-/// Appends the line of a block, where it is shown.
-pub(crate) fn show_block<A: Allocator>(
-    out: &mut Vec<u8, A>,
-    window: &mut Window,
-    dot: Dot,
-    block: &Block<A>,
-    status: &Status,
-) -> Result<(), AllocError>
-    ensures ok { OnOk result (Shown window.old window.new out.old.items out.new.items (block_text dot block.now status.now ∷ [])) }
-    ensures grown { Extends out.old.items out.new.items }
-{
-    if !window.pass() {
-        return Ok(());
-    }
-    append_block(out, dot, block, status)
+/// What the line of a block says.
+#[derive(Drop)]
+pub(crate) struct BlockLine<'a, A: Allocator> {
+    pub(crate) dot: Dot,
+    pub(crate) block: &'a Block<A>,
+    pub(crate) status: Status,
 }
 
-// Appends the line of a block.
-fn append_block<A: Allocator>(
-    out: &mut Vec<u8, A>,
-    dot: Dot,
-    block: &Block<A>,
-    status: &Status,
-) -> Result<(), AllocError>
-    ensures ok { OnOk result (out.new.items ≡ out.old.items ++ block_text dot block.now status.now) }
-    ensures grown { Extends out.old.items out.new.items }
-{
-    append_block_head(out, dot, block)?;
-    append_block_status(out, status)?;
-    append_text(out, b"\n")
+impl<B: Allocator> Line for BlockLine<'_, B> {
+    ghost spelled = { λ l. block_text l.dot l.block.now l.status };
+
+    fn append<A: Allocator>(&self, out: &mut Vec<u8, A>) -> Result<(), AllocError> {
+        append_block_head(out, self.dot, self.block)?;
+        append_block_status(out, &self.status)?;
+        append_text(out, b"\n")
+    }
 }
 
 // Appends which block it is, where it begins and how many values it has.
-fn append_block_head<A: Allocator>(
+fn append_block_head<A: Allocator, B: Allocator>(
     out: &mut Vec<u8, A>,
     dot: Dot,
-    block: &Block<A>,
+    block: &Block<B>,
 ) -> Result<(), AllocError>
     ensures ok { OnOk result (out.new.items ≡ out.old.items ++ block_head_text dot block.now) }
     ensures grown { Extends out.old.items out.new.items }

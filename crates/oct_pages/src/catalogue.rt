@@ -1,6 +1,6 @@
 //! The whole catalogue, and its pages.
 
-ghost use Rattle.std.specs.Prelude.{◌≡◌, ◌++◌, ◌∷◌, [], false, OnOk, OnErr, IfOk};
+ghost use Rattle.std.specs.Prelude.{◌≡◌, ◌++◌, false, OnOk, OnErr, IfOk};
 ghost use Rattle.oct_ops.specs.Operations.{listed};
 ghost use Rattle.oct_pages.specs.Catalogue.{catalogue, has_page, lines, page as page_text};
 ghost use Rattle.oct_pages.specs.Growth.{Extends};
@@ -9,6 +9,7 @@ ghost use Rattle.oct_pages.specs.Window.{Shown};
 
 use crate::authors::{append_authors, append_forks};
 use crate::games::append_games;
+use crate::line::{Line, show};
 use crate::notes::append_notes;
 use crate::window::Window;
 use crate::words::append_text;
@@ -93,25 +94,22 @@ fn append_lines<A: Allocator + Copy>(
     ensures ok { OnOk result (Shown window.old window.new out.old.items out.new.items (lines (listed parts.now.store.now))) }
     ensures grown { Extends out.old.items out.new.items }
 {
-    show_text(out, window, b"census 2\n")?;
+    show(out, window, &Fixed(b"census 2\n"))?;
     append_games(alloc, out, window, parts.store, parts.games)?;
     append_notes(out, window, parts.notes)?;
     append_forks(out, window, parts.store)?;
     append_authors(out, window, parts.store)?;
-    show_text(out, window, b"end\n")
+    show(out, window, &Fixed(b"end\n"))
 }
 
-// Appends a line that is always the same, where it is shown.
-fn show_text<A: Allocator>(
-    out: &mut Vec<u8, A>,
-    window: &mut Window,
-    line: &[u8],
-) -> Result<(), AllocError>
-    ensures ok { OnOk result (Shown window.old window.new out.old.items out.new.items (line.now ∷ [])) }
-    ensures grown { Extends out.old.items out.new.items }
-{
-    if !window.pass() {
-        return Ok(());
+// A line that is always the same.
+#[derive(Drop)]
+struct Fixed<'a>(&'a [u8]);
+
+impl Line for Fixed<'_> {
+    ghost spelled = { λ l. l.0.now };
+
+    fn append<A: Allocator>(&self, out: &mut Vec<u8, A>) -> Result<(), AllocError> {
+        append_text(out, self.0)
     }
-    append_text(out, line)
 }

@@ -1,46 +1,31 @@
 //! The lines of a game's period claims.
 
-ghost use Rattle.std.specs.Prelude.{◌≡◌, ◌++◌, ◌∷◌, [], OnOk};
+ghost use Rattle.std.specs.Prelude.{◌≡◌, ◌++◌, OnOk};
 ghost use Rattle.oct_pages.specs.Catalogue.{period_status_text, period_text, period_head_text};
 ghost use Rattle.oct_pages.specs.Growth.{Extends};
-ghost use Rattle.oct_pages.specs.Window.{Shown};
 
-use crate::window::Window;
+use crate::line::Line;
 use crate::words::{append_labelled, append_labelled_dot, append_text};
 use oct_ops::{Dot, Period};
 use oct_period::PeriodStatus;
 use std::alloc::{AllocError, Allocator};
 
-/// Appends the line of a claim, where it is shown.
-pub(crate) fn show_period<A: Allocator>(
-    out: &mut Vec<u8, A>,
-    window: &mut Window,
-    dot: Dot,
-    period: &Period,
-    status: &PeriodStatus,
-) -> Result<(), AllocError>
-    ensures ok { OnOk result (Shown window.old window.new out.old.items out.new.items (period_text dot period.now status.now ∷ [])) }
-    ensures grown { Extends out.old.items out.new.items }
-{
-    if !window.pass() {
-        return Ok(());
-    }
-    append_period(out, dot, period, status)
+/// What the line of a claim says.
+#[derive(Drop)]
+pub(crate) struct PeriodLine<'a> {
+    pub(crate) dot: Dot,
+    pub(crate) period: &'a Period,
+    pub(crate) status: PeriodStatus,
 }
 
-// Appends the line of a claim.
-fn append_period<A: Allocator>(
-    out: &mut Vec<u8, A>,
-    dot: Dot,
-    period: &Period,
-    status: &PeriodStatus,
-) -> Result<(), AllocError>
-    ensures ok { OnOk result (out.new.items ≡ out.old.items ++ period_text dot period.now status.now) }
-    ensures grown { Extends out.old.items out.new.items }
-{
-    append_period_head(out, dot, period)?;
-    append_period_status(out, status)?;
-    append_text(out, b"\n")
+impl Line for PeriodLine<'_> {
+    ghost spelled = { λ l. period_text l.dot l.period.now l.status };
+
+    fn append<A: Allocator>(&self, out: &mut Vec<u8, A>) -> Result<(), AllocError> {
+        append_period_head(out, self.dot, self.period)?;
+        append_period_status(out, &self.status)?;
+        append_text(out, b"\n")
+    }
 }
 
 // Appends which claim it is, and from where on it says that the values repeat.

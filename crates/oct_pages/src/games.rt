@@ -17,9 +17,10 @@ ghost use Rattle.oct_pages.specs.Growth.{Extends};
 ghost use Rattle.oct_pages.specs.Parts.{AreGamesOf};
 ghost use Rattle.oct_pages.specs.Window.{Shown};
 
-use crate::blocks::{show_block, show_game_head};
-use crate::claims::show_period;
+use crate::blocks::{BlockLine, GameHead};
+use crate::claims::PeriodLine;
 use crate::groups::{Groups, groups_of};
+use crate::line::show;
 use crate::values::append_values;
 use crate::window::Window;
 use oct_code::Code;
@@ -81,7 +82,11 @@ fn append_game_lines<A: Allocator + Copy>(
     ensures grown { Extends out.old.items out.new.items }
 {
     let ledger = game.ledger();
-    show_game_head(out, window, code, ledger.known())?;
+    let head = GameHead {
+        code,
+        known: ledger.known(),
+    };
+    show(out, window, &head)?;
     append_values(out, window, ledger.known_values())?;
     append_blocks(out, window, code, game, ops)?;
     append_periods(out, window, code, game, ops)
@@ -125,7 +130,7 @@ fn append_block_of<A: Allocator + Copy>(
     };
     let dot = op.dot();
     let status = game.block_status_by(*claim, &dot, block);
-    show_block(out, window, dot, block, &status)
+    show(out, window, &BlockLine { dot, block, status })
 }
 
 // Appends what is shown of the lines of the game's claims.
@@ -162,7 +167,16 @@ fn append_period_of<A: Allocator + Copy>(
         return Ok(());
     };
     let status = period_status(game.ledger(), period);
-    show_period(out, window, op.dot(), period, &status)
+    let dot = op.dot();
+    show(
+        out,
+        window,
+        &PeriodLine {
+            dot,
+            period,
+            status,
+        },
+    )
 }
 
 /// The block, where the body is one of the game.

@@ -25,14 +25,14 @@ pub fn groups_of<'a, A: Allocator + Copy>(
     let mut groups = BTreeMap::new(alloc);
     for op in store.iter() {
         if let Some(code) = op.body().code() {
-            add(&mut groups, alloc, code, op)?;
+            push_op(&mut groups, alloc, code, op)?;
         }
     }
     Ok(groups)
 }
 
-// Adds an operation at the end of a game's.
-fn add<'a, A: Allocator + Copy>(
+// Puts an operation at the end of a game's.
+fn push_op<'a, A: Allocator + Copy>(
     groups: &mut Groups<'a, A>,
     alloc: A,
     code: Code,

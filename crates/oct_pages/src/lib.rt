@@ -27,6 +27,7 @@ mod catalogue;
 mod claims;
 mod games;
 mod groups;
+mod line;
 mod notes;
 mod values;
 mod window;

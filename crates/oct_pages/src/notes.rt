@@ -1,12 +1,13 @@
 //! The lines of notes.
 
-ghost use Rattle.std.specs.Prelude.{◌≡◌, ◌++◌, ◌∷◌, [], map, OnOk};
+ghost use Rattle.std.specs.Prelude.{◌≡◌, ◌++◌, map, OnOk};
 ghost use Rattle.oct_notes.specs.Notes.{live_notes};
 ghost use Rattle.oct_ops.specs.Operations.{listed};
 ghost use Rattle.oct_pages.specs.Catalogue.{note_line, note_text};
 ghost use Rattle.oct_pages.specs.Growth.{Extends};
 ghost use Rattle.oct_pages.specs.Window.{Shown};
 
+use crate::line::{Line, show_each};
 use crate::window::Window;
 use crate::words::{append_labelled_dot, append_labelled_text, append_text};
 use oct_notes::Notes;
@@ -23,43 +24,25 @@ pub(crate) fn append_notes<A: Allocator + Copy>(
     ensures grown { Extends out.old.items out.new.items }
 {
     let live = notes.live_refs()?;
-    for op in &live {
-        show_note(out, window, op)?;
-    }
-    Ok(())
+    show_each(out, window, &live)
 }
 
-// Appends the line of a note, where it is shown.
-fn show_note<A: Allocator + Copy>(
-    out: &mut Vec<u8, A>,
-    window: &mut Window,
-    op: &Op<A>,
-) -> Result<(), AllocError>
-    ensures ok { OnOk result (Shown window.old window.new out.old.items out.new.items (note_line op.now ∷ [])) }
-    ensures grown { Extends out.old.items out.new.items }
-{
-    if !window.pass() {
-        return Ok(());
-    }
-    append_note_of(out, op)
-}
+impl<B: Allocator> Line for &Op<B> {
+    ghost spelled = { λ o. note_line o.now };
 
-// Appends the line of an operation, where it is a note.
-fn append_note_of<A: Allocator + Copy>(out: &mut Vec<u8, A>, op: &Op<A>) -> Result<(), AllocError>
-    ensures ok { OnOk result (out.new.items ≡ out.old.items ++ note_line op.now) }
-    ensures grown { Extends out.old.items out.new.items }
-{
-    match op.body() {
-        Body::Note(note) => append_note(out, op.dot(), note),
-        _ => Ok(()),
+    fn append<A: Allocator>(&self, out: &mut Vec<u8, A>) -> Result<(), AllocError> {
+        match self.body() {
+            Body::Note(note) => append_note(out, self.dot(), note),
+            _ => Ok(()),
+        }
     }
 }
 
 // Appends the line of a note.
-fn append_note<A: Allocator + Copy>(
+fn append_note<A: Allocator, B: Allocator>(
     out: &mut Vec<u8, A>,
     dot: Dot,
-    note: &Note<A>,
+    note: &Note<B>,
 ) -> Result<(), AllocError>
     ensures ok { OnOk result (out.new.items ≡ out.old.items ++ note_text dot note.now) }
     ensures grown { Extends out.old.items out.new.items }

@@ -11,22 +11,22 @@ use Rattle.oct_pages.proofs.Growing.{extends_trans}
 use Rattle.oct_pages.proofs.Windows.{shown_then}
 use Rattle.oct_pages.proofs.catalogue.append_lines.Goals as goal
 
-pub returns-in_err-show_text-clause-grown : goal.returns-in_err-show_text-clause-grown
-returns-in_err-show_text-clause-grown g c = c.show_text.ensures.grown
+pub returns-in_err-show-clause-grown : goal.returns-in_err-show-clause-grown
+returns-in_err-show-clause-grown g c = c.show.ensures.grown
 
 pub returns-in_err-append_games-clause-grown : goal.returns-in_err-append_games-clause-grown
-returns-in_err-append_games-clause-grown g c = extends_trans _ _ _ c.show_text.ensures.grown c.append_games.ensures.grown
+returns-in_err-append_games-clause-grown g c = extends_trans _ _ _ c.show.ensures.grown c.append_games.ensures.grown
 
 pub returns-in_err-append_notes-clause-grown : goal.returns-in_err-append_notes-clause-grown
-returns-in_err-append_notes-clause-grown g c = extends_trans _ _ _ c.show_text.ensures.grown (extends_trans _ _ _ c.append_games.ensures.grown c.append_notes.ensures.grown)
+returns-in_err-append_notes-clause-grown g c = extends_trans _ _ _ c.show.ensures.grown (extends_trans _ _ _ c.append_games.ensures.grown c.append_notes.ensures.grown)
 
 pub returns-in_err-append_forks-clause-grown : goal.returns-in_err-append_forks-clause-grown
 returns-in_err-append_forks-clause-grown g c =
-    extends_trans _ _ _ c.show_text.ensures.grown (extends_trans _ _ _ c.append_games.ensures.grown (extends_trans _ _ _ c.append_notes.ensures.grown c.append_forks.ensures.grown))
+    extends_trans _ _ _ c.show.ensures.grown (extends_trans _ _ _ c.append_games.ensures.grown (extends_trans _ _ _ c.append_notes.ensures.grown c.append_forks.ensures.grown))
 
 pub returns-in_err-append_authors-clause-grown : goal.returns-in_err-append_authors-clause-grown
 returns-in_err-append_authors-clause-grown g c =
-    extends_trans _ _ _ c.show_text.ensures.grown (extends_trans _ _ _ c.append_games.ensures.grown (extends_trans _ _ _ c.append_notes.ensures.grown
+    extends_trans _ _ _ c.show.ensures.grown (extends_trans _ _ _ c.append_games.ensures.grown (extends_trans _ _ _ c.append_notes.ensures.grown
     (extends_trans _ _ _ c.append_forks.ensures.grown c.append_authors.ensures.grown)))
 
 pub returns-clause-ok : goal.returns-clause-ok
@@ -38,15 +38,15 @@ returns-clause-ok g c =
     let all_forks = map (fork_line ops) (summary.forks ops) in
     let all_authors = map (author_line ops) (summary.authors ops) in
     let same : map note_line (live_notes (listed parts.notes.now)) ≡ notes = ap (map note_line) (ap (λ held. live_notes (listed held)) c.requires.notes ∙ live_notes-of parts.store.now) in
-    on_ok_weaker c.show_text-2.result (λ last.
+    on_ok_weaker c.show-2.result (λ last.
     shown_then _ _ _ _ _ _ (heading ∷ all_games ++ notes ++ all_forks ++ all_authors) (ending ∷ [])
     (shown_then _ _ _ _ _ _ (heading ∷ all_games ++ notes ++ all_forks) all_authors
     (shown_then _ _ _ _ _ _ (heading ∷ all_games ++ notes) all_forks
     (shown_then _ _ _ _ _ _ (heading ∷ all_games) notes
-    (shown_then _ _ _ _ _ _ (heading ∷ []) all_games c.in_ok-show_text.ensures.ok c.in_ok-append_games.ensures.ok)
-    (subst (Shown _ _ _ _) same c.in_ok-append_notes.ensures.ok)) c.in_ok-append_forks.ensures.ok) c.in_ok-append_authors.ensures.ok) last) c.show_text-2.ensures.ok
+    (shown_then _ _ _ _ _ _ (heading ∷ []) all_games c.in_ok-show.ensures.ok c.in_ok-append_games.ensures.ok)
+    (subst (Shown _ _ _ _) same c.in_ok-append_notes.ensures.ok)) c.in_ok-append_forks.ensures.ok) c.in_ok-append_authors.ensures.ok) last) c.show-2.ensures.ok
 
 pub returns-clause-grown : goal.returns-clause-grown
 returns-clause-grown g c =
-    extends_trans _ _ _ c.show_text.ensures.grown (extends_trans _ _ _ c.append_games.ensures.grown (extends_trans _ _ _ c.append_notes.ensures.grown
-    (extends_trans _ _ _ c.append_forks.ensures.grown (extends_trans _ _ _ c.append_authors.ensures.grown c.show_text-2.ensures.grown))))
+    extends_trans _ _ _ c.show.ensures.grown (extends_trans _ _ _ c.append_games.ensures.grown (extends_trans _ _ _ c.append_notes.ensures.grown
+    (extends_trans _ _ _ c.append_forks.ensures.grown (extends_trans _ _ _ c.append_authors.ensures.grown c.show-2.ensures.grown))))

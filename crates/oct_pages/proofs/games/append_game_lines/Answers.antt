@@ -14,15 +14,15 @@ use Rattle.oct_pages.proofs.games.append_game_lines.Goals as goal
 pub append_values-requires : goal.append_values-requires
 append_values-requires g c = omega (arith, c.known_values.ensures.within)
 
-pub returns-in_err-show_game_head-clause-grown : goal.returns-in_err-show_game_head-clause-grown
-returns-in_err-show_game_head-clause-grown g c = c.show_game_head.ensures.grown
+pub returns-in_err-show-clause-grown : goal.returns-in_err-show-clause-grown
+returns-in_err-show-clause-grown g c = c.show.ensures.grown
 
 pub returns-in_err-append_values-clause-grown : goal.returns-in_err-append_values-clause-grown
-returns-in_err-append_values-clause-grown g c = extends_trans _ _ _ c.show_game_head.ensures.grown c.append_values.ensures.grown
+returns-in_err-append_values-clause-grown g c = extends_trans _ _ _ c.show.ensures.grown c.append_values.ensures.grown
 
 pub returns-in_err-append_blocks-clause-grown : goal.returns-in_err-append_blocks-clause-grown
 returns-in_err-append_blocks-clause-grown g c =
-    extends_trans _ _ _ c.show_game_head.ensures.grown (extends_trans _ _ _ c.append_values.ensures.grown c.append_blocks.ensures.grown)
+    extends_trans _ _ _ c.show.ensures.grown (extends_trans _ _ _ c.append_values.ensures.grown c.append_blocks.ensures.grown)
 
 pub returns-clause-ok : goal.returns-clause-ok
 returns-clause-ok g c =
@@ -36,9 +36,9 @@ returns-clause-ok g c =
     (λ i. game_text c.args.code.now (count i) ∷ values_lines (values i) ++ blocks ++ claims)
     (shown_then _ _ _ _ _ _ (game_text c.args.code.now c.known.result ∷ values_lines c.known_values.result.now ++ blocks) claims
     (shown_then _ _ _ _ _ _ (game_text c.args.code.now c.known.result ∷ values_lines c.known_values.result.now) blocks
-    (shown_then _ _ _ _ _ _ (game_text c.args.code.now c.known.result ∷ []) (values_lines c.known_values.result.now) c.in_ok-show_game_head.ensures.ok c.in_ok-append_values.ensures.ok)
+    (shown_then _ _ _ _ _ _ (game_text c.args.code.now c.known.result ∷ []) (values_lines c.known_values.result.now) c.in_ok-show.ensures.ok c.in_ok-append_values.ensures.ok)
     c.in_ok-append_blocks.ensures.ok) last)) c.append_periods.ensures.ok
 
 pub returns-clause-grown : goal.returns-clause-grown
 returns-clause-grown g c =
-    extends_trans _ _ _ c.show_game_head.ensures.grown (extends_trans _ _ _ c.append_values.ensures.grown (extends_trans _ _ _ c.append_blocks.ensures.grown c.append_periods.ensures.grown))
+    extends_trans _ _ _ c.show.ensures.grown (extends_trans _ _ _ c.append_values.ensures.grown (extends_trans _ _ _ c.append_blocks.ensures.grown c.append_periods.ensures.grown))

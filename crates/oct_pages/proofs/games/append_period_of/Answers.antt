@@ -17,8 +17,8 @@ pub returns-clause-ok : goal.returns-clause-ok
 returns-clause-ok g c =
     let claim = c.in-Some.ensures ∙ ap (claim_of_game c.args.code.now) c.body.ensures.value in
     let line = period_line (blocks_in c.args.game.now.blocks) in
-    on_ok_weaker c.show_period.result (λ shown.
-    subst (Shown c.args.window.now c.show_period.new.window c.args.out.now.items c.show_period.new.out.items)
-    ((λ i. period_text (c.dot.ensures.value i) c.in-Some.period.now ((c.period_status-status.ensures.value ∙ ap (λ l. period_status (blocks_in l.blocks) c.in-Some.period.now) c.ledger.ensures) i) ∷ [])
+    on_ok_weaker c.show.result (λ shown.
+    subst (Shown c.args.window.now c.show.new.window c.args.out.now.items c.show.new.out.items)
+    ((λ i. period_text (c.dot-dot.ensures.value i) c.in-Some.period.now ((c.period_status-status.ensures.value ∙ ap (λ l. period_status (blocks_in l.blocks) c.in-Some.period.now) c.ledger.ensures) i) ∷ [])
     ∙ ap (λ m. map line (cons_option (under c.args.op.now.dot m) [])) claim)
-    shown) c.show_period.ensures.ok
+    shown) c.show.ensures.ok

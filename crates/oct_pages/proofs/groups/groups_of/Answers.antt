@@ -16,10 +16,10 @@ loop-op-init g c =
 pub loop-op-preserved-in-Continue-1 : goal.loop-op-preserved-in-Continue-1
 loop-op-preserved-in-Continue-1 g c =
     let groups = found (tree.get code_cmp c.loop-op.groups) in
-    grouped_next (listed c.args.store.now) c.next.new.self groups (found (tree.get code_cmp c.add.new.groups)) c.in-Some.op.now c.in-Some-code.code
+    grouped_next (listed c.args.store.now) c.next.new.self groups (found (tree.get code_cmp c.push_op.new.groups)) c.in-Some.op.now c.in-Some-code.code
     (c.in-Some-code.ensures ∙ ap game_of_body c.body.ensures.value)
     (subst (λ ops. Grouping (listed c.args.store.now) ops groups) c.in-Some.ensures.steps c.loop-op.invariant)
-    c.in_ok-add.ensures
+    c.in_ok-push_op.ensures
 
 pub loop-op-preserved : goal.loop-op-preserved
 loop-op-preserved g c =

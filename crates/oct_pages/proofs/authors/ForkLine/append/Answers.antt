@@ -1,6 +1,6 @@
 use Rattle.std.proofs.lemmas.Result.{on_ok_weaker}
 use Rattle.oct_pages.proofs.Growing.{extends_trans, grown_thrice}
-use Rattle.oct_pages.proofs.authors.append_fork.Goals as goal
+use Rattle.oct_pages.proofs.authors.ForkLine.append.Goals as goal
 
 pub returns-in_err-append_labelled_dot-clause-grown : goal.returns-in_err-append_labelled_dot-clause-grown
 returns-in_err-append_labelled_dot-clause-grown g c = c.append_labelled_dot.ensures.grown

@@ -1,6 +1,6 @@
 use Rattle.std.proofs.lemmas.Result.{on_ok_weaker}
 use Rattle.oct_pages.proofs.Growing.{extends_by, extends_equal, extends_trans, grown_four_times}
-use Rattle.oct_pages.proofs.blocks.append_game_head.Goals as goal
+use Rattle.oct_pages.proofs.blocks.GameHeadLine.append.Goals as goal
 
 pub returns-in_err-append_text-clause-grown : goal.returns-in_err-append_text-clause-grown
 returns-in_err-append_text-clause-grown g c = c.append_text.ensures.grown

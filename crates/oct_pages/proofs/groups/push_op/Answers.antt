@@ -6,7 +6,7 @@ use Rattle.oct_code.specs.Code.{code_cmp}
 use Rattle.oct_ops.specs.Body.{Operation}
 use Rattle.oct_pages.specs.Groups.{lent}
 use Rattle.oct_pages.proofs.GroupLaws.{added_again, added_first}
-use Rattle.oct_pages.proofs.groups.add.Goals as goal
+use Rattle.oct_pages.proofs.groups.push_op.Goals as goal
 
 pub returns-in-Some : goal.returns-in-Some
 returns-in-Some g c q =

@@ -1,6 +1,6 @@
 use Rattle.std.proofs.lemmas.Result.{on_ok_weaker}
 use Rattle.oct_pages.proofs.Growing.{extends_trans, grown_thrice}
-use Rattle.oct_pages.proofs.blocks.append_block.Goals as goal
+use Rattle.oct_pages.proofs.blocks.BlockLineLine.append.Goals as goal
 
 pub returns-in_err-append_block_head-clause-grown : goal.returns-in_err-append_block_head-clause-grown
 returns-in_err-append_block_head-clause-grown g c = c.append_block_head.ensures.grown

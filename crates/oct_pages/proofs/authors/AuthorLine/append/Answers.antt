@@ -1,6 +1,6 @@
 use Rattle.std.proofs.lemmas.Result.{on_ok_weaker}
 use Rattle.oct_pages.proofs.Growing.{extends_trans, grown_four_times}
-use Rattle.oct_pages.proofs.authors.append_author.Goals as goal
+use Rattle.oct_pages.proofs.authors.AuthorLine.append.Goals as goal
 
 pub returns-in_err-append_labelled-clause-grown : goal.returns-in_err-append_labelled-clause-grown
 returns-in_err-append_labelled-clause-grown g c = c.append_labelled.ensures.grown
