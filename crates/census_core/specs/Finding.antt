@@ -28,13 +28,13 @@ abbrev pub found_in : Operations → Code → Option Period
 found_in ops c = found_period c (blocks_in (content_in ops c).blocks)
 
 -- the period, the heap from which on the nim-values repeat, and how many of them prove it
-abbrev pub period_text : Option Period → Text
-period_text None = codes " no period"
-period_text (Some p) = labelled (codes " period ") p.period ++ labelled (codes " from ") p.start ++ labelled (codes " needs ") (needs p)
+abbrev pub found_text : Option Period → Text
+found_text None = codes " no period"
+found_text (Some p) = labelled (codes " period ") p.period ++ labelled (codes " from ") p.start ++ labelled (codes " needs ") (needs p)
 
 -- and how many are known
 abbrev pub found_line : Code → Option Period → ℕ → Text
-found_line c found known = code_text c ++ period_text found ++ labelled (codes " known ") known ++ codes "\n"
+found_line c found known = code_text c ++ found_text found ++ labelled (codes " known ") known ++ codes "\n"
 
 abbrev pub find_line : Operations → Code → Text
 find_line ops c = found_line c (found_in ops c) (known_in ops c)

@@ -80,10 +80,10 @@ compute state word count = do
   issued replica (kind.Block block)
 
 abbrev pub period : Bytes → Bytes → ℕ → ℕ → Result Answer Fault
-period state word start span = do
+period state word start length = do
   replica ← loaded state
   code ← code_of word
-  claim ← claim_of code start span
+  claim ← claim_of code start length
   issued replica (kind.Period claim)
 
 abbrev pub note : Bytes → Bytes → Bytes → Result Answer Fault

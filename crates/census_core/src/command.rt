@@ -8,7 +8,7 @@ use crate::asking::{delta, page, show, value};
 use crate::extending::extend;
 use crate::fault::Fault;
 use crate::finding::{find, survey};
-use crate::issuing::{compute, import, note, period, unnote};
+use crate::issuing::{compute, import, note, unnote};
 use crate::moving::winning;
 use crate::progress::{Progress, Silent};
 use crate::reply::Reply;
@@ -49,8 +49,8 @@ pub fn perform_watched<P: Progress>(
         Request::Period {
             code,
             start,
-            period: span,
-        } => period(alloc, state, code, *start, *span),
+            period,
+        } => crate::issuing::period(alloc, state, code, *start, *period),
         Request::Note { name, text } => note(alloc, state, name, text),
         Request::Unnote { name } => unnote(alloc, state, name),
         Request::Merge => merge(alloc, state, file),

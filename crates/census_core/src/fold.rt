@@ -8,7 +8,7 @@ ghost use Rattle.census_core.specs.Inputs.{IsFoldFault, IsInputFault};
 
 use crate::fault::Fault;
 use crate::input::INPUT_LIMIT;
-use crate::taken::{Lines, take_lines};
+use crate::taken::{Intake, take_lines};
 use oct_sync::write_out;
 use std::alloc::Allocator;
 use std::io::{BufReader, Read, Write};
@@ -34,17 +34,17 @@ pub fn fold_lines<A: Allocator + Copy, R: Read, W: Write>(
     ensures too_long { IsErrOf result Fault.TooLong → IfSome (R.remaining reader.old) (λ input. INPUT_LIMIT < length input) }
     ensures faults { IfErr result IsFoldFault }
 {
-    let lines = read_lines(alloc, reader)?;
+    let intake = read_lines(alloc, reader)?;
     let mut text = Vec::new(alloc);
-    lines.replica.catalogue(&mut text)?;
+    intake.replica.catalogue(&mut text)?;
     write_out(writer, &text)?;
-    Ok(lines.refused)
+    Ok(intake.refused)
 }
 
 // Goes over the lines of the whole input.
-fn read_lines<A: Allocator + Copy, R: Read>(alloc: A, reader: &mut R) -> Result<Lines<A>, Fault>
-    ensures taken { IfOk result (λ lines. IfSome (R.remaining reader.old) (λ input. lines.replica.ops ≡ taken input)) }
-    ensures refused { IfOk result (λ lines. IfSome (R.remaining reader.old) (λ input. lines.refused ≡ refused input)) }
+fn read_lines<A: Allocator + Copy, R: Read>(alloc: A, reader: &mut R) -> Result<Intake<A>, Fault>
+    ensures taken { IfOk result (λ intake. IfSome (R.remaining reader.old) (λ input. intake.replica.ops ≡ taken input)) }
+    ensures refused { IfOk result (λ intake. IfSome (R.remaining reader.old) (λ input. intake.refused ≡ refused input)) }
     ensures fits { OnOk result (IfSome (R.remaining reader.old) (λ input. length input ≤ INPUT_LIMIT)) }
     ensures too_long { IsErrOf result Fault.TooLong → IfSome (R.remaining reader.old) (λ input. INPUT_LIMIT < length input) }
     ensures faults { IfErr result IsInputFault }

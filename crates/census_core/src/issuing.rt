@@ -2,7 +2,8 @@
 
 ghost use Rattle.std.specs.Prelude.{◌≡◌, ◌≢◌, Ok, Err, IfOk, IfErr};
 ghost use Rattle.oct_ops.specs.Views.{content};
-ghost use Rattle.census_core.specs.Issuing.{block_of, compute, import, issued, note, period, unnote};
+ghost use Rattle.census_core.specs.Issuing.{block_of, compute, import, issued, note, unnote};
+ghost use Rattle.census_core.specs.Issuing as spec;
 ghost use Rattle.census_core.specs.Replies.{answer_of};
 
 use crate::codes::read_code;
@@ -71,14 +72,14 @@ pub(crate) fn period(
     state: &[u8],
     code: &[u8],
     start: u32,
-    span: u32,
+    period: u32,
 ) -> Result<Reply, Fault>
-    ensures ok { IfOk result (λ reply. period state.now code.now start span ≡ Ok (answer_of reply)) }
-    ensures err { IfErr result (λ e. e ≢ Fault.OutOfMemory → period state.now code.now start span ≡ Err e) }
+    ensures ok { IfOk result (λ reply. spec.period state.now code.now start period ≡ Ok (answer_of reply)) }
+    ensures err { IfErr result (λ e. e ≢ Fault.OutOfMemory → spec.period state.now code.now start period ≡ Err e) }
 {
     let replica = load(alloc, state)?;
     let code = read_code(code)?;
-    let claim = Period::new(code, start, span)?;
+    let claim = Period::new(code, start, period)?;
     issue(alloc, replica, Body::Period(claim))
 }
 

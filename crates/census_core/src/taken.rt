@@ -18,7 +18,7 @@ use std::io::BufRead;
 
 /// What the lines of an input come to.
 #[derive(Drop)]
-pub(crate) struct Lines<A: Allocator + Copy> {
+pub(crate) struct Intake<A: Allocator + Copy> {
     /// The replica that took them.
     pub(crate) replica: Replica<A>,
     /// How many filled lines it did not take.
@@ -30,14 +30,14 @@ pub(crate) fn take_lines<A: Allocator + Copy, B: BufRead>(
     alloc: A,
     input: &mut B,
     limit: u64,
-) -> Result<Lines<A>, Fault>
-    ensures taken { IfOk result (λ lines. IfSome (B.remaining input.old) (λ x. lines.replica.ops ≡ taken x)) }
-    ensures refused { IfOk result (λ lines. IfSome (B.remaining input.old) (λ x. lines.refused ≡ refused x)) }
+) -> Result<Intake<A>, Fault>
+    ensures taken { IfOk result (λ intake. IfSome (B.remaining input.old) (λ x. intake.replica.ops ≡ taken x)) }
+    ensures refused { IfOk result (λ intake. IfSome (B.remaining input.old) (λ x. intake.refused ≡ refused x)) }
     ensures fits { OnOk result (IfSome (B.remaining input.old) (λ x. length x ≤ limit)) }
     ensures too_long { IsErrOf result Fault.TooLong → IfSome (B.remaining input.old) (λ x. limit < length x) }
     ensures faults { IfErr result IsInputFault }
 {
-    let mut lines = Lines {
+    let mut intake = Intake {
         replica: reader_of_lines(alloc),
         refused: 0,
     };
@@ -46,7 +46,7 @@ pub(crate) fn take_lines<A: Allocator + Copy, B: BufRead>(
     loop {
         let count = next_line(input, &mut line)?;
         if count == 0 {
-            return Ok(lines);
+            return Ok(intake);
         }
         if count > left {
             return Err(Fault::TooLong);
@@ -54,7 +54,7 @@ pub(crate) fn take_lines<A: Allocator + Copy, B: BufRead>(
         left -= count;
         let text = text_of_line(&line);
         if !text.is_empty() {
-            take_line(alloc, &mut lines, text)?;
+            take_line(alloc, &mut intake, text)?;
         }
     }
 }
@@ -85,22 +85,26 @@ pub(crate) fn reader_of_lines<A: Allocator + Copy>(alloc: A) -> Replica<A>
 }
 
 // Takes the operations of the line, or counts it where it spells none.
-fn take_line<A: Allocator + Copy>(alloc: A, lines: &mut Lines<A>, line: &[u8]) -> Result<(), Fault>
-    requires { lines.old.refused + 1 < 2 ^ 64 }
-    ensures taken { OnOk result (lines.new.replica.ops ≡ union lines.old.replica.ops (set_of (taken_of_line line.now))) }
-    ensures counted { OnOk result (lines.new.refused ≡ cond (is_refused line.now) (lines.old.refused + 1) lines.old.refused) }
+fn take_line<A: Allocator + Copy>(
+    alloc: A,
+    intake: &mut Intake<A>,
+    line: &[u8],
+) -> Result<(), Fault>
+    requires { intake.old.refused + 1 < 2 ^ 64 }
+    ensures taken { OnOk result (intake.new.replica.ops ≡ union intake.old.replica.ops (set_of (taken_of_line line.now))) }
+    ensures counted { OnOk result (intake.new.refused ≡ cond (is_refused line.now) (intake.old.refused + 1) intake.old.refused) }
     ensures kind { IfErr result (λ e. e ≡ Fault.OutOfMemory) }
 {
     let bytes = match hex::decode(alloc, line) {
         Ok(bytes) => bytes,
         Err(hex::FromHexError::OutOfMemory) => return Err(Fault::OutOfMemory),
         Err(_) => {
-            lines.refused += 1;
+            intake.refused += 1;
             return Ok(());
         }
     };
-    if !take_bytes(&mut lines.replica, &bytes)? {
-        lines.refused += 1;
+    if !take_bytes(&mut intake.replica, &bytes)? {
+        intake.refused += 1;
     }
     Ok(())
 }

@@ -1,16 +1,15 @@
 //! The lines that commands print.
 
 ghost use Rattle.std.specs.Prelude.{◌≡◌, ◌++◌, IfOk, OnOk};
-ghost use Rattle.std.specs.Fmt.{decimal};
-ghost use Rattle.oct_pages.specs.Catalogue.{labelled};
 ghost use Rattle.census_core.specs.Extending.{extended_line};
-ghost use Rattle.census_core.specs.Finding.{found_line, period_text};
+ghost use Rattle.census_core.specs.Finding.{found_line, found_text};
 ghost use Rattle.oct_period.specs.Periods.{needs};
 ghost use Rattle.census_core.specs.Lines.{issued_line, number_line, union_line};
 ghost use Rattle.census_core.specs.Moving.{left_text, move_line};
 
 use oct_code::Code;
 use oct_ops::{Dot, Period};
+use oct_pages::{append_labelled, append_labelled_dot, append_text};
 use oct_period::Move;
 use std::alloc::{AllocError, Global};
 
@@ -18,9 +17,9 @@ use std::alloc::{AllocError, Global};
 pub(crate) fn number_line(alloc: Global, label: &[u8], number: u64) -> Result<Vec<u8>, AllocError>
     ensures { IfOk result (λ line. line.items ≡ number_line label.now number) }
 {
-    let mut line = Vec::from_slice(alloc, label)?;
-    append_number(&mut line, number)?;
-    line.extend_from_slice(b"\n")?;
+    let mut line = Vec::new(alloc);
+    append_labelled(&mut line, label, number)?;
+    append_text(&mut line, b"\n")?;
     Ok(line)
 }
 
@@ -28,11 +27,10 @@ pub(crate) fn number_line(alloc: Global, label: &[u8], number: u64) -> Result<Ve
 pub(crate) fn union_line(alloc: Global, new: usize, all: usize) -> Result<Vec<u8>, AllocError>
     ensures { IfOk result (λ line. line.items ≡ union_line new all) }
 {
-    let mut line = Vec::from_slice(alloc, b"new ")?;
-    append_number(&mut line, new as u64)?;
-    line.extend_from_slice(b" operations ")?;
-    append_number(&mut line, all as u64)?;
-    line.extend_from_slice(b"\n")?;
+    let mut line = Vec::new(alloc);
+    append_labelled(&mut line, b"new ", new)?;
+    append_labelled(&mut line, b" operations ", all)?;
+    append_text(&mut line, b"\n")?;
     Ok(line)
 }
 
@@ -40,11 +38,9 @@ pub(crate) fn union_line(alloc: Global, new: usize, all: usize) -> Result<Vec<u8
 pub(crate) fn issued_line(alloc: Global, dot: Dot) -> Result<Vec<u8>, AllocError>
     ensures { IfOk result (λ line. line.items ≡ issued_line dot) }
 {
-    let mut line = Vec::from_slice(alloc, b"issued ")?;
-    append_number(&mut line, u64::from(dot.author()))?;
-    line.extend_from_slice(b".")?;
-    append_number(&mut line, u64::from(dot.number()))?;
-    line.extend_from_slice(b"\n")?;
+    let mut line = Vec::new(alloc);
+    append_labelled_dot(&mut line, b"issued ", dot)?;
+    append_text(&mut line, b"\n")?;
     Ok(line)
 }
 
@@ -58,9 +54,9 @@ pub(crate) fn append_extended(
     ensures { OnOk result (text.new.items ≡ text.old.items ++ extended_line code known issued) }
 {
     code.append_text(text)?;
-    append_labelled(text, b" known ", u64::from(known))?;
-    append_labelled(text, b" issued ", u64::from(issued))?;
-    text.extend_from_slice(b"\n")
+    append_labelled(text, b" known ", known)?;
+    append_labelled(text, b" issued ", issued)?;
+    append_text(text, b"\n")
 }
 
 /// Appends the line of a game: which period is found, what proves it, and how many of its values are known.
@@ -75,18 +71,18 @@ pub(crate) fn append_found(
     code.append_text(text)?;
     match found {
         Some(found) => append_period(text, found)?,
-        None => text.extend_from_slice(b" no period")?,
+        None => append_text(text, b" no period")?,
     }
-    append_labelled(text, b" known ", u64::from(known))?;
-    text.extend_from_slice(b"\n")
+    append_labelled(text, b" known ", known)?;
+    append_text(text, b"\n")
 }
 
 // Appends a period, its start, and how many values prove it.
 fn append_period(text: &mut Vec<u8>, found: &Period) -> Result<(), AllocError>
-    ensures { OnOk result (text.new.items ≡ text.old.items ++ period_text (Some found.now)) }
+    ensures { OnOk result (text.new.items ≡ text.old.items ++ found_text (Some found.now)) }
 {
-    append_labelled(text, b" period ", u64::from(found.period()))?;
-    append_labelled(text, b" from ", u64::from(found.start()))?;
+    append_labelled(text, b" period ", found.period())?;
+    append_labelled(text, b" from ", found.start())?;
     append_labelled(text, b" needs ", needs(found))
 }
 
@@ -102,11 +98,11 @@ pub(crate) fn move_line(alloc: Global, found: &Move, beans: u64) -> Result<Vec<u
     ensures { IfOk result (λ line. line.items ≡ move_line found.now beans) }
 {
     let mut line = Vec::new(alloc);
-    append_labelled(&mut line, b"heap ", found.index as u64)?;
+    append_labelled(&mut line, b"heap ", found.index)?;
     append_labelled(&mut line, b" of ", beans)?;
     append_labelled(&mut line, b": remove ", found.removed)?;
     append_left(&mut line, found.left.0, found.left.1)?;
-    line.extend_from_slice(b"\n")?;
+    append_text(&mut line, b"\n")?;
     Ok(line)
 }
 
@@ -115,26 +111,11 @@ fn append_left(line: &mut Vec<u8>, less: u64, more: u64) -> Result<(), AllocErro
     ensures { OnOk result (line.new.items ≡ line.old.items ++ left_text less more) }
 {
     if more == 0 {
-        return line.extend_from_slice(b", leave nothing");
+        return append_text(line, b", leave nothing");
     }
     if less == 0 {
         return append_labelled(line, b", leave ", more);
     }
     append_labelled(line, b", leave ", less)?;
     append_labelled(line, b" and ", more)
-}
-
-// Appends a text and a number.
-fn append_labelled(text: &mut Vec<u8>, label: &[u8], number: u64) -> Result<(), AllocError>
-    ensures { OnOk result (text.new.items ≡ text.old.items ++ labelled label.now number) }
-{
-    text.extend_from_slice(label)?;
-    append_number(text, number)
-}
-
-// Appends a number in decimal digits.
-fn append_number(line: &mut Vec<u8>, number: u64) -> Result<(), AllocError>
-    ensures { OnOk result (line.new.items ≡ line.old.items ++ decimal number) }
-{
-    line.extend_from_slice(itoa::Buffer::new().format(number).as_bytes())
 }

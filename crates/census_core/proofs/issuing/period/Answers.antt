@@ -10,8 +10,8 @@ use Rattle.census_core.proofs.issuing.period.Goals as goal
 pub returns-in_err-claim-clause-err : goal.returns-in_err-claim-clause-err
 returns-in_err-claim-clause-err c =
     let p = err_from_is_err_and c.from_residual-in_err-claim.result c.from_residual-in_err-claim.ensures.1 in
-    let claim = repeating c.in_ok-code.code c.args.start c.args.span in
-    rw (p.1, p.2) (λ other. then_with _ _ _ c.in_ok-replica.ensures.ok ∙ then_with _ _ _ (ap (because fault.Code) (sym c.read_code.ensures ∙ c.in_ok-code.was)) ∙ stopped (claim_of c.in_ok-code.code c.args.start c.args.span) _ _ (ap (λ found. because fault.Period (unless found claim)) c.in_err-claim.ensures.fault))
+    let claim = repeating c.in_ok-code.code c.args.start c.args.period in
+    rw (p.1, p.2) (λ other. then_with _ _ _ c.in_ok-replica.ensures.ok ∙ then_with _ _ _ (ap (because fault.Code) (sym c.read_code.ensures ∙ c.in_ok-code.was)) ∙ stopped (claim_of c.in_ok-code.code c.args.start c.args.period) _ _ (ap (λ found. because fault.Period (unless found claim)) c.in_err-claim.ensures.fault))
 
 pub returns-clause-ok : goal.returns-clause-ok
 returns-clause-ok c =

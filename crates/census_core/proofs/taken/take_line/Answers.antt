@@ -8,8 +8,8 @@ pub returns-in-Err : goal.returns-in-Err
 returns-in-Err g c =
     let none : operations_of_line c.args.line.now ≡ None = search rules in
     record {
-      taken = untaken c.args.lines.now.replica.ops c.args.line.now none;
-      counted = refused_once c.args.line.now c.args.lines.now.refused none;
+      taken = untaken c.args.intake.now.replica.ops c.args.line.now none;
+      counted = refused_once c.args.line.now c.args.intake.now.refused none;
       kind = search rules;
     }
 

@@ -15,27 +15,27 @@ loop-line-init g c = record {
 pub returns-then-count-eq0-clause-taken : goal.returns-then-count-eq0-clause-taken
 returns-then-count-eq0-clause-taken g c =
     IfSome_then (g.B.Read.remaining c.args.input.now)
-    (ended _ (g.B.Read.remaining c.loop-line.input) c.next_line.new.line.items c.loop-line.lines.replica.ops c.loop-line.lines.refused c.args.limit c.loop-line.left
+    (ended _ (g.B.Read.remaining c.loop-line.input) c.next_line.new.line.items c.loop-line.intake.replica.ops c.loop-line.intake.refused c.args.limit c.loop-line.left
     c.loop-line.invariant.underway c.in_ok-count.ensures.line (omega (arith, c.in_ok-count.ensures.count, c.if-count-eq0.true)))
     (λ x whole. whole.0)
 
 pub returns-then-count-eq0-clause-refused : goal.returns-then-count-eq0-clause-refused
 returns-then-count-eq0-clause-refused g c =
     IfSome_then (g.B.Read.remaining c.args.input.now)
-    (ended _ (g.B.Read.remaining c.loop-line.input) c.next_line.new.line.items c.loop-line.lines.replica.ops c.loop-line.lines.refused c.args.limit c.loop-line.left
+    (ended _ (g.B.Read.remaining c.loop-line.input) c.next_line.new.line.items c.loop-line.intake.replica.ops c.loop-line.intake.refused c.args.limit c.loop-line.left
     c.loop-line.invariant.underway c.in_ok-count.ensures.line (omega (arith, c.in_ok-count.ensures.count, c.if-count-eq0.true)))
     (λ x whole. whole.1)
 
 pub returns-then-count-eq0-clause-fits : goal.returns-then-count-eq0-clause-fits
 returns-then-count-eq0-clause-fits g c =
     IfSome_then (g.B.Read.remaining c.args.input.now)
-    (ended _ (g.B.Read.remaining c.loop-line.input) c.next_line.new.line.items c.loop-line.lines.replica.ops c.loop-line.lines.refused c.args.limit c.loop-line.left
+    (ended _ (g.B.Read.remaining c.loop-line.input) c.next_line.new.line.items c.loop-line.intake.replica.ops c.loop-line.intake.refused c.args.limit c.loop-line.left
     c.loop-line.invariant.underway c.in_ok-count.ensures.line (omega (arith, c.in_ok-count.ensures.count, c.if-count-eq0.true)))
     (λ x whole. whole.2)
 
 pub returns-then-count-left-clause-too_long : goal.returns-then-count-left-clause-too_long
 returns-then-count-left-clause-too_long g c = λ _.
-    too_long _ (g.B.Read.remaining c.loop-line.input) c.next_line.new.line.items c.loop-line.lines.replica.ops c.loop-line.lines.refused c.args.limit c.loop-line.left
+    too_long _ (g.B.Read.remaining c.loop-line.input) c.next_line.new.line.items c.loop-line.intake.replica.ops c.loop-line.intake.refused c.args.limit c.loop-line.left
     c.loop-line.invariant.underway c.in_ok-count.ensures.line (omega (arith, c.in_ok-count.ensures.count, c.if-count-left.true))
 
 pub loop-line-preserved-in-Continue-branch-2 : goal.loop-line-preserved-in-Continue-branch-2
@@ -46,15 +46,15 @@ loop-line-preserved-in-Continue-branch-2 g c =
     let count : c.in_ok-count.count ≡ length line = omega (arith, c.in_ok-count.ensures.count) in
     let some : 0 < length line = omega (arith, count, c.if-count-eq0.false) in
     let fits : length line ≤ c.loop-line.left = omega (arith, count, c.if-count-left.false) in
-    let once = at_most_one_more (is_refused c.text_of_line-text.result.now) c.loop-line.lines.refused c.take_line.new.lines.refused c.in_ok-take_line.ensures.counted in
+    let once = at_most_one_more (is_refused c.text_of_line-text.result.now) c.loop-line.intake.refused c.take_line.new.intake.refused c.in_ok-take_line.ensures.counted in
     record {
       underway =
-          subst (λ n. IsUnderway (g.B.Read.remaining c.args.input.now) (g.B.Read.remaining c.next_line.new.input) c.take_line.new.lines.replica.ops c.take_line.new.lines.refused c.args.limit (c.loop-line.left - n))
+          subst (λ n. IsUnderway (g.B.Read.remaining c.args.input.now) (g.B.Read.remaining c.next_line.new.input) c.take_line.new.intake.replica.ops c.take_line.new.intake.refused c.args.limit (c.loop-line.left - n))
           (sym count)
-          (went_on _ (g.B.Read.remaining c.loop-line.input) _ line c.loop-line.lines.replica.ops _ c.loop-line.lines.refused _ c.args.limit c.loop-line.left
+          (went_on _ (g.B.Read.remaining c.loop-line.input) _ line c.loop-line.intake.replica.ops _ c.loop-line.intake.refused _ c.args.limit c.loop-line.left
           c.loop-line.invariant.underway c.in_ok-count.ensures.line c.in_ok-count.ensures.rest some fits filled
-          (c.in_ok-take_line.ensures.taken ∙ ap (λ t. union c.loop-line.lines.replica.ops (set_of (taken_of_line t))) text)
-          (c.in_ok-take_line.ensures.counted ∙ ap (λ t. cond (is_refused t) (c.loop-line.lines.refused + 1) c.loop-line.lines.refused) text));
+          (c.in_ok-take_line.ensures.taken ∙ ap (λ t. union c.loop-line.intake.replica.ops (set_of (taken_of_line t))) text)
+          (c.in_ok-take_line.ensures.counted ∙ ap (λ t. cond (is_refused t) (c.loop-line.intake.refused + 1) c.loop-line.intake.refused) text));
       bounded = omega (arith, once, some, fits, count, c.loop-line.invariant.bounded);
     }
 
@@ -68,9 +68,9 @@ loop-line-preserved g c =
     let fits : length line ≤ c.loop-line.left = omega (arith, count, c.if-count-left.false) in
     record {
       underway =
-          subst (λ n. IsUnderway (g.B.Read.remaining c.args.input.now) (g.B.Read.remaining c.next_line.new.input) c.loop-line.lines.replica.ops c.loop-line.lines.refused c.args.limit (c.loop-line.left - n))
+          subst (λ n. IsUnderway (g.B.Read.remaining c.args.input.now) (g.B.Read.remaining c.next_line.new.input) c.loop-line.intake.replica.ops c.loop-line.intake.refused c.args.limit (c.loop-line.left - n))
           (sym count)
-          (skipped _ (g.B.Read.remaining c.loop-line.input) _ line c.loop-line.lines.replica.ops c.loop-line.lines.refused c.args.limit c.loop-line.left
+          (skipped _ (g.B.Read.remaining c.loop-line.input) _ line c.loop-line.intake.replica.ops c.loop-line.intake.refused c.args.limit c.loop-line.left
           c.loop-line.invariant.underway c.in_ok-count.ensures.line c.in_ok-count.ensures.rest some fits unfilled);
       bounded = omega (arith, c.loop-line.invariant.bounded);
     }

@@ -4,8 +4,8 @@ use Rattle.census_core.proofs.taken.take_lines.Given as goal
 
 abbrev pub invariant-loop-line : goal.invariant-loop-line
 invariant-loop-line g l = record {
-  underway : IsUnderway (g.B.Read.remaining l.fn.input) (g.B.Read.remaining l.input) l.lines.replica.ops l.lines.refused l.fn.limit l.left;
-  bounded : l.lines.refused + l.left ≤ l.fn.limit;
+  underway : IsUnderway (g.B.Read.remaining l.fn.input) (g.B.Read.remaining l.input) l.intake.replica.ops l.intake.refused l.fn.limit l.left;
+  bounded : l.intake.refused + l.left ≤ l.fn.limit;
 }
 
 abbrev pub decreases-loop-line : goal.decreases-loop-line
