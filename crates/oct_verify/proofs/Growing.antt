@@ -2,12 +2,13 @@
 use Rattle.std.proofs.Common.{◌≡◌, ℕ, ◌<◌, ◌≤◌, Bool, true, false, not, Some, None, List, [], ◌∷◌, length, get_or, refl, sym, ap, ◌∙◌, arith, inl, inr}
 use Rattle.std.specs.List.{AllWithin}
 use Rattle.std.specs.List.Sorted.{IsPartitionedBy, IsPartitionPoint}
+use Rattle.std.proofs.lemmas.List.{get_or_default}
 use Rattle.std.proofs.lemmas.Bool.{cases_lt, cases_order, true≢false}
 use Rattle.oct_code.specs.Code.{Code}
 use Rattle.oct_ops.specs.Operation.{Block}
 use Rattle.oct_verify.specs.Filed.{Filed}
 use Rattle.oct_verify.specs.Kept.{is_pending, IsSettling}
-use Rattle.oct_verify.specs.Chunked.{chunked, index_of, IsChunked, IsInside, IsBeside, content}
+use Rattle.oct_verify.specs.Chunked.{chunked, index_of, IsChunked, IsInside, IsBeside, IsItemAt, content}
 use Rattle.oct_verify.specs.Shelf.{IsHalfway, IsKept}
 use Rattle.oct_verify.specs.Known.{first_wrong, verdict_at, verdict}
 use Rattle.oct_verify.specs.declared.chunks.Chunks.{Chunks}
@@ -57,6 +58,29 @@ beside_upto s place h = elim s.chunks.items as (λ l. s.chunks.items ≡ l → i
   | [] ↦ λ e. absurd (omega (arith, h.chunk, ap length e))
   | v ∷ vs ↦ λ e. omega (arith, end-upto content s.chunks.items place.chunk v h.chunk, h.at v)
 ] refl
+
+-- the first entry that waits, where there is one
+pub record IsFirstWaiting {A : Type 0} (s : Shelf A) (here : Place) (entry : Filed) : Type 0 where
+  pub next : index_of s.entries here ≡ s.comparer.checks
+  pub waits : s.comparer.checks < length (chunked s.entries)
+  pub is : (d : Filed) → get_or (chunked s.entries) s.comparer.checks d ≡ entry
+
+pub first_waiting : {A : Type 0} (s : Shelf A) (point here : Place) (entry : Filed) → IsHalfway s → IsInside s.entries here → index_of s.entries here ≡ index_of s.entries point
+    → IsPartitionPoint (λ e. is_settled e ≡ true) (λ e. is_settled e ≡ false) (chunked s.entries) (index_of s.entries point) → IsItemAt s.entries here entry → IsFirstWaiting s here entry
+first_waiting s point here entry halfway inside same found item =
+    let es = chunked s.entries in
+    let code = s.comparer.values.code in
+    let settled = s.comparer.checks in
+    let settling = halfway.settling in
+    let lt : index_of s.entries here < length es = inside_within s.entries here inside in
+    let mark : index_of s.entries point ≡ settled = one_mark is_settled es settled (done_settled code es settled _ _ settling) (waiting_not code es settled _ _ settling) (index_of s.entries point) entry settling.mark (omega (arith, lt, same)) found in
+    let next : index_of s.entries here ≡ settled = same ∙ mark in
+    let waits : settled < length es = omega (arith, lt, next) in
+    record {
+      next = next;
+      waits = waits;
+      is = λ d. get_or_default es settled d entry waits ∙ ap (λ i. get_or es i entry) (sym next) ∙ item;
+    }
 
 -- a shelf whose content stays, and that may have more room
 module _ {A : Type 0} (s t : Shelf A) (kept : IsKept s) (chunks : IsChunked t.entries) (same : chunked t.entries ≡ chunked s.entries) (known : t.known ≡ s.known) (checks : t.comparer.checks ≡ s.comparer.checks)

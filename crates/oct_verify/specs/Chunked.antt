@@ -65,3 +65,7 @@ IsItemAt s place e = slice_index_or (chunked s) (index_of s place) e ≡ e
 pub record IsNear {X A : Type 0} (s : Chunks X A) (place : Place) : Type 0 where
   pub beside : 0 < length s.chunks.items → IsBeside s place
   pub first : length s.chunks.items ≡ 0 → (place.chunk ≡ 0) × (place.at ≡ 0)
+
+-- an item may go to the place, which is where the old one was
+abbrev pub StandsAt : {X A : Type 0} → Chunks X A → Place → Chunks X A → Place → Type 0
+StandsAt old before new place = IsBeside new place × (index_of new place ≡ index_of old before)

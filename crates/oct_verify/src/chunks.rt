@@ -1,10 +1,10 @@
 //! A list that lies in short chunks, so that one more item moves few of them.
 
-ghost use Rattle.std.specs.Prelude.{Vec, Bool, slice_index_or, ◌≡◌, ◌+◌, ◌<◌, ◌≤◌, ◌^◌, true, false, length, vec_len, [], OnOk, IfOk, MatchOption};
+ghost use Rattle.std.specs.Prelude.{Vec, Bool, slice_index_or, ◌≡◌, ◌+◌, ◌-◌, ◌/◌, ◌<◌, ◌≤◌, ◌^◌, true, false, length, vec_len, [], OnOk, IfOk, MatchOption};
 ghost use Rattle.std.specs.Vec.{vec_capacity};
 ghost use Rattle.std.specs.List.{insert, AllWithin};
 ghost use Rattle.std.specs.List.Sorted.{IsPartitionedBy, IsPartitionPoint};
-ghost use Rattle.oct_verify.specs.Chunked.{chunked, index_of, starts, IsChunked, IsNear, IsInside, IsBeside, HasRoom, IsItemAt};
+ghost use Rattle.oct_verify.specs.Chunked.{chunked, index_of, starts, HasRoom, IsBeside, IsChunked, IsInside, IsItemAt, IsNear, StandsAt};
 
 use std::alloc::{AllocError, Allocator};
 
@@ -165,9 +165,7 @@ impl<T: Drop, A: Allocator + Copy> Chunks<T, A> {
         ensures len { self.new.len ≡ self.old.len }
         ensures ok { IfOk result (λ p. IsBeside self.new p × (index_of self.new p ≡ index_of self.old place)) }
     {
-        self.chunks.reserve(1)?;
-        let upper = self.chunks[place.chunk].split_off(LONGEST / 2)?;
-        insert_at(&mut self.chunks, place.chunk + 1, upper);
+        self.halve(place)?;
         if place.at <= LONGEST / 2 {
             Ok(place)
         } else {
@@ -176,6 +174,24 @@ impl<T: Drop, A: Allocator + Copy> Chunks<T, A> {
                 at: place.at - LONGEST / 2,
             })
         }
+    }
+
+    // Splits a long chunk in two. A place in it stays, or moves to the upper half.
+    fn halve(&mut self, place: Place) -> Result<(), AllocError>
+        requires chunked { IsChunked self.old }
+        requires beside { IsBeside self.old place }
+        requires long { (d : Vec T A) → LONGEST ≤ vec_len (slice_index_or self.old.chunks.items place.chunk d) }
+        ensures chunked { IsChunked self.new }
+        ensures same { chunked self.new ≡ chunked self.old }
+        ensures len { self.new.len ≡ self.old.len }
+        ensures chunk { OnOk result (place.chunk + 1 < 2 ^ 64) }
+        ensures lower { OnOk result (place.at ≤ LONGEST / 2 → StandsAt self.old place self.new place) }
+        ensures upper { OnOk result (LONGEST / 2 < place.at → StandsAt self.old place self.new (record { chunk = place.chunk + 1; at = place.at - LONGEST / 2 })) }
+    {
+        self.chunks.reserve(1)?;
+        let upper = self.chunks[place.chunk].split_off(LONGEST / 2)?;
+        insert_at(&mut self.chunks, place.chunk + 1, upper);
+        Ok(())
     }
 
     /// Puts an item at a place with room.
