@@ -81,7 +81,7 @@ impl<A: Allocator + Copy> Notes<A> {
         self.ops.contains(op)
     }
 
-    /// Takes in the operation, which has to be a note or a removal. Memory can be refused only where it is not there; then
+    /// Puts in the operation, which has to be a note or a removal. Memory can be refused only where it is not there; then
     /// the set stays as it is, and the operation comes back.
     pub fn insert(&mut self, op: Op<A>) -> Result<(), (AllocError, Op<A>)>
         requires { IsTrue (spec.concerns_notes op.body) }
@@ -96,7 +96,7 @@ impl<A: Allocator + Copy> Notes<A> {
         }
     }
 
-    /// Takes in a copy of the operation, which has to be a note or a removal. Memory can be refused only where it is not
+    /// Puts in a copy of the operation, which has to be a note or a removal. Memory can be refused only where it is not
     /// there; then the set stays as it is.
     pub fn add(&mut self, op: &Op<A>) -> Result<(), AllocError>
         requires { IsTrue (spec.concerns_notes op.now.body) }

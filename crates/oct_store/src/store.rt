@@ -74,7 +74,7 @@ impl<A: Allocator + Copy> Store<A> {
         self.ops.contains(op)
     }
 
-    /// Takes the operation in, and says whether it is new. Memory can be refused only for one that is not there; then the
+    /// Puts the operation in, and says whether it is new. Memory can be refused only for one that is not there; then the
     /// set stays as it is, and the operation comes back.
     pub fn insert(&mut self, op: Op<A>) -> Result<bool, (AllocError, Op<A>)>
         ensures added { IfOk result (λ added. added ≡ not (contains self.old op)) }
