@@ -1,10 +1,12 @@
 mod Asked
 mod CodeTexts
+mod DigitPairs
 mod Folding
 mod Gathering
 mod Growing
 mod Importing
 mod Issuance
+mod LineEnds
 mod LineLemmas
 mod Members
 mod Merging

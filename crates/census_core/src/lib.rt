@@ -17,6 +17,7 @@ mod extending;
 mod fault;
 mod finding;
 mod fold;
+mod hexadecimal;
 mod import;
 mod import_error;
 mod input;

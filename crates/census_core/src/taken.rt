@@ -1,7 +1,8 @@
 //! What is taken of the lines of an input.
 
-ghost use Rattle.std.specs.Prelude.{◌≡◌, ◌⊎◌, ◌+◌, ◌<◌, ◌≤◌, ◌^◌, cond, is_some, length, vec_len, IfOk, OnOk, IfSome, IfErr, IsErrOf};
+ghost use Rattle.std.specs.Prelude.{◌≡◌, ◌⊎◌, ◌+◌, ◌++◌, Ok, true, false, ◌<◌, ◌≤◌, ◌^◌, cond, is_some, length, vec_len, IfOk, OnOk, IfSome, IfErr, IsErrOf};
 ghost use Rattle.std.specs.Io.BufRead.{take_through, DropsThrough};
+ghost use Rattle.std.specs.Io.KnownBytes.{Keeps};
 ghost use Rattle.oct_ops.specs.Operations.{empty, set_of, union};
 ghost use Rattle.oct_delta.specs.Decoding.{read_delta};
 ghost use Rattle.oct_delta.specs.Taken.{operations_of};
@@ -9,12 +10,14 @@ ghost use Rattle.census_core.specs.Folded.{is_refused, refused, taken, taken_of_
 ghost use Rattle.census_core.specs.Inputs.{IsInputFault};
 
 use crate::fault::Fault;
+use crate::hexadecimal::decode_text;
 use crate::input::read_fault;
 use crate::lines::text_of_line;
+use memchr::memchr;
 use oct_delta::laws::texts_are_read;
 use oct_replica::{Replica, TakeError};
 use std::alloc::Allocator;
-use std::io::BufRead;
+use std::io::{BufRead, ErrorKind};
 
 /// What the lines of an input come to.
 #[derive(Drop)]
@@ -42,6 +45,7 @@ pub(crate) fn take_lines<A: Allocator + Copy, B: BufRead>(
         refused: 0,
     };
     let mut line = Vec::new(alloc);
+    let mut bytes = Vec::new(alloc);
     let mut left = limit;
     loop {
         let count = next_line(input, &mut line)?;
@@ -54,7 +58,7 @@ pub(crate) fn take_lines<A: Allocator + Copy, B: BufRead>(
         left -= count;
         let text = text_of_line(&line);
         if !text.is_empty() {
-            take_line(alloc, &mut intake, text)?;
+            take_line(&mut intake, text, &mut bytes)?;
         }
     }
 }
@@ -68,10 +72,38 @@ fn next_line<A: Allocator, B: BufRead>(input: &mut B, line: &mut Vec<u8, A>) -> 
     ensures faults { IfErr result (λ e. (e ≡ Fault.Read) ⊎ (e ≡ Fault.OutOfMemory)) }
 {
     line.clear();
+    if take_buffered(input, line)? {
+        return Ok(line.len() as u64);
+    }
     match input.read_until(b'\n', line) {
         Ok(count) => Ok(count as u64),
         Err(e) => Err(read_fault(&e)),
     }
+}
+
+// Appends the next line with its end, if the whole of it is in the input's buffer, and says whether it is. Else nothing is
+// read.
+fn take_buffered<A: Allocator, B: BufRead>(
+    input: &mut B,
+    line: &mut Vec<u8, A>,
+) -> Result<bool, Fault>
+    ensures line { result ≡ Ok true → IfSome (B.remaining input.old) (λ x. line.new.items ≡ line.old.items ++ take_through 10 x) }
+    ensures rest { result ≡ Ok true → DropsThrough (B.remaining input.old) (B.remaining input.new) 10 }
+    ensures same { result ≡ Ok false → line.new.items ≡ line.old.items }
+    ensures kept { result ≡ Ok false → Keeps (B.remaining input.old) (B.remaining input.new) }
+    ensures faults { IfErr result (λ e. (e ≡ Fault.Read) ⊎ (e ≡ Fault.OutOfMemory)) }
+{
+    let available = match input.fill_buf() {
+        Ok(available) => available,
+        Err(e) if e.kind() == ErrorKind::Interrupted => return Ok(false),
+        Err(e) => return Err(read_fault(&e)),
+    };
+    let Some(at) = memchr(b'\n', available) else {
+        return Ok(false);
+    };
+    line.extend_from_slice(&available[..at + 1])?;
+    input.consume(at + 1);
+    Ok(true)
 }
 
 /// A replica without operations. Its author issues nothing, and no catalogue shows it.
@@ -84,26 +116,22 @@ pub(crate) fn reader_of_lines<A: Allocator + Copy>(alloc: A) -> Replica<A>
     }
 }
 
-// Takes the operations of the line, or counts it where it spells none.
+// Takes the operations of the line, or counts it where it spells none. What it spells stands in the vector after.
 fn take_line<A: Allocator + Copy>(
-    alloc: A,
     intake: &mut Intake<A>,
     line: &[u8],
+    bytes: &mut Vec<u8, A>,
 ) -> Result<(), Fault>
     requires { intake.old.refused + 1 < 2 ^ 64 }
     ensures taken { OnOk result (intake.new.replica.ops ≡ union intake.old.replica.ops (set_of (taken_of_line line.now))) }
     ensures counted { OnOk result (intake.new.refused ≡ cond (is_refused line.now) (intake.old.refused + 1) intake.old.refused) }
     ensures kind { IfErr result (λ e. e ≡ Fault.OutOfMemory) }
 {
-    let bytes = match hex::decode(alloc, line) {
-        Ok(bytes) => bytes,
-        Err(hex::FromHexError::OutOfMemory) => return Err(Fault::OutOfMemory),
-        Err(_) => {
-            intake.refused += 1;
-            return Ok(());
-        }
-    };
-    if !take_bytes(&mut intake.replica, &bytes)? {
+    if !decode_text(line, bytes)? {
+        intake.refused += 1;
+        return Ok(());
+    }
+    if !take_bytes(&mut intake.replica, bytes)? {
         intake.refused += 1;
     }
     Ok(())

@@ -2,11 +2,11 @@ use Rattle.std.proofs.Common.{◌+◌, ◌≤◌}
 use Rattle.census_core.proofs.Underway.{IsUnderway}
 use Rattle.census_core.proofs.taken.take_lines.Given as goal
 
-abbrev pub invariant-loop-line : goal.invariant-loop-line
-invariant-loop-line g l = record {
+abbrev pub invariant-loop-bytes : goal.invariant-loop-bytes
+invariant-loop-bytes g l = record {
   underway : IsUnderway (g.B.Read.remaining l.fn.input) (g.B.Read.remaining l.input) l.intake.replica.ops l.intake.refused l.fn.limit l.left;
   bounded : l.intake.refused + l.left ≤ l.fn.limit;
 }
 
-abbrev pub decreases-loop-line : goal.decreases-loop-line
-decreases-loop-line g l = l.left
+abbrev pub decreases-loop-bytes : goal.decreases-loop-bytes
+decreases-loop-bytes g l = l.left
