@@ -1,6 +1,7 @@
 mod Asked
 mod CodeTexts
 mod DigitPairs
+mod DigitTables
 mod Folding
 mod Gathering
 mod Growing

@@ -30,12 +30,26 @@ pub(crate) fn decode_text<A: Allocator>(
     Ok(true)
 }
 
-// The value of a digit, in either case. The low four bits of a letter are its place in the alphabet, counted from 1.
+// The value of a digit, in either case.
 fn digit(c: u8) -> Option<u8>
     ensures { result ≡ hex_digit_value c }
 {
-    if !c.is_ascii_hexdigit() {
-        return None;
-    }
-    Some(if c <= b'9' { c % 16 } else { c % 16 + 9 })
+    let value = VALUES[c as usize];
+    if value == X { None } else { Some(value) }
 }
+
+// What stands for a byte that is no digit.
+const X: u8 = 255;
+
+// The value of each byte as a digit: no branch looks at the byte.
+const VALUES: [u8; 256] = [
+    X, X, X, X, X, X, X, X, X, X, X, X, X, X, X, X, X, X, X, X, X, X, X, X, X, X, X, X, X, X, X, X,
+    X, X, X, X, X, X, X, X, X, X, X, X, X, X, X, X, 0, 1, 2, 3, 4, 5, 6, 7, 8, 9, X, X, X, X, X, X,
+    X, 10, 11, 12, 13, 14, 15, X, X, X, X, X, X, X, X, X, X, X, X, X, X, X, X, X, X, X, X, X, X, X,
+    X, X, X, 10, 11, 12, 13, 14, 15, X, X, X, X, X, X, X, X, X, X, X, X, X, X, X, X, X, X, X, X, X,
+    X, X, X, X, X, X, X, X, X, X, X, X, X, X, X, X, X, X, X, X, X, X, X, X, X, X, X, X, X, X, X, X,
+    X, X, X, X, X, X, X, X, X, X, X, X, X, X, X, X, X, X, X, X, X, X, X, X, X, X, X, X, X, X, X, X,
+    X, X, X, X, X, X, X, X, X, X, X, X, X, X, X, X, X, X, X, X, X, X, X, X, X, X, X, X, X, X, X, X,
+    X, X, X, X, X, X, X, X, X, X, X, X, X, X, X, X, X, X, X, X, X, X, X, X, X, X, X, X, X, X, X, X,
+    X, X, X, X,
+];
