@@ -1,6 +1,6 @@
 pub mod Rows
 pub mod Growing
-mod Ranges
+pub mod Ranges
 pub mod Held
 pub mod Lines
 pub mod GameParts

@@ -374,8 +374,9 @@ impl<A: Allocator + Copy> Replica<A> {
         write_page(self.alloc, &self.parts(), number, out)
     }
 
-    // What a catalogue is made from.
-    fn parts(&self) -> Parts<'_, A>
+    /// What a catalogue and the views are made from: the operations, and beside them the games and the notes. Takes no
+    /// memory.
+    pub fn parts(&self) -> Parts<'_, A>
         ensures store { result.store.now ≡ self.now.ops }
         ensures parts { AreParts result.store.now result.games.now result.notes.now }
     {

@@ -1,0 +1,13 @@
+pub mod Ascii
+pub mod Floats
+mod Escaping
+pub mod GameLaws
+pub mod Joined
+pub mod LineEnds
+pub mod Listing
+pub mod Numerals
+pub mod Places
+pub mod Pushing
+pub mod Splitting
+mod TableLaws
+mod Truncated

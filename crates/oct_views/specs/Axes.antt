@@ -1,0 +1,44 @@
+-- The axes of a plot. The point where they meet has the place 0 0; a place above it has a negative second number.
+use Rattle.std.specs.Prelude.{ℕ, ◌+◌, ◌*◌, ◌/◌, nat_le, [], ◌∷◌, map, codes, find, unwrap_or}
+use Rattle.std.specs.List.{concat, range_with_len}
+use Rattle.std.specs.Fmt.{decimal}
+use Rattle.oct_pages.specs.Catalogue.{Text}
+use Rattle.oct_views.specs.Points.{scaled}
+use Rattle.oct_views.specs.declared.axes.Axis.{Axis}
+use Rattle.oct_views.specs.declared.axes.Axis.TheVariants.{Heaps, Values}
+use Rattle.oct_views.specs.declared.axes.TheConstants.{HEIGHT, STEPS, WIDTH}
+use Rattle.oct_views.specs.declared.points.Frame.{Frame}
+
+-- how far the ticks of an axis are apart that spans so much: the least step with at most nine ticks
+abbrev pub step_of : ℕ → ℕ
+step_of span = unwrap_or (find (λ step. nat_le span (8 * step)) STEPS) span
+
+-- the tick of a heap, so far to the right
+abbrev pub heap_tick : ℕ → ℕ → Text
+heap_tick right heap = concat (
+    codes "<path d=\"M" ∷ decimal right ∷ codes " 0v6\"/><text x=\"" ∷ decimal right ∷ codes "\" y=\"26\">"
+    ∷ decimal heap ∷ codes "</text>\n" ∷ [])
+
+-- the tick of a nim-value, so far above
+abbrev pub value_tick : ℕ → ℕ → Text
+value_tick above value = concat (
+    codes "<path d=\"M0 -" ∷ decimal above ∷ codes "h-6\"/><text class=\"value\" x=\"-12\" y=\"-" ∷ decimal above ∷ codes "\" dy=\"6\">"
+    ∷ decimal value ∷ codes "</text>\n" ∷ [])
+
+-- the tick of a number on an axis that spans so much
+abbrev pub tick : Axis → ℕ → ℕ → Text
+tick Heaps span n = heap_tick (scaled n span WIDTH) n
+tick Values span n = value_tick (scaled n span HEIGHT) n
+
+-- the ticks at 0, one step, two steps and so on
+abbrev pub ticks : Axis → ℕ → Text
+ticks axis span = concat (map (λ i. tick axis span (i * step_of span)) (range_with_len 0 (span / step_of span + 1)))
+
+abbrev pub axes : Frame → Text
+axes frame = concat (
+    codes "<path d=\"M0 0H700M0 0V-320\"/>\n"
+    ∷ ticks Heaps frame.heaps
+    ∷ ticks Values frame.values
+    ∷ codes "<text x=\"350\" y=\"52\">heap</text>\n"
+    ∷ codes "<text x=\"160\" y=\"-72\" transform=\"rotate(-90)\">nim-value</text>\n"
+    ∷ [])

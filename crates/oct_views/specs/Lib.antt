@@ -1,0 +1,14 @@
+pub use Rattle.oct_ops.specs.Operations
+pub mod Axes
+pub mod Bfile
+pub mod ByGame
+pub mod Contents
+pub mod Json
+pub mod Escape
+pub mod Pieces
+pub mod Plot
+pub mod Points
+pub mod Report
+pub mod Sheet
+pub mod Tables
+pub mod ViewLaws

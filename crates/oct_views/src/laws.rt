@@ -1,0 +1,16 @@
+//! What holds of plots and pages.
+
+ghost use Rattle.oct_views.specs.ViewLaws.{DrawnOnce, DrawnWhereKnown, EscapedEndsNothing, EscapedIsInert};
+
+/// A plot has a point exactly where the value of a known heap falls, and each point once.
+pub fn a_plot_shows_what_is_known()
+    ensures known { DrawnWhereKnown }
+    ensures once { DrawnOnce }
+{}
+
+/// A text of others stands on a page as bytes that end no tag and no attribute: each `&` in it begins one of the five
+/// entities, and none of its bytes is `<`, `>`, `"` or `'`.
+pub fn escaped_texts_end_nothing()
+    ensures inert { EscapedIsInert }
+    ensures none { EscapedEndsNothing }
+{}
