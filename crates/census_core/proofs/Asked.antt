@@ -40,6 +40,15 @@ move_said state word heaps r c text there coded spelled =
     ∙ ap (λ d. because fault.Code d >>= λ e. done r e) coded
     ∙ ap (λ t. Ok (said t)) (sym spelled)
 
+-- a text of a game
+pub game_said : (state word : Bytes) (spelling : ReplicaContent → Code → Bytes) (r : ReplicaContent) (c : Code) (text : Bytes) → loaded state ≡ Ok r → read_code word ≡ Ok c → text ≡ spelling r c
+    → (loaded state >>= λ q. code_of word >>= λ d. Ok (said (spelling q d))) ≡ Ok (said text)
+game_said state word spelling r c text there coded spelled =
+    let done : ReplicaContent → Code → Result Answer Fault = λ q d. Ok (said (spelling q d)) in
+    ap (λ l. l >>= λ q. code_of word >>= λ d. done q d) there
+    ∙ ap (λ d. because fault.Code d >>= λ e. done r e) coded
+    ∙ ap (λ t. Ok (said t)) (sym spelled)
+
 -- a refusal of all operations
 pub delta_refused : (r : ReplicaContent) (t : clock.Clock) (cause : EncodeError) → t ≡ clock.empty → All IsOp (listed r.ops)
     → (cause ≡ TooMany → 2 ^ 32 ≤ length (listed (beyond r.ops t)))

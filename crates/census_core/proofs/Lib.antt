@@ -1,4 +1,5 @@
 mod Asked
+mod Chunks
 mod CodeTexts
 mod DigitPairs
 mod DigitTables

@@ -1,4 +1,5 @@
 pub mod Asking
+pub mod Claiming
 pub mod Codes
 pub mod Extending
 pub mod Finding
@@ -17,4 +18,5 @@ pub mod Steps
 pub mod Stored
 pub mod Turns
 pub mod Unions
+pub mod Viewing
 pub mod Words

@@ -2,21 +2,24 @@
 use Rattle.std.specs.Prelude.{Result, map}
 use Rattle.oct_delta.specs.Text.{Bytes}
 use Rattle.census_core.specs.Asking as asking
+use Rattle.census_core.specs.Claiming as claiming
 use Rattle.census_core.specs.Extending as extending
 use Rattle.census_core.specs.Finding as finding
 use Rattle.census_core.specs.Issuing as issuing
 use Rattle.census_core.specs.Moving as moving
 use Rattle.census_core.specs.States as states
+use Rattle.census_core.specs.Viewing as viewing
 use Rattle.census_core.specs.Replies.{Answer}
 use Rattle.census_core.specs.declared.fault.Fault.{Fault}
 use Rattle.census_core.specs.declared.request.Request.{Request}
-use Rattle.census_core.specs.declared.request.Request.TheVariants.{Init, Import, Compute, Extend, Find, Survey, Period, Note, Unnote, Merge, Delta, Value, Move, Page, Show}
+use Rattle.census_core.specs.declared.request.Request.TheVariants.{Init, Import, Claim, Compute, Extend, Find, Survey, Period, Note, Unnote, Merge, Delta, Value, Move, Page, Show, Bfile, Plot, Json, Report}
 
 -- the new state, the file and the text, or the first fault: a number out of its range, then that of the state, then those of the command in its order, then
 -- that no number is left, then that there are too many operations
 abbrev pub performed : Request → Bytes → Bytes → Result Answer Fault
 performed (Init id) state file = states.init id
 performed Import state file = issuing.import state file
+performed (Claim code) state file = claiming.claim state code.items file
 performed (Compute code count) state file = issuing.compute state code.items count
 performed (Extend count codes) state file = extending.extend state count (map (λ word. word.items) codes.items)
 performed (Find codes) state file = finding.find state (map (λ word. word.items) codes.items)
@@ -30,3 +33,7 @@ performed (Value code heaps) state file = asking.value state code.items heaps.it
 performed (Move code heaps) state file = moving.winning state code.items heaps.items
 performed (Page number) state file = asking.page state number
 performed Show state file = asking.show state
+performed (Bfile code) state file = viewing.bfile state code.items
+performed (Plot code) state file = viewing.plot state code.items
+performed Json state file = viewing.json state
+performed Report state file = viewing.report state

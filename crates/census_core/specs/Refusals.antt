@@ -15,8 +15,10 @@ use Rattle.oct_replica.specs.declared.error.TakeError.{TakeError}
 use Rattle.oct_replica.specs.declared.error.TakeError.TheVariants as take
 use Rattle.oct_sync.specs.declared.error.SyncError.{SyncError}
 use Rattle.oct_sync.specs.declared.error.SyncError.TheVariants as sync
+use Rattle.oct_views.specs.declared.bfile_error.BfileError.{BfileError}
+use Rattle.oct_views.specs.declared.bfile_error.BfileError.TheVariants as bfile
 use Rattle.census_core.specs.declared.fault.Fault.{Fault}
-use Rattle.census_core.specs.declared.fault.Fault.TheVariants.{Load, Import, Compute, Note, Removal, Merge, Sync, Issue, TooMany, OutOfMemory}
+use Rattle.census_core.specs.declared.fault.Fault.TheVariants.{Load, Import, Bfile, Compute, Note, Removal, Merge, Sync, Issue, TooMany, OutOfMemory}
 use Rattle.census_core.specs.declared.import_error.ImportError.{ImportError}
 use Rattle.census_core.specs.declared.import_error.ImportError.TheVariants as import
 
@@ -27,6 +29,10 @@ load_fault cause = Load cause
 abbrev pub import_fault : ImportError → Fault
 import_fault import.OutOfMemory = OutOfMemory
 import_fault cause = Import cause
+
+abbrev pub bfile_fault : BfileError → Fault
+bfile_fault bfile.OutOfMemory = OutOfMemory
+bfile_fault cause = Bfile cause
 
 abbrev pub compute_fault : ComputeError → Fault
 compute_fault compute.OutOfMemory = OutOfMemory

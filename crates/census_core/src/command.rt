@@ -5,6 +5,7 @@ ghost use Rattle.census_core.specs.Performed.{performed};
 ghost use Rattle.census_core.specs.Replies.{answer_of};
 
 use crate::asking::{delta, page, show, value};
+use crate::claiming::claim;
 use crate::extending::extend;
 use crate::fault::Fault;
 use crate::finding::{find, survey};
@@ -14,10 +15,11 @@ use crate::progress::{Progress, Silent};
 use crate::reply::Reply;
 use crate::request::Request;
 use crate::states::{init, merge};
+use crate::viewing::{bfile, json, plot, report};
 use std::alloc::Global;
 
 /// Does one command, from the bytes of the state file and of another file: what is to be written, and the text. `Init`
-/// does not look at `state`; only `Import` and `Merge` look at `file`. After a fault nothing is to be written.
+/// does not look at `state`; only `Import`, `Claim` and `Merge` look at `file`. After a fault nothing is to be written.
 ///
 /// The first fault is answered: `Number`, then `Load`, then the command's own in the order in which it reads its words, then `Issue`, then
 /// `TooMany`. `OutOfMemory` may come before any of them.
@@ -42,6 +44,7 @@ pub fn perform_watched<P: Progress>(
     match request {
         Request::Init { id } => init(alloc, *id),
         Request::Import => import(alloc, state, file),
+        Request::Claim { code } => claim(alloc, state, code, file),
         Request::Compute { code, count } => compute(alloc, state, code, *count),
         Request::Extend { count, codes } => extend(alloc, state, *count, codes, progress),
         Request::Find { codes } => find(alloc, state, codes),
@@ -59,5 +62,9 @@ pub fn perform_watched<P: Progress>(
         Request::Move { code, heaps } => winning(alloc, state, code, heaps),
         Request::Page { number } => page(alloc, state, *number),
         Request::Show => show(alloc, state),
+        Request::Bfile { code } => bfile(alloc, state, code),
+        Request::Plot { code } => plot(alloc, state, code),
+        Request::Json => json(alloc, state),
+        Request::Report => report(alloc, state),
     }
 }

@@ -6,6 +6,7 @@ use oct_delta::EncodeError;
 use oct_ops::{NoteError, PeriodError};
 use oct_replica::{ComputeError, IssueError, LoadError, RemovalError, TakeError};
 use oct_sync::{SyncError, Unwritten};
+use oct_views::BfileError;
 use std::alloc::AllocError;
 use thiserror::Error;
 
@@ -46,6 +47,9 @@ pub enum Fault {
     /// The JSON value is no block.
     #[error("Import {0:?}")]
     Import(ImportError),
+    /// The file is no b-file. The line is counted from 1.
+    #[error("Bfile {0}")]
+    Bfile(BfileError),
     /// The word is no code.
     #[error("Code {0:?}")]
     Code(CodeError),
@@ -143,6 +147,20 @@ impl From<ImportError> for Fault {
         match cause {
             ImportError::OutOfMemory => Fault::OutOfMemory,
             _ => Fault::Import(cause),
+        }
+    }
+}
+
+impl From<BfileError> for Fault {
+    ghost use Rattle.std.specs.Prelude.{◌≡◌};
+    ghost use Rattle.census_core.specs.Refusals.{bfile_fault};
+
+    ghost from_gives = { λ cause fault. fault ≡ bfile_fault cause };
+
+    fn from(cause: BfileError) -> Fault {
+        match cause {
+            BfileError::OutOfMemory => Fault::OutOfMemory,
+            _ => Fault::Bfile(cause),
         }
     }
 }

@@ -11,6 +11,7 @@
 #![tactic(auto)]
 
 mod asking;
+mod claiming;
 mod codes;
 mod command;
 mod extending;
@@ -32,6 +33,7 @@ mod states;
 mod taken;
 mod texts;
 mod unions;
+mod viewing;
 mod words;
 
 pub use command::{perform, perform_watched};

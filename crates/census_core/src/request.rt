@@ -10,6 +10,10 @@ pub enum Request {
     },
     /// Issues the block of a JSON file.
     Import,
+    /// Issues the values of a b-file as blocks of a code.
+    Claim {
+        code: Vec<u8>,
+    },
     /// Computes the next so many nim-values of a code, and issues them as a block.
     Compute {
         code: Vec<u8>,
@@ -64,4 +68,16 @@ pub enum Request {
     },
     /// The catalogue.
     Show,
+    /// The known nim-values of a code as a b-file.
+    Bfile {
+        code: Vec<u8>,
+    },
+    /// The known nim-values of a code as a picture.
+    Plot {
+        code: Vec<u8>,
+    },
+    /// All that is known as a JSON document.
+    Json,
+    /// All that is known as a page.
+    Report,
 }

@@ -1,6 +1,7 @@
 //! The lines that commands print.
 
 ghost use Rattle.std.specs.Prelude.{◌≡◌, ◌++◌, IfOk, OnOk};
+ghost use Rattle.census_core.specs.Claiming.{claimed_line, range_line};
 ghost use Rattle.census_core.specs.Extending.{extended_line};
 ghost use Rattle.census_core.specs.Finding.{found_line, found_text};
 ghost use Rattle.oct_period.specs.Periods.{needs};
@@ -9,7 +10,7 @@ ghost use Rattle.census_core.specs.Moving.{left_text, move_line};
 
 use oct_code::Code;
 use oct_ops::{Dot, Period};
-use oct_pages::{append_labelled, append_labelled_dot, append_text};
+use oct_pages::{append_dot, append_labelled, append_labelled_dot, append_text};
 use oct_period::Move;
 use std::alloc::{AllocError, Global};
 
@@ -41,6 +42,34 @@ pub(crate) fn issued_line(alloc: Global, dot: Dot) -> Result<Vec<u8>, AllocError
     let mut line = Vec::new(alloc);
     append_labelled_dot(&mut line, b"issued ", dot)?;
     append_text(&mut line, b"\n")?;
+    Ok(line)
+}
+
+/// The line of the operations that were issued, from the first to the last.
+pub(crate) fn claimed_line(
+    alloc: Global,
+    first: Option<Dot>,
+    last: Option<Dot>,
+) -> Result<Vec<u8>, AllocError>
+    ensures { IfOk result (λ line. line.items ≡ claimed_line first last) }
+{
+    match (first, last) {
+        (Some(first), Some(last)) => range_line(alloc, first, last),
+        _ => Ok(Vec::new(alloc)),
+    }
+}
+
+// The same, where there are some.
+fn range_line(alloc: Global, first: Dot, last: Dot) -> Result<Vec<u8>, AllocError>
+    ensures { IfOk result (λ line. line.items ≡ range_line first last) }
+{
+    if first.number() == last.number() {
+        return issued_line(alloc, first);
+    }
+    let mut line = Vec::from_slice(alloc, b"issued ")?;
+    append_dot(&mut line, first)?;
+    append_labelled_dot(&mut line, b" to ", last)?;
+    line.extend_from_slice(b"\n")?;
     Ok(line)
 }
 

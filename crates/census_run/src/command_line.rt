@@ -11,6 +11,7 @@ pub(crate) enum CommandName {
     Fold,
     Init,
     Import,
+    Claim,
     Compute,
     Extend,
     Find,
@@ -25,6 +26,10 @@ pub(crate) enum CommandName {
     Move,
     Page,
     Show,
+    Bfile,
+    Plot,
+    Json,
+    Report,
     Serve,
     Sync,
     Hub,
@@ -61,6 +66,13 @@ const OWN: &[Form] = &[
         words: &[words::STATE, words::FILE],
         choices: &[],
         help: help::IMPORT,
+    },
+    Form {
+        command: CommandName::Claim,
+        name: "claim",
+        words: &[words::STATE, words::CODE, words::BFILE],
+        choices: &[],
+        help: help::CLAIM,
     },
     Form {
         command: CommandName::Compute,
@@ -145,6 +157,38 @@ const KNOWN: &[Form] = &[
     },
 ];
 
+// Those that show it in other forms than the catalogue.
+const VIEWS: &[Form] = &[
+    Form {
+        command: CommandName::Bfile,
+        name: "bfile",
+        words: &[words::STATE, words::CODE],
+        choices: &[],
+        help: help::BFILE,
+    },
+    Form {
+        command: CommandName::Plot,
+        name: "plot",
+        words: &[words::STATE, words::CODE],
+        choices: &[],
+        help: help::PLOT,
+    },
+    Form {
+        command: CommandName::Json,
+        name: "json",
+        words: &[words::STATE],
+        choices: &[],
+        help: help::JSON,
+    },
+    Form {
+        command: CommandName::Report,
+        name: "report",
+        words: &[words::STATE],
+        choices: &[],
+        help: help::REPORT,
+    },
+];
+
 // Those that exchange operations with others.
 const OTHERS: &[Form] = &[
     Form {
@@ -193,14 +237,10 @@ const OTHERS: &[Form] = &[
 
 /// The command that is called so.
 pub(crate) fn command_named(name: &str) -> Option<CommandName> {
-    match (
-        named_in(OWN, name),
-        named_in(KNOWN, name),
-        named_in(OTHERS, name),
-    ) {
-        (Some(command), _, _) | (_, Some(command), _) | (_, _, Some(command)) => Some(command),
-        _ => None,
-    }
+    named_in(OWN, name)
+        .or(named_in(KNOWN, name))
+        .or(named_in(VIEWS, name))
+        .or(named_in(OTHERS, name))
 }
 
 // The same among some commands.
@@ -218,6 +258,7 @@ pub(crate) fn command<'a>(alloc: Global) -> Result<Command<'a>, AllocError> {
     let command = bare(alloc)?;
     let command = with_commands(alloc, command, OWN)?;
     let command = with_commands(alloc, command, KNOWN)?;
+    let command = with_commands(alloc, command, VIEWS)?;
     with_commands(alloc, command, OTHERS)
 }
 

@@ -33,6 +33,7 @@ Without a state:
 A state file of one's own:
   init STATE ID              Makes one, for the author ID
   import STATE FILE          Issues a block of values from a JSON file
+  claim STATE CODE FILE      Issues the values of a b-file
   compute STATE CODE COUNT   Computes the next values of a game, and issues them
   extend STATE COUNT CODE..  Does so until the first COUNT values of each game are known
   survey STATE COUNT CODE..  Does that, finds the period of each game, and claims it
@@ -45,6 +46,10 @@ What is known:
   find STATE CODE..          The period that the known values of each game prove
   value STATE CODE HEAP..    The nim-value of a position, and who wins
   move STATE CODE HEAP..     A winning move of a position
+  bfile STATE CODE           The known values as a b-file
+  plot STATE CODE            The known values as a picture, SVG
+  json STATE                 All that is known, for scripts
+  report STATE               All that is known, as one page of HTML
 With others:
   delta STATE OUT            Writes all operations as a file
   merge STATE DELTA          Takes such a file in
@@ -101,6 +106,20 @@ Exit status: 0 done, 1 refused: Load (the state), Json or Import (the block), Is
 
 Example:
   census import anna.state examples/dawson.json",
+};
+
+pub(crate) const CLAIM: Help = Help {
+    about: "Issues the values of a b-file, and prints which operations they are",
+    after: "\
+Blocks of 1024 values and a last one of those that are left are issued from the file's first number
+on. The values may be wrong: the catalogue says at which heap. Lines end by LF, CR LF or CR, and
+empty lines and those that begin with # are passed over. After a fault the state is as it was.
+
+Exit status: 0 done, 1 refused: Load (the state), Code, Bfile (Form, Order or PastLimit and the first
+faulty line, or Empty), Issue, TooMany; 2 command line, 3 file, 4 memory
+
+Example:
+  census claim anna.state 0.77 b002186.txt",
 };
 
 pub(crate) const COMPUTE: Help = Help {
@@ -315,4 +334,51 @@ Exit status: 0 done, 1 Load (the file is no state), 2 command line, 3 file, 4 me
 
 Example:
   census show anna.state",
+};
+
+pub(crate) const BFILE: Help = Help {
+    about: "Prints the known values of a game as a b-file, as the OEIS takes it",
+    after: "\
+A line for each heap from 0 on, with the heap, a space and its nim-value.
+
+Exit status: 0 done, 1 refused: Load (the state), Code; 2 command line, 3 file, 4 memory
+
+Example:
+  census bfile anna.state 0.77 > b002186.txt",
+};
+
+pub(crate) const PLOT: Help = Help {
+    about: "Prints a picture of the known values of a game, as SVG",
+    after: "\
+A point for each heap; where a period is proved, its start and its first period are marked. The
+picture has no script, and names nothing outside it.
+
+Exit status: 0 done, 1 refused: Load (the state), Code; 2 command line, 3 file, 4 memory
+
+Example:
+  census plot anna.state 0.77 > kayles.svg",
+};
+
+pub(crate) const JSON: Help = Help {
+    about: "Prints all that is known as one JSON document",
+    after: "\
+It has the keys authors, census (the edition of the catalogue), forks, games and notes;
+docs/FORMATS.md says what stands under each.
+
+Exit status: 0 done, 1 Load (the file is no state), 2 command line, 3 file, 4 memory
+
+Example:
+  census json anna.state > anna.json",
+};
+
+pub(crate) const REPORT: Help = Help {
+    about: "Prints all that is known as one page of HTML",
+    after: "\
+Each game has its picture, its values, its blocks and its period claims; then come notes, forks and
+authors. The page has no script, and names nothing outside it.
+
+Exit status: 0 done, 1 Load (the file is no state), 2 command line, 3 file, 4 memory
+
+Example:
+  census report anna.state > anna.html",
 };

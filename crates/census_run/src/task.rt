@@ -77,6 +77,7 @@ fn task_of<'a>(
             id: number_of(found, words::ID)?,
         }),
         CommandName::Import => change(found, Some(words::FILE), Request::Import),
+        CommandName::Claim => change(found, Some(words::BFILE), claim(alloc, found)?),
         CommandName::Merge => change(found, Some(words::DELTA), Request::Merge),
         CommandName::Union => Ok(Task::Union {
             out: word(found, words::UNION)?,
@@ -94,6 +95,10 @@ fn task_of<'a>(
         CommandName::Move => ask(found, None, winning_move(alloc, found)?),
         CommandName::Page => ask(found, None, page(found)?),
         CommandName::Show => ask(found, None, Request::Show),
+        CommandName::Bfile => ask(found, None, bfile(alloc, found)?),
+        CommandName::Plot => ask(found, None, plot(alloc, found)?),
+        CommandName::Json => ask(found, None, Request::Json),
+        CommandName::Report => ask(found, None, Request::Report),
         CommandName::Serve => Ok(Task::Serve {
             place: place(found, None)?,
         }),
@@ -142,6 +147,24 @@ fn place<'a>(found: &ArgMatches<'a>, session: Option<Duration>) -> Result<Place<
             silence: seconds(found, words::PATIENCE)?,
             session,
         },
+    })
+}
+
+fn claim(alloc: Global, found: &ArgMatches<'_>) -> Result<Request, Fault> {
+    Ok(Request::Claim {
+        code: bytes(alloc, found, words::CODE)?,
+    })
+}
+
+fn bfile(alloc: Global, found: &ArgMatches<'_>) -> Result<Request, Fault> {
+    Ok(Request::Bfile {
+        code: bytes(alloc, found, words::CODE)?,
+    })
+}
+
+fn plot(alloc: Global, found: &ArgMatches<'_>) -> Result<Request, Fault> {
+    Ok(Request::Plot {
+        code: bytes(alloc, found, words::CODE)?,
     })
 }
 

@@ -44,6 +44,12 @@ pub(crate) const FILE: Word = Word {
     times: Times::One,
 };
 
+pub(crate) const BFILE: Word = Word {
+    name: "FILE",
+    meaning: "A b-file: lines of a number and its value, the numbers rising by one, below 65536",
+    times: Times::One,
+};
+
 pub(crate) const DELTA: Word = Word {
     name: "DELTA",
     meaning: "A delta file, as `census delta` writes it",

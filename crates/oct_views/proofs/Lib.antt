@@ -8,6 +8,7 @@ pub mod Listing
 pub mod Numerals
 pub mod Places
 pub mod Pushing
+mod ReadingBack
 pub mod Splitting
 mod TableLaws
 mod Truncated

@@ -1,6 +1,7 @@
 pub use Rattle.oct_ops.specs.Operations
 pub mod Axes
 pub mod Bfile
+pub mod BfileLaws
 pub mod ByGame
 pub mod Contents
 pub mod Json

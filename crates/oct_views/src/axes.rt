@@ -49,7 +49,7 @@ const STEPS: [u32; 28] = [
 ];
 
 /// One of the two axes.
-#[derive(Clone, Copy, PartialEq, Eq)]
+#[derive(Clone, Copy)]
 pub(crate) enum Axis {
     /// Heaps, from left to right.
     Heaps,

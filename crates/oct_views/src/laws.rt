@@ -1,6 +1,12 @@
-//! What holds of plots and pages.
+//! What holds of b-files, plots and pages.
 
+ghost use Rattle.oct_views.specs.BfileLaws.{WrittenReadsBack};
 ghost use Rattle.oct_views.specs.ViewLaws.{DrawnOnce, DrawnWhereKnown, EscapedEndsNothing, EscapedIsInert};
+
+/// The b-file of one value or more, at most `LIMIT` of them, each below 2^32, reads back as these values from number 0 on.
+pub fn written_bfiles_read_back()
+    ensures { WrittenReadsBack }
+{}
 
 /// A plot has a point exactly where the value of a known heap falls, and each point once.
 pub fn a_plot_shows_what_is_known()

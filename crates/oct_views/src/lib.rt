@@ -11,6 +11,8 @@
 //! - `GameSheet` is one game of it, and `GameSheet::of_code` that of any code.
 //! - `write_bfile` writes known values as a b-file, and `read_bfile` reads a b-file, so that its values can be claimed.
 //! - `write_json` writes the sheet as one JSON document.
+//! - `write_plot` draws the known values of a game, as an SVG picture, and `write_report` writes one page of all of a sheet.
+//! - `laws` says that a plot shows exactly what is known, and that a text of others ends no part of a page.
 //! - `BlockRow` and `PeriodRow` are a block and a period claim, each under its dot, with its status.
 //!
 //! `specs/Sheet` says what a sheet of operations has, by the definitions that the catalogue cites.

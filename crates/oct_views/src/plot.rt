@@ -18,7 +18,7 @@ use std::collections::BTreeSet;
 
 // How a plot looks, by day and by night.
 const STYLE: &[u8] =
-    b".plot{background:#fff;color:#222;font:18px system-ui,sans-serif}.plot text{fill:currentColor;text-anchor:middle}.plot .title{text-anchor:start}.plot .value{text-anchor:end}.plot path{fill:none;stroke:currentColor}.plot .points{stroke:#0b5cad;stroke-width:4;stroke-linecap:round}.plot .period{fill:#e0a000;fill-opacity:.25}.plot .start{stroke:#a86400;stroke-dasharray:6 4}@media(prefers-color-scheme:dark){.plot{background:#14171c;color:#ddd}.plot .points{stroke:#7cc0ff}.plot .start{stroke:#f0b840}}";
+    b".plot{background:#fff;color:#222;font:18px system-ui,sans-serif}.plot text{fill:currentColor;text-anchor:middle}.plot .title{text-anchor:start}.plot .value{text-anchor:end}.plot path{fill:none;stroke:currentColor}.plot .points{stroke:#0b5cad;stroke-width:5;stroke-linecap:round}.plot .period{fill:#e0a000;fill-opacity:.25}.plot .start{stroke:#a86400;stroke-dasharray:6 4}@media(prefers-color-scheme:dark){.plot{background:#14171c;color:#ddd}.plot .points{stroke:#7cc0ff}.plot .start{stroke:#f0b840}}";
 
 /// Appends a plot of a game's known nim-values, those of the heaps from 0 on: a picture in SVG with one point for each
 /// place, as `specs/Plot` spells it. Where a period is proved, its start is marked, and the heaps of the first period are

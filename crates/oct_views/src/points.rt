@@ -12,7 +12,7 @@ const COLUMNS: u64 = 1400;
 const ROWS: u64 = 640;
 
 /// What the axes of a plot span: heaps from 0 on, and nim-values from 0 on. Both are at least 1.
-#[derive(Clone, Copy, PartialEq, Eq)]
+#[derive(Clone, Copy)]
 pub(crate) struct Frame {
     /// The last heap.
     pub heaps: u64,

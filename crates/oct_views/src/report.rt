@@ -21,8 +21,8 @@ use std::alloc::{AllocError, Allocator};
 const STYLE: &[u8] =
     b"body{margin:0 auto;max-width:60rem;padding:1rem;font:1rem/1.5 system-ui,sans-serif;background:#fff;color:#222}table{border-collapse:collapse;width:100%;margin:1rem 0}caption{text-align:left;font-weight:600}th,td{border-bottom:1px solid #ccc;padding:.2rem .6rem;text-align:left;vertical-align:top;overflow-wrap:anywhere;font-variant-numeric:tabular-nums}figure{margin:1rem 0}svg{display:block;width:100%;height:auto}@media(max-width:40rem){body{padding:.5rem}th,td{padding:.2rem .3rem}}@media(prefers-color-scheme:dark){body{background:#14171c;color:#ddd}th,td{border-color:#444}a{color:#7cc0ff}}@media print{body{max-width:none}section{break-before:page}}";
 
-/// Appends a page that shows all of a sheet, as `specs/Report` spells it: HTML that is also well-formed XML, with no script
-/// and nothing from outside. The games come first, each with its plot, its values, its blocks and its period claims; then
+/// Appends a page that shows all of a sheet, as `specs/Report` spells it, in HTML. It is written to be well-formed XML too, with
+/// no script and nothing from outside, which is tested. The games come first, each with its plot, its values, its blocks and its period claims; then
 /// the notes, the forks and the authors. A table without rows is left out. The one error is that memory is refused, and
 /// then `out` stays as it is.
 pub fn write_report<A: Allocator + Copy>(

@@ -7,7 +7,9 @@ use oct_code::CodeError;
 use oct_ops::{NoteError, PeriodError};
 use oct_replica::{ComputeError, IssueError, LoadError, RemovalError, Replica, TakeError};
 use oct_sync::SyncError;
+use oct_views::BfileError;
 use std::alloc::{AllocError, Global};
+use std::test::Fail;
 
 /// What is asked of a state, with the file that a command reads or should write. A claim has the period 1, and a note the
 /// name a.
@@ -15,6 +17,7 @@ use std::alloc::{AllocError, Global};
 enum Ask<'a> {
     Init(u32),
     Import(&'a [u8]),
+    Claim(&'a str, &'a [u8]),
     Compute(&'a str, u32),
     Period(&'a str, u32),
     Note(&'a str),
@@ -24,6 +27,10 @@ enum Ask<'a> {
     Value(&'a str, &'a [u64]),
     Page(u32),
     Show,
+    Bfile(&'a str),
+    Plot(&'a str),
+    Json,
+    Report,
 }
 
 /// A command, and the text that it prints or the fault that refuses it.
@@ -75,6 +82,10 @@ fn request_of(alloc: Global, ask: Ask) -> Result<Request, AllocError> {
     Ok(match ask {
         Ask::Init(id) => Request::Init { id },
         Ask::Import(_) => Request::Import,
+        Ask::Claim(code, _) => {
+            let code = Vec::from_slice(alloc, code.as_bytes())?;
+            Request::Claim { code }
+        }
         Ask::Compute(code, count) => {
             let code = Vec::from_slice(alloc, code.as_bytes())?;
             Request::Compute { code, count }
@@ -105,6 +116,16 @@ fn request_of(alloc: Global, ask: Ask) -> Result<Request, AllocError> {
         }
         Ask::Page(number) => Request::Page { number },
         Ask::Show => Request::Show,
+        Ask::Bfile(code) => {
+            let code = Vec::from_slice(alloc, code.as_bytes())?;
+            Request::Bfile { code }
+        }
+        Ask::Plot(code) => {
+            let code = Vec::from_slice(alloc, code.as_bytes())?;
+            Request::Plot { code }
+        }
+        Ask::Json => Request::Json,
+        Ask::Report => Request::Report,
     })
 }
 
@@ -130,7 +151,7 @@ fn is_answered(
     answer: Result<&str, Fault>,
 ) -> bool {
     let (read, wanted) = match ask {
-        Ask::Import(file) | Ask::Merge(file) => (file, None),
+        Ask::Import(file) | Ask::Claim(_, file) | Ask::Merge(file) => (file, None),
         Ask::Delta(file) => (&b""[..], Some(file)),
         _ => (&b""[..], None),
     };
@@ -282,6 +303,69 @@ const ISSUES: &[Script<'static>] = &[
     ),
 ];
 
+/// A b-file of Kayles, with a comment, blanks and each end of a line.
+const KAYLES: &[u8] = b"# Kayles\r\n\r 1\t1 \n2 2\r3   3\n4 1";
+
+const CLAIMED: &str =
+    "{\"authors\":[{\"author\":7,\"last\":1,\"through\":1}],\"census\":2,\"forks\":[],\"games\":[{\"blocks\":[{\"author\":7,\"count\":4,\"number\":1,\"start\":1,\"status\":\"proved\"}],\"code\":\"0.77\",\"known\":5,\"periods\":[],\"values\":[0,1,2,3,1]}],\"notes\":[]}\n";
+
+const VIEWS: &[Script<'static>] = &[
+    // A b-file is claimed, and shown in other forms; so is a game of which nothing is claimed.
+    (
+        J,
+        &[
+            (Ask::Claim("0.77", KAYLES), Ok("issued 7.1\n")),
+            (Ask::Bfile("0.77"), Ok("0 0\n1 1\n2 2\n3 3\n4 1\n")),
+            (Ask::Bfile("0.6"), Ok("0 0\n")),
+            (Ask::Json, Ok(CLAIMED)),
+            (Ask::Bfile("0.8"), Err(Fault::Code(CodeError::Digit))),
+            (Ask::Plot("0.8"), Err(Fault::Code(CodeError::Digit))),
+        ],
+        b"",
+    ),
+    // What is no b-file is refused by its line, after the state and the code.
+    (
+        J,
+        &[
+            (Ask::Claim("0.8", b"1"), Err(Fault::Code(CodeError::Digit))),
+            (
+                Ask::Claim("0.77", b"0 0\r\n1 1 1\n"),
+                Err(Fault::Bfile(BfileError::Form { line: 2 })),
+            ),
+            (
+                Ask::Claim("0.77", b"0 +1"),
+                Err(Fault::Bfile(BfileError::Form { line: 1 })),
+            ),
+            (
+                Ask::Claim("0.77", b"0 4294967296"),
+                Err(Fault::Bfile(BfileError::Form { line: 1 })),
+            ),
+            (
+                Ask::Claim("0.77", b"# a\n\n0 0\n0 0\n"),
+                Err(Fault::Bfile(BfileError::Order { line: 4 })),
+            ),
+            (
+                Ask::Claim("0.77", b"65535 1\r65536 1\r"),
+                Err(Fault::Bfile(BfileError::PastLimit { line: 2 })),
+            ),
+            (
+                Ask::Claim("0.77", b" \n# 0 0"),
+                Err(Fault::Bfile(BfileError::Empty)),
+            ),
+        ],
+        J,
+    ),
+    (
+        CUT_J,
+        &[
+            (Ask::Json, Err(Fault::Load(LoadError::Refused))),
+            (Ask::Report, Err(Fault::Load(LoadError::Refused))),
+            (Ask::Claim("0.8", b""), Err(Fault::Load(LoadError::Refused))),
+        ],
+        b"",
+    ),
+];
+
 const NOTES: &[Script<'static>] = &[
     // The live note is removed.
     (
@@ -368,6 +452,10 @@ fn issues_follow(alloc: Global) -> bool {
     follow_all(alloc, ISSUES)
 }
 
+fn views_follow(alloc: Global) -> bool {
+    follow_all(alloc, VIEWS)
+}
+
 fn notes_follow(alloc: Global) -> bool {
     follow_all(alloc, NOTES)
 }
@@ -376,6 +464,24 @@ fn notes_follow(alloc: Global) -> bool {
 fn commands_follow_each_other(rt: HostRuntime) {
     let alloc = rt.alloc();
     assert!(rt; states_follow(alloc) && issues_follow(alloc) && notes_follow(alloc));
+    assert!(rt; views_follow(alloc));
+}
+
+// Whether the text that the request prints of the state begins so.
+fn begins(alloc: Global, state: &[u8], request: &Request, front: &[u8]) -> bool {
+    match perform(alloc, request, state, b"") {
+        Ok(reply) => reply.text.as_slice().starts_with(front),
+        Err(_) => false,
+    }
+}
+
+#[test]
+fn pictures_and_pages_are_printed(rt: HostRuntime) -> Result<(), Fail> {
+    let alloc = rt.alloc();
+    let code = Vec::from_slice(alloc, b"0.77")?;
+    assert!(rt; begins(alloc, WITH_A, &Request::Plot { code }, b"<svg "));
+    assert!(rt; begins(alloc, WITH_A, &Request::Report, b"<!DOCTYPE html>"));
+    Ok(())
 }
 
 // The delta of the notes 3.1 to 3.70 of the name n, without text.

@@ -1,0 +1,13 @@
+use Rattle.std.proofs.Common.{Ok, ap, sym, ◌∙◌}
+use Rattle.census_core.specs.Replies.{said}
+use Rattle.census_core.proofs.Stepping.{then_with}
+use Rattle.census_core.proofs.viewing.json.Goals as goal
+
+pub returns-clause-ok : goal.returns-clause-ok
+returns-clause-ok c =
+    then_with _ _ _ c.in_ok-replica.ensures.ok
+    ∙ ap (λ text. Ok (said text)) (sym c.in_ok-text.ensures)
+    ∙ ap Ok (sym c.said.ensures)
+
+pub returns-clause-err : goal.returns-clause-err
+returns-clause-err c = cc
