@@ -53,32 +53,36 @@ play() {
   fi
 }
 
-# Plays the lines of a session that begin with a dollar, in a new folder.
+# Plays the lines of a session that begin with a dollar, in a folder.
 played() {
   local port line
   port=$(free_port)
-  mkdir "$2"
+  mkdir -p "$2"
   cd "$2"
   export PATH=$2:$PATH
-  ln -s "$census" census
+  ln -sf "$census" census
   while read -r line; do
     if [[ $line == '$ '* ]]; then play "$port" "${line#\$ }"; fi
   done <"$1"
 }
 
-# The session that a document shows: the lines from its first command on, until one that is not set apart.
+# A session that a document shows: the lines from this command on, until one that is not set apart.
 shown() {
-  awk '/^    \$ census init anna/ { on = 1 } on && !/^    / { exit } on { print substr($0, 5) }' "$1"
+  awk -v first="    $ census $2" 'index($0, first) == 1 { on = 1 } on && !/^    / { exit } on { print substr($0, 5) }' "$1"
 }
 
 (played "$here/session.txt" "$room/long") >"$room/played"
 diff "$here/session.txt" "$room/played"
-shown "$top/docs/TUTORIAL.md" | diff "$here/session.txt" -
+shown "$top/docs/TUTORIAL.md" 'init anna' | diff "$here/session.txt" -
 
-shown "$top/README.md" >"$room/short.txt"
+shown "$top/README.md" 'init anna' >"$room/short.txt"
 (played "$room/short.txt" "$room/short") >"$room/played"
 front=$(sed '/^\.\.$/,$d' "$room/short.txt" | wc -l)
 back=$(sed '1,/^\.\.$/d' "$room/short.txt" | wc -l)
 test "$front" -gt 0 && test "$back" -gt 0
 { head -n "$front" "$room/played"; echo ..; tail -n "$back" "$room/played"; } | diff "$room/short.txt" -
-echo "the example sessions are as they stand"
+
+shown "$top/README.md" 'bfile anna' >"$room/published.txt"
+(played "$room/published.txt" "$room/short") | diff "$room/published.txt" -
+cmp "$room/short/kayles.svg" "$top/docs/kayles.svg"
+echo "the example sessions are as they stand, and so is the picture of the README"
