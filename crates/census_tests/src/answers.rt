@@ -1,16 +1,40 @@
-//! What is asked of a value that is let go with the answer.
+//! What is asked of a value that is let go with the answer, and fixtures.
 
-/// Whether the call was made.
-pub(crate) fn is_made<T: Drop, E: Drop>(answer: Result<T, E>) -> bool {
-    answer.is_ok()
-}
+use oct_code::Code;
+use oct_delta::{DeltaError, OpList, decode};
+use oct_ops::Dot;
+use std::alloc::Allocator;
+use std::process::Abort;
 
 /// Whether the value is the other one.
 pub(crate) fn is_equal<T: PartialEq + Drop>(value: T, other: &T) -> bool {
     value == *other
 }
 
-/// Whether the lists are the same.
-pub(crate) fn are_same<T: PartialEq>(one: &[T], other: &[T]) -> bool {
-    one == other
+/// The dot of an author and a number.
+pub(crate) fn dot(rt: &impl Abort, author: u32, number: u32) -> Dot {
+    Dot::new(author, number).ok().expect(rt, "a dot")
+}
+
+/// The code of the text.
+pub(crate) fn code(rt: &impl Abort, text: &str) -> Code {
+    Code::parse(text.as_bytes()).expect(rt, text)
+}
+
+/// The operations of the bytes.
+pub(crate) fn read<A: Allocator + Copy>(rt: &impl Abort, alloc: A, bytes: &[u8]) -> OpList<A> {
+    match decode(alloc, bytes) {
+        Ok(list) => list,
+        Err(fault) => panic!(rt; "{bytes:?} are refused: {}", fault_name(fault)),
+    }
+}
+
+/// The name of a fault of a delta.
+pub(crate) fn fault_name(fault: DeltaError) -> &'static str {
+    match fault {
+        DeltaError::Version => "version",
+        DeltaError::Refused => "refused",
+        DeltaError::OutOfMemory => "out of memory",
+        DeltaError::Failed => "failed",
+    }
 }

@@ -1,97 +1,78 @@
 //! Codes that are read from text or made from digits, written and compared.
 
-use crate::answers::are_same;
+use crate::answers::code;
 use metered::Metered;
 use oct_code::{Code, CodeError, DigitsError};
 use std::alloc::{Allocator, Global};
+use std::process::Abort;
 
-// Whether the code is written after the bytes that are there where each request for memory is refused in turn, and nothing is
-// written before.
+// The code of the text is written after the bytes that are there where each request for memory is refused in turn, and
+// nothing is written before.
 fn is_appended<A: Allocator>(
+    rt: &impl Abort,
     heap: &Metered<Global>,
     out: &mut Vec<u8, A>,
-    code: Code,
-    before: &[u8],
-    after: &[u8],
-) -> bool {
+    text: &str,
+    after: &str,
+) {
+    let code = code(rt, text);
+    let count = out.len();
     for grants in 0..10u64 {
         heap.arm(grants);
         if code.append_text(out).is_ok() {
-            return grants > 0 && are_same(out.as_slice(), after);
+            assert!(rt; grants > 0, "{text} took no memory");
+            assert_eq!(rt; out.as_slice(), after.as_bytes(), "{text}");
+            return;
         }
-        if !are_same(out.as_slice(), before) {
-            return false;
-        }
+        assert_eq!(rt; out.len(), count, "{text} was refused");
     }
-    false
+    panic!(rt; "{text} is refused at ten requests");
 }
 
-// Whether the text is that of a code which is written so.
 fn is_written<A: Allocator>(
+    rt: &impl Abort,
     heap: &Metered<Global>,
     alloc: A,
-    text: &[u8],
-    before: &[u8],
-    after: &[u8],
-) -> bool {
+    text: &str,
+    before: &str,
+    after: &str,
+) {
     heap.arm(u64::MAX);
-    match (Code::parse(text), Vec::from_slice(alloc, before)) {
-        (Ok(code), Ok(mut out)) => is_appended(heap, &mut out, code, before, after),
-        _ => false,
-    }
+    let mut out = Vec::from_slice(alloc, before.as_bytes()).expect(rt, text);
+    is_appended(rt, heap, &mut out, text, after);
 }
 
 // Texts, what is there already, and what it is once the code of the text is written.
-const WRITTEN: &[(&[u8], &[u8], &[u8])] = &[
-    (b"0.77", b"", b"0.77"),
-    (b"0.77", b"x", b"x0.77"),
-    (b".770", b"", b"0.77"),
-    (b".0", b"", b"0.0"),
-    (b"4.000", b"", b"4.0"),
-    (b"0.77777777777777770", b"", b"0.7777777777777777"),
+const WRITTEN: &[(&str, &str, &str)] = &[
+    ("0.77", "", "0.77"),
+    ("0.77", "x", "x0.77"),
+    (".770", "", "0.77"),
+    (".0", "", "0.0"),
+    ("4.000", "", "4.0"),
+    ("0.77777777777777770", "", "0.7777777777777777"),
 ];
 
 // Texts that are no code, and their faults.
-const REFUSED: &[(&[u8], CodeError)] = &[
-    (b"0.8", CodeError::Digit),
-    (b"0.7.7", CodeError::Digit),
-    (b"3.1", CodeError::Head),
-    (b"x.8", CodeError::Head),
-    (b"0.", CodeError::Form),
-    (b"77", CodeError::Form),
-    (b"00.7", CodeError::Form),
-    (b"", CodeError::Form),
-    (b"0.77777777777777777", CodeError::Long),
+const REFUSED: &[(&str, CodeError)] = &[
+    ("0.8", CodeError::Digit),
+    ("0.7.7", CodeError::Digit),
+    ("3.1", CodeError::Head),
+    ("x.8", CodeError::Head),
+    ("0.", CodeError::Form),
+    ("77", CodeError::Form),
+    ("00.7", CodeError::Form),
+    ("", CodeError::Form),
+    ("0.77777777777777777", CodeError::Long),
 ];
 
 #[test]
 fn texts_are_refused_or_read_and_written(rt: HostRuntime) {
     let heap = Metered::new(rt.alloc());
-    let mut all = true;
     for &(text, before, after) in WRITTEN {
-        all &= is_written(&heap, &heap, text, before, after);
+        is_written(&rt, &heap, &heap, text, before, after);
     }
-    for (text, fault) in REFUSED {
-        all &= Code::parse(text) == Err(*fault);
-    }
-    assert!(rt; all);
-}
-
-// Whether the digits of 0.137 are read back, with what they allow.
-fn are_read() -> bool {
-    match Code::from_digits(0, &[1, 3, 7]) {
-        Ok(code) => {
-            code.head() == 0
-                && code.len() == 3
-                && are_same(code.digits(), &[1, 3, 7])
-                && code.digit(0) == 0
-                && code.digit(2) == 3
-                && code.digit(4) == 0
-                && code.allows(2, 1)
-                && !code.allows(2, 2)
-                && code.allows(3, 2)
-        }
-        Err(_) => false,
+    for &(text, fault) in REFUSED {
+        assert_eq!(rt; Code::parse(text.as_bytes()).err(), Some(fault), "{text}");
     }
 }
 
@@ -105,26 +86,31 @@ const REFUSED_DIGITS: &[(u8, &[u8], DigitsError)] = &[
 
 #[test]
 fn digits_are_read_or_refused(rt: HostRuntime) {
-    let mut all = are_read();
-    for (head, digits, fault) in REFUSED_DIGITS {
-        all &= Code::from_digits(*head, digits) == Err(*fault);
+    let code = Code::from_digits(0, &[1, 3, 7])
+        .ok()
+        .expect(&rt, "the code 0.137");
+    assert_eq!(rt; (code.head(), code.len()), (0, 3));
+    assert_eq!(rt; code.digits(), [1, 3, 7].as_slice());
+    assert_eq!(rt; (code.digit(0), code.digit(2), code.digit(4)), (0, 3, 0));
+    let allowed = (code.allows(2, 1), code.allows(2, 2), code.allows(3, 2));
+    assert_eq!(rt; allowed, (true, false, true));
+    for &(head, digits, fault) in REFUSED_DIGITS {
+        let refused = Code::from_digits(head, digits).err();
+        assert!(rt; refused == Some(fault), "{head} and {digits:?}");
     }
-    assert!(rt; all);
 }
 
 // Codes, each of which is below the next one, and not the other way round.
-const RISING: &[&[u8]] = &[
-    b"0.0", b"0.3", b"0.7", b"0.07", b"0.77", b"0.137", b"4.0", b"4.3",
-];
+const RISING: &[&str] = &["0.0", "0.3", "0.7", "0.07", "0.77", "0.137", "4.0", "4.3"];
 
 #[test]
 fn codes_are_ordered(rt: HostRuntime) {
-    let mut all = true;
     for at in 1..RISING.len() {
-        all &= match (Code::parse(RISING[at - 1]), Code::parse(RISING[at])) {
-            (Ok(code), Ok(other)) => code < other && other > code && code != other,
-            _ => false,
-        };
+        let (text, next) = (RISING[at - 1], RISING[at]);
+        let (low, high) = (code(&rt, text), code(&rt, next));
+        assert!(rt;
+            low < high && high > low && low != high,
+            "{text} and {next}"
+        );
     }
-    assert!(rt; all);
 }

@@ -1,9 +1,11 @@
 //! Deltas and clocks as bytes: worked texts, what else is read, and what a call leaves where memory is refused.
 
-use crate::answers::are_same;
-use crate::vectors::{A, B, C, D, E, F, G, H, I, LAST, SOME, long_block, many_notes};
+use crate::answers::{fault_name, read};
+use crate::vectors::{
+    BLOCK, CLAIMED, Delta, EARLY, FIRST, Item, KAYLES, LONG, NEW, OLD, OTHERS, REMOVED, SOME,
+    many_notes,
+};
 use metered::Metered;
-use oct_code::Code;
 use oct_delta::{
     ClockError, DeltaError, OpList, decode, decode_clock, encode, encode_clock, put_bytes,
     put_entries, put_u32,
@@ -11,81 +13,89 @@ use oct_delta::{
 use oct_join::Clock;
 use oct_ops::{Body, Op};
 use std::alloc::{Allocator, Global};
+use std::process::Abort;
+use std::test::Fail;
 
-// A in the new format.
-const RENAMED: &[u8] = b"OGD2\x00\x00\x00\x01\
-      \x00\x00\x00\x01\x00\x00\x00\x01\x01\x00\x02\x07\x07\x00\x00\x00\x00\x00\x05\
-      \x00\x00\x00\x00\x00\x00\x00\x01\x00\x00\x00\x02\x00\x00\x00\x03\x00\x00\x00\x01";
+// The first block in the new format.
+const RENAMED: Delta<'static> = Delta {
+    tag: NEW,
+    items: &[BLOCK],
+};
 
-// Two values from place 4095, as the new format has them and as the old one would.
-const LATER: &[u8] = b"OGD2\x00\x00\x00\x01\
-      \x00\x00\x00\x01\x00\x00\x00\x01\x01\x00\x02\x07\x07\x00\x00\x0f\xff\x00\x02\
-      \x00\x00\x00\x00\x00\x00\x00\x00";
+// Two values from heap 4095, as the new format has them and as the old one would; and from the last heap on.
+const PAST_OLD_LIMIT: Item<'static> = Item::Block(1, 1, KAYLES, 4_095, &[0, 0]);
 
-const LATER_IN_OLD: &[u8] = b"OGD1\x00\x00\x00\x01\
-      \x00\x00\x00\x01\x00\x00\x00\x01\x01\x00\x02\x07\x07\x00\x00\x0f\xff\x00\x02\
-      \x00\x00\x00\x00\x00\x00\x00\x00";
+const LATE: Delta<'static> = Delta {
+    tag: NEW,
+    items: &[PAST_OLD_LIMIT],
+};
 
-// What is written as it was read.
-const WORKED: &[&[u8]] = &[A, B, C, D, E, F, G, H, I, LATER, LAST];
+const LATE_IN_OLD: Delta<'static> = Delta {
+    tag: OLD,
+    items: &[PAST_OLD_LIMIT],
+};
 
-// Two values from the last place on.
-const PAST_LAST: &[u8] = b"OGD2\x00\x00\x00\x01\
-      \x00\x00\x00\x01\x00\x00\x00\x01\x01\x00\x02\x07\x07\x00\x00\xff\xff\x00\x02\
-      \x00\x00\x00\x00\x00\x00\x00\x00";
+const PAST_LIMIT: Delta<'static> = Delta {
+    tag: NEW,
+    items: &[Item::Block(1, 1, KAYLES, 65_535, &[0, 0])],
+};
 
-/// Whether the bytes are refused so.
-pub(crate) fn is_refused<A: Allocator + Copy>(alloc: A, bytes: &[u8], error: DeltaError) -> bool {
-    match decode(alloc, bytes) {
-        Ok(_) => false,
-        Err(refused) => refused == error,
-    }
-}
-
-// Whether what the bytes spell is written as the text.
-fn writes<A: Allocator + Copy>(alloc: A, bytes: &[u8], text: &[u8]) -> bool {
-    let Ok(list) = decode(alloc, bytes) else {
-        return false;
+/// The bytes are refused by this fault.
+pub(crate) fn is_refused<A: Allocator + Copy>(
+    rt: &impl Abort,
+    alloc: A,
+    bytes: &[u8],
+    fault: DeltaError,
+) {
+    let refused = match decode(alloc, bytes) {
+        Ok(_) => "read",
+        Err(refused) => fault_name(refused),
     };
-    let mut out = Vec::new(alloc);
-    encode(&list, &mut out).is_ok() && are_same(out.as_slice(), text)
+    assert_eq!(rt; refused, fault_name(fault), "of {bytes:?}");
 }
 
-// Whether the operation is the one of A.
-fn is_of_a(op: &Op<Global>) -> bool {
+// What the bytes spell is written as the text.
+fn writes(rt: &impl Abort, alloc: Global, bytes: &[u8], text: &[u8]) {
+    let list = read(rt, alloc, bytes);
+    let mut out = Vec::new(alloc);
+    assert!(rt;
+        encode(&list, &mut out).is_ok(),
+        "{bytes:?} are not written"
+    );
+    assert_eq!(rt; out.as_slice(), text);
+}
+
+// The operation is that of the first block.
+fn is_first(rt: &impl Abort, op: &Op<Global>) {
+    let dot = op.dot();
+    assert_eq!(rt; (dot.author(), dot.number()), (1, 1));
     match op.body() {
         Body::Block(block) => {
-            op.dot().author() == 1
-                && op.dot().number() == 1
-                && Code::parse(b"0.77") == Ok(block.code())
-                && block.start() == 0
-                && are_same(block.values(), &[0, 1, 2, 3, 1])
+            let code = block.code();
+            assert_eq!(rt; (code.head(), block.start()), (0, 0));
+            assert_eq!(rt; code.digits(), [7, 7].as_slice());
+            assert_eq!(rt; block.values(), [0, 1, 2, 3, 1].as_slice());
         }
-        _ => false,
-    }
-}
-
-fn reads_a(alloc: Global) -> bool {
-    match decode(alloc, A) {
-        Ok(list) => match list.as_slice() {
-            [op] => is_of_a(op),
-            _ => false,
-        },
-        Err(_) => false,
+        _ => panic!(rt; "no block"),
     }
 }
 
 #[test]
-fn worked_texts_of_both_formats_are_read_and_written_back(rt: HostRuntime) {
+fn worked_texts_of_both_formats_are_read_and_written_back(rt: HostRuntime) -> Result<(), Fail> {
     let alloc = rt.alloc();
-    let mut all = reads_a(alloc)
-        && writes(alloc, RENAMED, A)
-        && is_refused(alloc, LATER_IN_OLD, DeltaError::Refused)
-        && is_refused(alloc, PAST_LAST, DeltaError::Refused);
-    for text in WORKED {
-        all &= writes(alloc, text, text);
+    let first = FIRST.bytes(alloc)?;
+    match read(&rt, alloc, &first).as_slice() {
+        [op] => is_first(&rt, op),
+        ops => panic!(rt; "{} operations", ops.len()),
     }
-    assert!(rt; all);
+    writes(&rt, alloc, &RENAMED.bytes(alloc)?, &first);
+    is_refused(&rt, alloc, &LATE_IN_OLD.bytes(alloc)?, DeltaError::Refused);
+    is_refused(&rt, alloc, &PAST_LIMIT.bytes(alloc)?, DeltaError::Refused);
+    for delta in SOME.iter().chain(OTHERS).chain(&[("late", LATE)]) {
+        let text = delta.1.bytes(alloc)?;
+        writes(&rt, alloc, &text, &text);
+    }
+    Ok(())
 }
 
 // The bytes after the tag.
@@ -96,230 +106,223 @@ fn after_tag(bytes: &[u8]) -> &[u8] {
     }
 }
 
-// Whether the bytes are refused, or spell what is written as these bytes with the old tag.
-fn is_refused_or_written(alloc: Global, bytes: &[u8], written: &mut Vec<u8>) -> bool {
+// The bytes are refused, or spell what is written as these bytes with the old tag.
+fn is_refused_or_written(rt: &impl Abort, alloc: Global, bytes: &[u8], written: &mut Vec<u8>) {
     match decode(alloc, bytes) {
         Ok(list) => {
             written.clear();
-            encode(&list, written).is_ok()
-                && written.starts_with(b"OGD1")
-                && are_same(after_tag(written), after_tag(bytes))
+            assert!(rt; encode(&list, written).is_ok(), "{bytes:?} are not written");
+            assert!(rt;
+                written.starts_with(OLD),
+                "{bytes:?} are written as {written:?}"
+            );
+            assert_eq!(rt; after_tag(written), after_tag(bytes));
         }
-        Err(refused) => refused == DeltaError::Version || refused == DeltaError::Refused,
+        Err(refused) => {
+            let is_no_delta = refused == DeltaError::Version || refused == DeltaError::Refused;
+            assert!(rt; is_no_delta, "{bytes:?}: {}", fault_name(refused));
+        }
     }
 }
 
-// Whether that holds where one byte of the text is any other.
-fn is_spelled_in_one_way(alloc: Global, text: &[u8]) -> bool {
+// That is so where one byte of the text is any other.
+fn is_spelled_in_one_way(rt: &impl Abort, alloc: Global, text: &[u8]) -> Result<(), Fail> {
     let mut written = Vec::new(alloc);
-    let mut room = [0; 74];
-    let Some(bytes) = room.get_mut(..text.len()) else {
-        return false;
-    };
-    bytes.copy_from_slice(text);
-    let mut all = true;
-    for (place, old) in text.iter().enumerate() {
+    for place in 0..text.len() {
         for byte in 0..=u8::MAX {
-            bytes[place] = byte;
-            all &= is_refused_or_written(alloc, bytes, &mut written);
+            let mut bytes = text.to_vec(alloc)?;
+            if let Some(changed) = bytes.get_mut(place) {
+                *changed = byte;
+            }
+            is_refused_or_written(rt, alloc, &bytes, &mut written);
         }
-        bytes[place] = *old;
     }
-    all
+    Ok(())
 }
 
 #[test]
-fn changed_bytes_are_refused_or_written_back(rt: HostRuntime) {
-    let mut all = true;
-    for text in &[A, D, F, H] {
-        all &= is_spelled_in_one_way(rt.alloc(), text);
+fn changed_bytes_are_refused_or_written_back(rt: HostRuntime) -> Result<(), Fail> {
+    let alloc = rt.alloc();
+    for delta in &[FIRST, CLAIMED, EARLY, REMOVED] {
+        is_spelled_in_one_way(&rt, alloc, &delta.bytes(alloc)?)?;
     }
-    assert!(rt; all);
-}
-
-// Whether the text of these operations is read after each request for memory was refused in turn. `heap` counts the
-// requests of `alloc`, here and below.
-fn reads_again<A: Allocator + Copy>(
-    heap: &Metered<Global>,
-    alloc: A,
-    text: &[u8],
-    ops: &[Op<A>],
-) -> bool {
-    for grants in 0..100u64 {
-        heap.arm(grants);
-        match decode(alloc, text) {
-            Ok(list) => return grants > 0 && are_same(list.as_slice(), ops),
-            Err(DeltaError::OutOfMemory) => {}
-            Err(_) => return false,
-        }
-    }
-    false
-}
-
-// Whether the bytes are a seven and the text after it.
-fn is_seven_and(bytes: &[u8], text: &[u8]) -> bool {
-    match bytes {
-        [7, rest @ ..] => are_same(rest, text),
-        _ => false,
-    }
+    Ok(())
 }
 
 /// What is written as bytes.
 #[derive(Drop)]
-enum Written<'a, A: Allocator> {
-    Delta(&'a OpList<A>),
-    Clock(&'a Clock<A>),
+enum Written<A: Allocator> {
+    Delta(OpList<A>),
+    Clock(Clock<A>),
 }
 
-// Appends its bytes, and says whether that was done.
-fn puts<A: Allocator>(written: &Written<A>, out: &mut Vec<u8, A>) -> bool {
-    match written {
-        Written::Delta(list) => encode(list, out).is_ok(),
-        Written::Clock(clock) => encode_clock(clock, out).is_ok(),
+/// Why bytes are read as neither.
+#[derive(Clone, Copy, PartialEq, Eq, Debug)]
+enum Fault {
+    Refused,
+    OutOfMemory,
+}
+
+impl<A: Allocator + Copy> Written<A> {
+    // Reads the bytes of a clock, or those of a delta.
+    fn read(alloc: A, text: &[u8], is_clock: bool) -> Result<Written<A>, Fault> {
+        if is_clock {
+            match decode_clock(alloc, text) {
+                Ok(clock) => Ok(Written::Clock(clock)),
+                Err(ClockError::OutOfMemory) => Err(Fault::OutOfMemory),
+                Err(ClockError::Refused) => Err(Fault::Refused),
+            }
+        } else {
+            match decode(alloc, text) {
+                Ok(list) => Ok(Written::Delta(list)),
+                Err(DeltaError::OutOfMemory) => Err(Fault::OutOfMemory),
+                Err(_) => Err(Fault::Refused),
+            }
+        }
+    }
+
+    // Appends its bytes, and says whether that was done.
+    fn put(&self, out: &mut Vec<u8, A>) -> bool {
+        match self {
+            Written::Delta(list) => encode(list, out).is_ok(),
+            Written::Clock(clock) => encode_clock(clock, out).is_ok(),
+        }
     }
 }
 
-// Whether the text is written after a byte that is put there first, with so many requests granted; none where memory is
-// refused, and the byte stays alone.
-fn writes_after_seven<A: Allocator + Copy>(
+// Reads the text after each request for memory was refused in turn. `heap` counts the requests of `alloc`, here and below.
+fn read_again<A: Allocator + Copy>(
+    rt: &impl Abort,
     heap: &Metered<Global>,
-    written: &Written<A>,
-    out: &mut Vec<u8, A>,
+    alloc: A,
     text: &[u8],
-    grants: u64,
-) -> Option<bool> {
-    if out.push(7).is_err() {
-        return Some(false);
+    is_clock: bool,
+) -> Written<A> {
+    for grants in 0..100u64 {
+        heap.arm(grants);
+        match Written::read(alloc, text, is_clock) {
+            Ok(written) => {
+                assert!(rt; grants > 0, "{text:?} took no memory");
+                return written;
+            }
+            Err(fault) => assert_eq!(rt; fault, Fault::OutOfMemory, "of {text:?}"),
+        }
     }
-    heap.arm(grants);
-    if puts(written, out) {
-        return Some(is_seven_and(out, text));
-    }
-    if is_seven_and(out, &[]) {
-        None
-    } else {
-        Some(false)
-    }
+    panic!(rt; "{text:?} are refused at a hundred requests")
 }
 
-// Whether that is so after each request for memory was refused in turn.
+// The text is written after a byte that is put there first, after each request for memory was refused in turn; then the byte
+// stays alone.
 fn writes_again<A: Allocator + Copy>(
+    rt: &impl Abort,
     heap: &Metered<Global>,
     alloc: A,
     written: &Written<A>,
     text: &[u8],
-) -> bool {
+) {
     for grants in 0..100u64 {
         heap.arm(u64::MAX);
-        let answer = writes_after_seven(heap, written, &mut Vec::new(alloc), text, grants);
-        if let Some(right) = answer {
-            return right && grants > 0;
+        let mut out = Vec::new(alloc);
+        assert!(rt; out.push(7).is_ok());
+        heap.arm(grants);
+        let is_put = written.put(&mut out);
+        let (seven, rest) = out.split_at(out.len().min(1));
+        assert_eq!(rt; seven, [7].as_slice(), "before {text:?}");
+        if is_put {
+            assert!(rt; grants > 0, "{text:?} took no memory");
+            assert_eq!(rt; rest, text);
+            return;
         }
+        assert!(rt;
+            rest.is_empty(),
+            "{rest:?} of {text:?} with {grants} requests"
+        );
     }
-    false
+    panic!(rt; "{text:?} are refused at a hundred requests");
 }
 
 fn reads_and_writes_again<A: Allocator + Copy>(
+    rt: &impl Abort,
     heap: &Metered<Global>,
     alloc: A,
     text: &[u8],
-) -> bool {
+    is_clock: bool,
+) -> Written<A> {
+    let written = read_again(rt, heap, alloc, text, is_clock);
+    writes_again(rt, heap, alloc, &written, text);
     heap.arm(u64::MAX);
-    match decode(alloc, text) {
-        Ok(list) => {
-            reads_again(heap, alloc, text, list.as_slice())
-                && writes_again(heap, alloc, &Written::Delta(&list), text)
-        }
-        Err(_) => false,
-    }
+    written
 }
 
 #[test]
-fn refused_texts_are_read_and_written_again(rt: HostRuntime) {
+fn refused_texts_are_read_and_written_again(rt: HostRuntime) -> Result<(), Fail> {
     let heap = Metered::new(rt.alloc());
-    let mut all = reads_and_writes_again(&heap, &heap, &long_block())
-        && reads_and_writes_again(&heap, &heap, &many_notes());
-    for text in SOME {
-        all &= reads_and_writes_again(&heap, &heap, text);
+    let alloc = rt.alloc();
+    for (_, delta) in SOME {
+        reads_and_writes_again(&rt, &heap, &heap, &delta.bytes(alloc)?, false);
     }
-    assert!(rt; all);
+    reads_and_writes_again(&rt, &heap, &heap, &LONG.bytes(alloc)?, false);
+    reads_and_writes_again(&rt, &heap, &heap, &many_notes(alloc)?, false);
+    Ok(())
 }
 
 // The clock {2 at 1}, and one of five authors.
 const CLOCK: [u8; 12] = [0, 0, 0, 1, 0, 0, 0, 2, 0, 0, 0, 1];
 
-const FIVE: &[u8] = b"\x00\x00\x00\x05\
-      \x00\x00\x00\x01\x00\x00\x00\x09\x00\x00\x00\x02\x00\x00\x00\x08\
-      \x00\x00\x00\x03\x00\x00\x00\x07\x00\x00\x00\x04\x00\x00\x00\x06\
-      \x00\x00\x00\x05\x00\x00\x00\x05";
+const FIVE: &[u8] = &[
+    0, 0, 0, 5, //
+    0, 0, 0, 1, 0, 0, 0, 9, //
+    0, 0, 0, 2, 0, 0, 0, 8, //
+    0, 0, 0, 3, 0, 0, 0, 7, //
+    0, 0, 0, 4, 0, 0, 0, 6, //
+    0, 0, 0, 5, 0, 0, 0, 5,
+];
 
-// Whether the text of a clock with these entries is read after each request for memory was refused in turn.
-fn reads_clock_again<A: Allocator + Copy>(
-    heap: &Metered<Global>,
-    alloc: A,
-    text: &[u8],
-    entries: &[(u32, u32)],
-) -> bool {
-    for grants in 0..20u64 {
-        heap.arm(grants);
-        match decode_clock(alloc, text) {
-            Ok(clock) => return grants > 0 && are_same(clock.entries(), entries),
-            Err(ClockError::OutOfMemory) => {}
-            Err(ClockError::Refused) => return false,
-        }
-    }
-    false
-}
-
-fn reads_and_writes_clock_again<A: Allocator + Copy>(
-    heap: &Metered<Global>,
-    alloc: A,
-    text: &[u8],
-    entries: &[(u32, u32)],
-) -> bool {
-    heap.arm(u64::MAX);
-    match decode_clock(alloc, text) {
-        Ok(clock) => {
-            reads_clock_again(heap, alloc, text, entries)
-                && writes_again(heap, alloc, &Written::Clock(&clock), text)
-        }
-        Err(_) => false,
-    }
-}
+// Texts of clocks, and their entries.
+const CLOCKS: &[(&[u8], &[(u32, u32)])] = &[
+    (&CLOCK, &[(2, 1)]),
+    (FIVE, &[(1, 9), (2, 8), (3, 7), (4, 6), (5, 5)]),
+];
 
 #[test]
 fn refused_clocks_are_read_and_written_again(rt: HostRuntime) {
     let heap = Metered::new(rt.alloc());
-    let five = [(1, 9), (2, 8), (3, 7), (4, 6), (5, 5)];
-    let right = reads_and_writes_clock_again(&heap, &heap, &CLOCK, &[(2, 1)])
-        && reads_and_writes_clock_again(&heap, &heap, FIVE, &five);
-    assert!(rt; right);
+    for &(text, entries) in CLOCKS {
+        match reads_and_writes_again(&rt, &heap, &heap, text, true) {
+            Written::Clock(clock) => assert_eq!(rt; clock.entries(), entries),
+            Written::Delta(_) => panic!(rt; "{text:?} are a delta"),
+        }
+    }
 }
 
 #[test]
 fn changed_clocks_are_refused(rt: HostRuntime) {
-    let mut all = true;
-    for (place, byte) in &[(3usize, 0), (3, 2), (7, 0), (11, 0)] {
+    for &(place, byte) in &[(3usize, 0), (3, 2), (7, 0), (11, 0)] {
         let mut text = CLOCK;
-        text[*place] = *byte;
-        all &= decode_clock(rt.alloc(), &text).err() == Some(ClockError::Refused);
+        text[place] = byte;
+        let refused = decode_clock(rt.alloc(), &text).err();
+        assert!(rt;
+            refused == Some(ClockError::Refused),
+            "byte {place} is {byte}"
+        );
     }
-    assert!(rt; all);
 }
 
-// Whether bytes, a number and two authors are appended.
-fn fields_are_appended<A: Allocator>(out: &mut Vec<u8, A>, wanted: &[u8]) -> bool {
-    put_bytes(out, b"OGS1").is_ok()
-        && put_u32(out, 258).is_ok()
-        && put_entries(out, &[(1, 3), (2, 65_536)]).is_ok()
-        && are_same(out.as_slice(), wanted)
-}
+// The tag of a state, a number, and the entries of two authors.
+const FIELDS: &[u8] = &[
+    b'O', b'G', b'S', b'1', //
+    0, 0, 1, 2, //
+    0, 0, 0, 2, //
+    0, 0, 0, 1, 0, 0, 0, 3, //
+    0, 0, 0, 2, 0, 1, 0, 0,
+];
 
 #[test]
-fn fields_are_spelled(rt: HostRuntime) {
-    let wanted = [
-        b'O', b'G', b'S', b'1', 0, 0, 1, 2, 0, 0, 0, 2, 0, 0, 0, 1, 0, 0, 0, 3, 0, 0, 0, 2, 0, 1,
-        0, 0,
-    ];
-    assert!(rt; fields_are_appended(&mut Vec::new(rt.alloc()), &wanted));
+fn fields_are_spelled(rt: HostRuntime) -> Result<(), Fail> {
+    let mut out = Vec::new(rt.alloc());
+    put_bytes(&mut out, b"OGS1")?;
+    put_u32(&mut out, 258)?;
+    assert!(rt; put_entries(&mut out, &[(1, 3), (2, 65_536)]).is_ok());
+    assert_eq!(rt; out.as_slice(), FIELDS);
+    Ok(())
 }

@@ -2,12 +2,14 @@
 
 ghost use Rattle.std.specs.Prelude.{◌≡◌, IfSome};
 
+use crate::answers::{code, dot};
 use metered::Metered;
 use oct_code::Code;
 use oct_ops::{Block, Dot};
 use oct_verify::Status::{Pending, Proved, Refuted};
 use oct_verify::{Ledger, Status};
 use std::alloc::{Allocator, Global};
+use std::process::Abort;
 
 /// The nim-values of Kayles.
 const KAYLES: &[u32] = &[0, 1, 2, 3, 1, 4, 3, 2, 1, 4, 2, 6];
@@ -117,161 +119,147 @@ pub(crate) fn block<A: Allocator>(
     }
 }
 
-// The status of a block, which is added if it is not there; none where memory is refused. `again` is a copy of it.
-#[tactic(auto, using(oct_verify::proofs::Filings::filed_itself))]
-fn status_beside<A: Allocator + Copy>(
-    ledger: &mut Ledger<A>,
-    dot: Dot,
-    block: Block<A>,
-    again: &Block<A>,
-) -> Option<Status>
-    requires code { block.code ≡ ledger.old.code }
-    requires copy { again.now ≡ block }
-{
-    match ledger.insert(dot, block) {
-        Ok(()) => Some(ledger.status(&dot, again)),
-        Err(_) => None,
+/// A status in words, with the heap at which a block is wrong, what it claims there, and the nim-value.
+pub(crate) fn told(status: Option<Status>) -> (&'static str, u32, u32, u32) {
+    match status {
+        Some(Proved) => ("proved", 0, 0, 0),
+        Some(Pending) => ("pending", 0, 0, 0),
+        Some(Refuted { at, claimed, truth }) => ("refuted", at, claimed, truth),
+        None => ("out of memory", 0, 0, 0),
     }
 }
 
-// The same where its copy is made first.
-fn status_of<A: Allocator + Copy>(
+// The status of the block of a row, which is added if it is not there; none where memory is refused. The block and its copy
+// take two requests.
+#[tactic(auto, using(oct_verify::proofs::Filings::filed_itself))]
+fn status<A: Allocator + Copy>(
+    rt: &impl Abort,
     alloc: A,
     ledger: &mut Ledger<A>,
-    dot: Dot,
-    block: Block<A>,
-) -> Option<Status>
-    requires { block.code ≡ ledger.old.code }
-{
-    match block.copy(alloc) {
-        Ok(again) => status_beside(ledger, dot, block, &again),
+    row: Row,
+) -> Option<Status> {
+    let (number, start, values) = row;
+    let dot = dot(rt, 1, number);
+    let block = block(alloc, ledger.code(), start, values)?;
+    let again = block.copy(alloc).ok()?;
+    match ledger.insert(dot, block) {
+        Ok(()) => Some(ledger.status(&dot, &again)),
         Err(_) => None,
     }
 }
 
-// The same of the block of a row. The block and its copy take two requests.
-fn status<A: Allocator + Copy>(alloc: A, ledger: &mut Ledger<A>, row: Row) -> Option<Status> {
-    let (number, start, values) = row;
-    let Ok(dot) = Dot::new(1, number) else {
-        return None;
-    };
-    match block(alloc, ledger.code(), start, values) {
-        Some(block) => status_of(alloc, ledger, dot, block),
-        None => None,
-    }
-}
-
-// Whether so many nim-values are known, each that of its heap, after so many comparisons.
-fn knows<A: Allocator + Copy>(ledger: &Ledger<A>, known: u32, checks: u64) -> bool {
+// So many nim-values are known, each that of its heap, after so many comparisons.
+fn knows<A: Allocator + Copy>(
+    rt: &impl Abort,
+    ledger: &Ledger<A>,
+    known: u32,
+    checks: u64,
+    case: usize,
+) {
     let values = ledger.known_values();
-    let mut right = ledger.known() == known
-        && ledger.checks() == checks
-        && values.len() == known as usize
-        && KAYLES.starts_with(values);
+    assert_eq!(rt;
+        (ledger.known(), ledger.checks()),
+        (known, checks),
+        "case {case}"
+    );
+    assert_eq!(rt; values.len(), known as usize, "case {case}");
+    assert!(rt; KAYLES.starts_with(values), "case {case}: {values:?}");
     for heap in 0..13u32 {
-        right &= ledger.value(heap) == values.get(heap as usize).copied();
+        let value = values.get(heap as usize).copied();
+        assert_eq!(rt; ledger.value(heap), value, "case {case}, heap {heap}");
     }
-    right
 }
 
-// Whether the next values are refused at each request in turn, and are those of Kayles in the end.
-fn goes_on<A: Allocator + Copy>(heap: &Metered<Global>, ledger: &Ledger<A>) -> bool {
+// The next values are refused at each request in turn, and are those of Kayles in the end.
+fn goes_on<A: Allocator + Copy>(
+    rt: &impl Abort,
+    heap: &Metered<Global>,
+    ledger: &Ledger<A>,
+    case: usize,
+) {
     let count = 12u32.saturating_sub(ledger.known());
     for grants in 0..64u64 {
         heap.arm(grants);
         if let Ok(next) = ledger.next_values(count) {
-            return grants > 0 && next.len() == count as usize && KAYLES.ends_with(&next);
+            assert!(rt; grants > 0, "case {case} took no memory");
+            assert_eq!(rt; next.len(), count as usize, "case {case}");
+            assert!(rt; KAYLES.ends_with(&next), "case {case}: {next:?}");
+            return;
         }
     }
-    false
-}
-
-// Whether a step is made where there is memory, and what is said then is right and takes none.
-fn is_made<A: Allocator + Copy>(
-    heap: &Metered<Global>,
-    alloc: A,
-    ledger: &mut Ledger<A>,
-    step: &Step,
-) -> bool {
-    let (row, said, known, checks) = *step;
-    heap.arm(u64::MAX);
-    status(alloc, ledger, row);
-    heap.arm(1_002);
-    status(alloc, ledger, row) == Some(said)
-        && knows(ledger, known, checks)
-        && heap.left() == 1_000
-        && goes_on(heap, ledger)
+    panic!(rt; "case {case}: the next values are refused at 64 requests");
 }
 
 // Makes a step, at first with so many requests granted by the heap, in which `alloc` asks for memory. Says whether these were
-// too few; none where a refusal changes anything, or what is said in the end is wrong or takes memory.
-fn makes<A: Allocator + Copy>(
+// too few, which changes nothing. What is said in the end is right and takes no memory.
+fn make<A: Allocator + Copy>(
+    rt: &impl Abort,
     heap: &Metered<Global>,
     alloc: A,
     ledger: &mut Ledger<A>,
     step: &Step,
     grants: u64,
-) -> Option<bool> {
-    let (known, checks) = (ledger.known(), ledger.checks());
+    case: usize,
+) -> bool {
+    let (row, said, known, checks) = *step;
+    let before = (ledger.known(), ledger.checks());
     heap.arm(grants);
-    let refused = status(alloc, ledger, step.0).is_none();
-    let right = (!refused || knows(ledger, known, checks)) && is_made(heap, alloc, ledger, step);
-    if right { Some(refused) } else { None }
+    let refused = status(rt, alloc, ledger, row).is_none();
+    if refused {
+        knows(rt, ledger, before.0, before.1, case);
+    }
+    heap.arm(u64::MAX);
+    status(rt, alloc, ledger, row);
+    heap.arm(1_002);
+    let status = status(rt, alloc, ledger, row);
+    assert_eq!(rt;
+        told(status),
+        told(Some(said)),
+        "case {case}, block {row:?}"
+    );
+    knows(rt, ledger, known, checks, case);
+    assert_eq!(rt; heap.left(), 1_000, "case {case}, requests that are left");
+    goes_on(rt, heap, ledger, case);
+    refused
 }
 
-// The same of all the steps, from the beginning, which took no memory.
-fn makes_all<A: Allocator + Copy>(
+// Makes all the steps on a new ledger, which takes no memory.
+fn make_all<A: Allocator + Copy>(
+    rt: &impl Abort,
     heap: &Metered<Global>,
     alloc: A,
-    ledger: &mut Ledger<A>,
     steps: &[Step],
     grants: u64,
-) -> Option<bool> {
-    let mut refused = false;
-    if !knows(ledger, 1, 0) || heap.left() != 1_000 {
-        return None;
-    }
-    for step in steps {
-        refused |= makes(heap, alloc, ledger, step, grants)?;
-    }
-    Some(refused)
-}
-
-// The same of a new ledger.
-fn follows<A: Allocator + Copy>(
-    heap: &Metered<Global>,
-    alloc: A,
-    code: Code,
-    steps: &[Step],
-    grants: u64,
-) -> Option<bool> {
+    case: usize,
+) -> bool {
+    let code = code(rt, "0.77");
     heap.arm(1_000);
     let mut ledger = Ledger::new(alloc, code);
-    let refused = makes_all(heap, alloc, &mut ledger, steps, grants);
-    if ledger.code() == code { refused } else { None }
+    knows(rt, &ledger, 1, 0, case);
+    assert_eq!(rt; heap.left(), 1_000, "case {case}, requests that are left");
+    let mut refused = false;
+    for step in steps {
+        refused |= make(rt, heap, alloc, &mut ledger, step, grants, case);
+    }
+    assert!(rt; ledger.code() == code, "case {case} ends with another code");
+    refused
 }
 
-// Whether the steps come out right where each request for memory is refused in turn, three of them at least.
-fn are_right(heap: &Metered<Global>, steps: &[Step]) -> bool {
-    let Ok(code) = Code::parse(b"0.77") else {
-        return false;
-    };
+// The steps come out right where each request for memory is refused in turn, three of them at least.
+fn are_right(rt: &impl Abort, heap: &Metered<Global>, steps: &[Step], case: usize) {
     for grants in 0..64u64 {
-        match follows(heap, heap, code, steps, grants) {
-            Some(true) => {}
-            Some(false) => return grants > 2,
-            None => return false,
+        if !make_all(rt, heap, heap, steps, grants, case) {
+            assert!(rt; grants > 2, "case {case} took {grants} requests");
+            return;
         }
     }
-    false
+    panic!(rt; "case {case} is refused at 64 requests");
 }
 
 #[test]
 fn blocks_settle_in_every_order(rt: HostRuntime) {
     let heap = Metered::new(rt.alloc());
-    let mut all = true;
-    for steps in CASES {
-        all &= are_right(&heap, steps);
+    for (case, steps) in CASES.iter().enumerate() {
+        are_right(&rt, &heap, steps, case);
     }
-    assert!(rt; all);
 }

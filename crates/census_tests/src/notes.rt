@@ -1,12 +1,12 @@
 //! Notes and removals: which notes are live, in whatever order they come, without memory and after each refusal of memory.
 
-use crate::answers::are_same;
-use crate::operations::{note, removal};
+use crate::answers::dot;
 use metered::Metered;
 use oct_join::Join;
 use oct_notes::Notes;
-use oct_ops::{Body, Dot, Op};
+use oct_ops::{Body, Dot, Note, Op, Removal};
 use std::alloc::{Allocator, Global};
+use std::process::Abort;
 
 /// A note: its author, its number, its name and its text.
 type Row = (u32, u32, &'static [u8], &'static [u8]);
@@ -33,16 +33,17 @@ fn row(letter: u8) -> Row {
     }
 }
 
-// The operation of a letter, where there is memory: its note, or the removal of that note's dot by author 9.
-fn operation<A: Allocator + Copy>(alloc: A, letter: u8) -> Option<Op<A>> {
+// The operation of a letter: its note, or the removal of that note's dot by author 9.
+fn operation<A: Allocator + Copy>(rt: &impl Abort, alloc: A, letter: u8) -> Op<A> {
     let (author, number, name, text) = row(letter);
-    let (Ok(dot), Ok(own)) = (Dot::new(author, number), Dot::new(9, 1)) else {
-        return None;
-    };
+    let of_note = dot(rt, author, number);
     if letter.is_ascii_lowercase() {
-        note(alloc, dot, name, text)
+        let note = Note::new(alloc, name, text).expect(rt, "a note");
+        Op::new(of_note, Body::Note(note))
     } else {
-        removal(alloc, own, &[dot])
+        let dots = Vec::from_slice(alloc, &[of_note]).expect(rt, "a dot");
+        let removal = Removal::new(dots).ok().expect(rt, "a removal");
+        Op::new(dot(rt, 9, 1), Body::Removal(removal))
     }
 }
 
@@ -54,287 +55,260 @@ fn is_added<A: Allocator + Copy>(notes: &mut Notes<A>, op: &Op<A>) -> bool {
     }
 }
 
-// Adds an operation, at first with so many requests granted, and says whether these were too few; none where it is not there
-// after all, a refusal changes anything, or memory is not enough in the end.
-fn adds<A: Allocator + Copy>(
+// Adds an operation, at first with so many requests granted, and says whether these were too few. A refusal changes nothing.
+fn add<A: Allocator + Copy>(
+    rt: &impl Abort,
     heap: &Metered<Global>,
     notes: &mut Notes<A>,
     op: &Op<A>,
+    name: char,
     grants: u64,
-) -> Option<bool> {
+) -> bool {
     let before = notes.len();
     heap.arm(grants);
-    let refused = !is_added(notes, op);
-    if notes.contains(op) == refused || (refused && notes.len() != before) {
-        return None;
+    let is_in = is_added(notes, op);
+    assert_eq!(rt;
+        notes.contains(op),
+        is_in,
+        "{name} is there, with {grants} requests"
+    );
+    if !is_in {
+        assert_eq!(rt;
+            notes.len(),
+            before,
+            "without {name}, with {grants} requests"
+        );
     }
     heap.arm(u64::MAX);
-    if is_added(notes, op) {
-        Some(refused)
-    } else {
-        None
-    }
+    assert!(rt; is_added(notes, op), "{name} is refused with memory");
+    !is_in
 }
 
-// Whether an operation that is there is found and taken back, and none of this takes memory.
-fn goes<A: Allocator + Copy>(heap: &Metered<Global>, notes: &mut Notes<A>, op: &Op<A>) -> bool {
-    let before = notes.len();
-    heap.arm(1_000);
-    let was_there = is_added(notes, op) && notes.contains(op) && !notes.is_empty();
-    notes.take_back(op);
-    was_there
-        && !notes.contains(op)
-        && notes.len().saturating_add(1) == before
-        && notes.is_empty() == (before == 1)
-        && heap.left() == 1_000
-}
-
-// Adds an operation, takes it back as in `goes`, and adds it again, with so many requests granted as in `adds`. Or takes it
-// back for good.
-fn comes_back<A: Allocator + Copy>(
+// An operation that is there is found and taken back, and none of this takes memory.
+fn goes<A: Allocator + Copy>(
+    rt: &impl Abort,
     heap: &Metered<Global>,
     notes: &mut Notes<A>,
     op: &Op<A>,
-    for_good: bool,
-    grants: u64,
-) -> Option<bool> {
-    if for_good {
-        notes.take_back(op);
-        return Some(false);
-    }
-    let refused = adds(heap, notes, op, grants)?;
-    if goes(heap, notes, op) && adds(heap, notes, op, grants).is_some() {
-        Some(refused)
-    } else {
-        None
-    }
+    name: char,
+) {
+    let before = notes.len();
+    heap.arm(1_000);
+    assert!(rt; is_added(notes, op), "{name} is refused where it is there");
+    assert!(rt; notes.contains(op), "{name} is not found");
+    assert!(rt; !notes.is_empty(), "nothing is there with {name}");
+    notes.take_back(op);
+    assert!(rt;
+        !notes.contains(op),
+        "{name} is found after it was taken back"
+    );
+    assert_eq!(rt;
+        notes.len().saturating_add(1),
+        before,
+        "one less is there without {name}"
+    );
+    assert_eq!(rt;
+        notes.is_empty(),
+        before == 1,
+        "nothing is left without {name}"
+    );
+    assert_eq!(rt; heap.left(), 1_000, "requests that are left");
 }
 
-// Adds the operation of a letter, or takes it back.
-fn adds_letter<A: Allocator + Copy>(
+// Adds the operation of a letter, takes it back, and adds it again, with so many requests granted; or takes it back for good.
+// Says whether the requests were too few.
+fn add_letter<A: Allocator + Copy>(
+    rt: &impl Abort,
     heap: &Metered<Global>,
     alloc: A,
     notes: &mut Notes<A>,
     letter: u8,
     grants: u64,
-) -> Option<bool> {
+) -> bool {
     heap.arm(u64::MAX);
-    match operation(alloc, letter) {
-        Some(op) => {
-            let refused = comes_back(heap, notes, &op, letter == b'-', grants);
-            drop(op);
-            refused
-        }
-        None => None,
+    let op = operation(rt, alloc, letter);
+    if letter == b'-' {
+        notes.take_back(&op);
+        return false;
     }
+    let name = char::from(letter);
+    let refused = add(rt, heap, notes, &op, name, grants);
+    goes(rt, heap, notes, &op, name);
+    add(rt, heap, notes, &op, name, grants);
+    refused
 }
 
 // Adds the operations of a word, one after the other.
-fn adds_word<A: Allocator + Copy>(
+fn add_word<A: Allocator + Copy>(
+    rt: &impl Abort,
     heap: &Metered<Global>,
     alloc: A,
     notes: &mut Notes<A>,
-    word: &[u8],
+    word: &str,
     grants: u64,
-) -> Option<bool> {
+) -> bool {
     let mut refused = false;
-    for letter in word {
-        refused |= adds_letter(heap, alloc, notes, *letter, grants)?;
+    for letter in word.as_bytes() {
+        refused |= add_letter(rt, heap, alloc, notes, *letter, grants);
     }
-    Some(refused)
+    refused
 }
 
-// Whether this is the dot of the note of the letter.
-fn is_dot(dot: Dot, letter: u8) -> bool {
+// This is the dot of the note of the letter.
+fn is_dot(rt: &impl Abort, dot: Dot, letter: u8, word: &str) {
     let (author, number, _, _) = row(letter);
-    dot.author() == author && dot.number() == number
+    assert_eq!(rt;
+        (dot.author(), dot.number()),
+        (author, number),
+        "a dot of {word}"
+    );
 }
 
-// Whether this is the note of the letter.
-fn is_note<A: Allocator>(op: &Op<A>, letter: u8) -> bool {
-    let (_, _, name, text) = row(letter);
-    match op.body() {
-        Body::Note(note) => {
-            is_dot(op.dot(), letter) && are_same(note.name(), name) && are_same(note.text(), text)
+// These are the notes of the word, in its order.
+fn are_notes<A: Allocator>(rt: &impl Abort, ops: &[Op<A>], word: &str) {
+    assert_eq!(rt; ops.len(), word.len(), "live notes of {word}");
+    for (op, letter) in ops.iter().zip(word.as_bytes()) {
+        is_dot(rt, op.dot(), *letter, word);
+        let (_, _, name, text) = row(*letter);
+        match op.body() {
+            Body::Note(note) => {
+                assert_eq!(rt; note.name(), name, "a name of {word}");
+                assert_eq!(rt; note.text(), text, "a text of {word}");
+            }
+            _ => panic!(rt; "no note among those of {word}"),
         }
-        _ => false,
     }
 }
 
-// Whether these are the notes of the word, in its order.
-fn are_notes<A: Allocator>(ops: &[Op<A>], word: &[u8]) -> bool {
-    if ops.len() != word.len() {
-        return false;
-    }
-    let mut right = true;
-    for place in 0..word.len() {
-        right &= is_note(&ops[place], word[place]);
-    }
-    right
-}
-
-// Whether these are the dots of the notes of the word, in its order.
-fn are_dots(dots: &[Dot], word: &[u8]) -> bool {
-    if dots.len() != word.len() {
-        return false;
-    }
-    let mut right = true;
-    for place in 0..word.len() {
-        right &= is_dot(dots[place], word[place]);
-    }
-    right
-}
-
-// Whether the live notes are those of the word, in its order; none where memory is refused.
-fn lives<A: Allocator + Copy>(notes: &Notes<A>, word: &[u8]) -> Option<bool> {
-    match notes.live() {
-        Ok(live) => Some(are_notes(&live, word)),
-        Err(_) => None,
+// These are the dots of the notes of the word, in its order.
+fn are_dots(rt: &impl Abort, dots: &[Dot], word: &str) {
+    assert_eq!(rt; dots.len(), word.len(), "dots of {word}");
+    for (dot, letter) in dots.iter().zip(word.as_bytes()) {
+        is_dot(rt, *dot, *letter, word);
     }
 }
 
-// Whether the dots of the live notes that have the name of the first letter are those of the word, in its order; none where
-// memory is refused. No note has the name dawson.
-fn finds<A: Allocator + Copy>(notes: &Notes<A>, letters: &[u8], word: &[u8]) -> Option<bool> {
-    let name = match letters {
+// These are the live notes, and these the dots of those with the name of the first letter, where each request for memory is
+// refused in turn. No note has the name dawson.
+fn reads<A: Allocator + Copy>(
+    rt: &impl Abort,
+    heap: &Metered<Global>,
+    notes: &Notes<A>,
+    case: &Case,
+) {
+    let [_, came, live, named] = *case;
+    let name = match came.as_bytes() {
         [letter, ..] => row(*letter).2,
         [] => b"dawson",
     };
-    match notes.live_dots(name) {
-        Ok(dots) => Some(are_dots(&dots, word)),
-        Err(_) => None,
-    }
-}
-
-// Whether these are the live notes, and these the dots of those with the name of the first letter, where each request for
-// memory is refused in turn.
-fn reads<A: Allocator + Copy>(
-    heap: &Metered<Global>,
-    notes: &Notes<A>,
-    letters: &[u8],
-    live: &[u8],
-    dots: &[u8],
-) -> bool {
     for grants in 0..64u64 {
         heap.arm(grants);
-        let read = lives(notes, live);
+        let ops = notes.live();
         heap.arm(grants);
-        match (read, finds(notes, letters, dots)) {
-            (Some(true), Some(true)) => {
-                heap.arm(u64::MAX);
-                return finds(notes, b"", b"") == Some(true);
-            }
-            (Some(false), _) | (_, Some(false)) => return false,
-            _ => {}
+        let dots = notes.live_dots(name);
+        if let (Ok(ops), Ok(dots)) = (ops, dots) {
+            are_notes(rt, &ops, live);
+            are_dots(rt, &dots, named);
+            heap.arm(u64::MAX);
+            let none = notes.live_dots(b"dawson").ok().expect(rt, "memory");
+            assert_eq!(rt; none.len(), 0, "dots with no note's name");
+            return;
         }
     }
-    false
+    panic!(rt; "the live notes {live} are refused at 64 requests");
 }
 
-// Joins two sets that have nothing in common, at first with so many requests granted, and says whether these were too few;
-// none where a refusal does not leave a set between, or the end is no union.
-fn joins<A: Allocator + Copy>(
+// Joins two sets that have nothing in common, at first with so many requests granted, and says whether these were too few. A
+// refusal leaves a set between.
+fn join<A: Allocator + Copy>(
+    rt: &impl Abort,
     heap: &Metered<Global>,
     one: &mut Notes<A>,
     other: &Notes<A>,
     grants: u64,
-) -> Option<bool> {
+) -> bool {
     let held = one.len();
     let all = held.saturating_add(other.len());
     heap.arm(grants);
     let refused = one.join(other).is_err();
-    let between = held <= one.len() && one.len() <= all && refused == (one.len() < all);
+    let count = one.len();
+    assert!(rt;
+        held <= count && count <= all,
+        "{count} is not between {held} and {all}"
+    );
+    assert_eq!(rt;
+        count < all,
+        refused,
+        "{count} of {all} with {grants} requests"
+    );
     heap.arm(u64::MAX);
-    if between && one.join(other).is_ok() && one.len() == all {
-        Some(refused)
-    } else {
-        None
-    }
+    assert!(rt; one.join(other).is_ok(), "the join is refused with memory");
+    assert_eq!(rt; one.len(), all, "after the join");
+    refused
 }
 
 /// The words of a set, of another one that is joined to it, of the notes that are live then, in their order, and of the
 /// dots of those that have the name of the other set's first note.
-type Case = [&'static [u8]; 4];
+type Case = [&'static str; 4];
 
 // Makes the two sets of a case and joins them, each time with so many requests granted at first. Says whether these were too
-// few; none where anything is wrong.
-fn unites<A: Allocator + Copy>(
-    heap: &Metered<Global>,
-    alloc: A,
-    one: &mut Notes<A>,
-    other: &mut Notes<A>,
-    case: &Case,
-    grants: u64,
-) -> Option<bool> {
-    let [held, came, live, dots] = *case;
-    let mut refused = adds_word(heap, alloc, one, held, grants)?;
-    refused |= adds_word(heap, alloc, other, came, grants)?;
-    refused |= joins(heap, one, other, grants)?;
-    if reads(heap, one, came, live, dots) {
-        Some(refused)
-    } else {
-        None
-    }
-}
-
-// The same of new sets, which take no memory.
-fn comes_out<A: Allocator + Copy>(
+// few. New sets take no memory.
+fn unite<A: Allocator + Copy>(
+    rt: &impl Abort,
     heap: &Metered<Global>,
     alloc: A,
     case: &Case,
     grants: u64,
-) -> Option<bool> {
+) -> bool {
     heap.arm(1_000);
     let mut one = Notes::new(alloc);
     let mut other = Notes::new(alloc);
-    if heap.left() == 1_000 {
-        unites(heap, alloc, &mut one, &mut other, case, grants)
-    } else {
-        None
-    }
+    assert_eq!(rt; heap.left(), 1_000, "requests that are left");
+    let mut refused = add_word(rt, heap, alloc, &mut one, case[0], grants);
+    refused |= add_word(rt, heap, alloc, &mut other, case[1], grants);
+    refused |= join(rt, heap, &mut one, &other, grants);
+    reads(rt, heap, &one, case);
+    refused
 }
 
-// Whether a case comes out right where each request for memory is refused in turn.
-fn survives(heap: &Metered<Global>, case: &Case) -> bool {
+// A case comes out right where each request for memory is refused in turn.
+fn survives(rt: &impl Abort, heap: &Metered<Global>, case: &Case) {
     for grants in 0..64u64 {
-        match comes_out(heap, heap, case, grants) {
-            Some(true) => {}
-            Some(false) => return grants > 0,
-            None => return false,
+        if !unite(rt, heap, heap, case, grants) {
+            assert!(rt; grants > 0, "{case:?} took no memory");
+            return;
         }
     }
-    false
+    panic!(rt; "{case:?} is refused at 64 requests");
 }
 
 const CASES: &[Case] = &[
     // The later note alone is live, in whatever order it, the early one and the early one's removal come.
-    [b"e", b"lE", b"l", b"l"],
-    [b"e", b"El", b"l", b"l"],
-    [b"l", b"eE", b"l", b"l"],
-    [b"l", b"Ee", b"l", b"l"],
-    [b"E", b"el", b"l", b"l"],
-    [b"E", b"le", b"l", b"l"],
+    ["e", "lE", "l", "l"],
+    ["e", "El", "l", "l"],
+    ["l", "eE", "l", "l"],
+    ["l", "Ee", "l", "l"],
+    ["E", "el", "l", "l"],
+    ["E", "le", "l", "l"],
     // The live notes are by name, byte by byte, and then as operations: by dot, and a shorter text first.
-    [b"", b"pqrstcu", b"pqrstcu", b"pq"],
-    [b"uctsr", b"qp", b"pqrstcu", b"pq"],
-    [b"x", b"cd", b"dxc", b"c"],
-    [b"", b"vw", b"vw", b"vw"],
+    ["", "pqrstcu", "pqrstcu", "pq"],
+    ["uctsr", "qp", "pqrstcu", "pq"],
+    ["x", "cd", "dxc", "c"],
+    ["", "vw", "vw", "vw"],
     // The contents of one dot live and go together, a removal hides neither another dot nor what its author has not seen,
     // and a note comes back when its removal is taken back.
-    [b"", b"abc", b"abc", b"a"],
-    [b"", b"abcA", b"", b""],
-    [b"", b"dcP", b"dc", b"d"],
-    [b"aA", b"q", b"q", b"q"],
-    [b"", b"aA", b"", b""],
-    [b"", b"aA-", b"a", b"a"],
+    ["", "abc", "abc", "a"],
+    ["", "abcA", "", ""],
+    ["", "dcP", "dc", "d"],
+    ["aA", "q", "q", "q"],
+    ["", "aA", "", ""],
+    ["", "aA-", "a", "a"],
 ];
 
 #[test]
 fn unremoved_notes_live_by_name_in_every_order(rt: HostRuntime) {
     let heap = Metered::new(rt.alloc());
-    let mut all = true;
     for case in CASES {
-        all &= survives(&heap, case);
+        survives(&rt, &heap, case);
     }
-    assert!(rt; all);
 }

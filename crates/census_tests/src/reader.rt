@@ -1,12 +1,16 @@
 //! Deltas that come in pieces, and bytes that are no delta: they are refused at once and in pieces.
 
-use crate::answers::are_same;
+use crate::answers::{fault_name, read};
 use crate::deltas::is_refused;
-use crate::vectors::{A, ALL, D, F, H, SOME, long_block, many_notes};
+use crate::vectors::{
+    BLOCK, CLAIM, CLAIMED, Delta, EARLY, FIRST, LONG, OLD, OTHERS, REMOVED, SOME, TURNS, many_notes,
+};
 use metered::Metered;
-use oct_delta::{DeltaError, Reader, decode, decode_pieces};
+use oct_delta::{DeltaError, Reader, decode_pieces};
 use oct_ops::Op;
 use std::alloc::{Allocator, Global};
+use std::process::Abort;
+use std::test::Fail;
 
 // Feeds the bytes in pieces of so many.
 fn feed_pieces<A: Allocator + Copy>(
@@ -20,203 +24,209 @@ fn feed_pieces<A: Allocator + Copy>(
     Ok(())
 }
 
-// Whether these are the operations of what was fed.
-fn ends_as<A: Allocator + Copy>(reader: Reader<A>, ops: &[Op<A>]) -> bool {
+// What was fed ends with these operations.
+fn ends_as<A: Allocator + Copy>(rt: &impl Abort, reader: Reader<A>, ops: &[Op<A>]) {
     match reader.finish() {
-        Ok(list) => are_same(list.as_slice(), ops),
-        Err(_) => false,
+        Ok(list) => assert!(rt; list.as_slice() == ops, "{} operations", list.len()),
+        Err(fault) => panic!(rt; "not whole: {}", fault_name(fault)),
     }
 }
 
-// Whether the reader has failed for good.
-fn has_failed<A: Allocator + Copy>(mut reader: Reader<A>) -> bool {
-    let is_shut = reader.items().is_empty() && reader.feed(&[]) == Err(DeltaError::Failed);
-    reader.finish().err() == Some(DeltaError::Failed) && is_shut
+// The reader has failed for good.
+fn has_failed<A: Allocator + Copy>(rt: &impl Abort, mut reader: Reader<A>) {
+    assert_eq!(rt;
+        reader.items().len(),
+        0,
+        "items of a reader that has failed"
+    );
+    assert!(rt;
+        reader.feed(&[]) == Err(DeltaError::Failed),
+        "it is fed again"
+    );
+    assert!(rt;
+        reader.finish().err() == Some(DeltaError::Failed),
+        "it has an end"
+    );
 }
 
-// Whether these are the operations of the text, fed in pieces of so many bytes, after readers that were refused each request
-// for memory in turn, and failed. `heap` counts the requests of `alloc`.
-fn reads_again<A: Allocator + Copy>(
+// The text is read, fed in pieces of so many bytes, after readers that were refused each request for memory in turn, and
+// failed. `heap` counts the requests of `alloc`.
+fn reads_after_refusals<A: Allocator + Copy>(
+    rt: &impl Abort,
     heap: &Metered<Global>,
     alloc: A,
     text: &[u8],
     size: usize,
-    ops: &[Op<A>],
-) -> bool {
+) {
+    heap.arm(u64::MAX);
+    let list = read(rt, alloc, text);
     for grants in 0..1000u64 {
         let mut reader = Reader::new(alloc);
         heap.arm(grants);
         let fed = feed_pieces(&mut reader, text, size);
         heap.arm(u64::MAX);
         match fed {
-            Ok(()) => return ends_as(reader, ops) && grants > 0,
-            Err(refused) => {
-                if !has_failed(reader) || refused != DeltaError::OutOfMemory {
-                    return false;
-                }
+            Ok(()) => {
+                assert!(rt; grants > 0, "{text:?} took no memory");
+                ends_as(rt, reader, list.as_slice());
+                return;
+            }
+            Err(fault) => {
+                assert_eq!(rt; fault_name(fault), "out of memory", "of {text:?}");
+                has_failed(rt, reader);
             }
         }
     }
-    false
-}
-
-fn reads_after_refusals<A: Allocator + Copy>(
-    heap: &Metered<Global>,
-    alloc: A,
-    text: &[u8],
-    size: usize,
-) -> bool {
-    match decode(alloc, text) {
-        Ok(list) => reads_again(heap, alloc, text, size, list.as_slice()),
-        Err(_) => false,
-    }
+    panic!(rt; "{text:?} are refused at a thousand requests");
 }
 
 #[test]
-fn refused_texts_are_read_again_in_pieces(rt: HostRuntime) {
+fn refused_texts_are_read_again_in_pieces(rt: HostRuntime) -> Result<(), Fail> {
     let heap = Metered::new(rt.alloc());
-    let mut all = reads_after_refusals(&heap, &heap, &long_block(), 16)
-        && reads_after_refusals(&heap, &heap, &many_notes(), 16);
-    for text in ALL {
-        all &= reads_after_refusals(&heap, &heap, text, 1);
+    let alloc = rt.alloc();
+    for (_, delta) in SOME {
+        let text = delta.bytes(alloc)?;
+        reads_after_refusals(&rt, &heap, &heap, &text, 1);
+        reads_after_refusals(&rt, &heap, &heap, &text, 16);
     }
-    for text in SOME {
-        all &= reads_after_refusals(&heap, &heap, text, 16);
+    for (_, delta) in OTHERS {
+        reads_after_refusals(&rt, &heap, &heap, &delta.bytes(alloc)?, 1);
     }
-    assert!(rt; all);
-}
-
-// Whether the pieces are read as these operations.
-fn is_read_whole<A: Allocator + Copy>(alloc: A, pieces: &[&[u8]], ops: &[Op<A>]) -> bool {
-    match decode_pieces(alloc, pieces) {
-        Ok(list) => are_same(list.as_slice(), ops),
-        Err(_) => false,
-    }
+    reads_after_refusals(&rt, &heap, &heap, &LONG.bytes(alloc)?, 16);
+    reads_after_refusals(&rt, &heap, &heap, &many_notes(alloc)?, 16);
+    Ok(())
 }
 
 #[test]
-fn a_text_in_pieces_is_read_as_the_whole(rt: HostRuntime) {
+fn a_text_in_pieces_is_read_as_the_whole(rt: HostRuntime) -> Result<(), Fail> {
     let alloc = rt.alloc();
-    let is_read = match decode(alloc, D) {
-        Ok(list) => is_read_whole(alloc, &[&D[..3], &[], &D[3..]], list.as_slice()),
-        Err(_) => false,
-    };
-    assert!(rt; is_read);
+    let text = CLAIMED.bytes(alloc)?;
+    let (front, rest) = text.split_at(text.len().min(3));
+    let whole = read(&rt, alloc, &text);
+    match decode_pieces(alloc, &[front, &[], rest]) {
+        Ok(list) => assert!(rt;
+            list.as_slice() == whole.as_slice(),
+            "{} operations",
+            list.len()
+        ),
+        Err(fault) => panic!(rt; "the pieces: {}", fault_name(fault)),
+    }
+    Ok(())
 }
 
-// A with one more byte.
-const LONGER: &[u8] = b"OGD1\x00\x00\x00\x01\
-      \x00\x00\x00\x01\x00\x00\x00\x01\x01\x00\x02\x07\x07\x00\x00\x00\x00\x00\x05\
-      \x00\x00\x00\x00\x00\x00\x00\x01\x00\x00\x00\x02\x00\x00\x00\x03\x00\x00\x00\x01\x00";
+// The claim before its block, the first block twice, and it with the tag of no format.
+const SWAPPED: Delta<'static> = Delta {
+    tag: OLD,
+    items: &[CLAIM, TURNS],
+};
 
-// D with its operations the other way round.
-const SWAPPED: &[u8] = b"OGD1\x00\x00\x00\x02\
-      \x00\x00\x00\x01\x00\x00\x00\x02\x02\x00\x01\x03\x00\x00\x00\x01\x00\x00\x00\x02\
-      \x00\x00\x00\x01\x00\x00\x00\x01\x01\x00\x01\x03\x00\x00\x00\x00\x00\x07\
-      \x00\x00\x00\x00\x00\x00\x00\x01\x00\x00\x00\x00\x00\x00\x00\x01\
-      \x00\x00\x00\x00\x00\x00\x00\x01\x00\x00\x00\x00";
+const TWICE: Delta<'static> = Delta {
+    tag: OLD,
+    items: &[BLOCK, BLOCK],
+};
 
-// A with its operation twice.
-const TWICE: &[u8] = b"OGD1\x00\x00\x00\x02\
-      \x00\x00\x00\x01\x00\x00\x00\x01\x01\x00\x02\x07\x07\x00\x00\x00\x00\x00\x05\
-      \x00\x00\x00\x00\x00\x00\x00\x01\x00\x00\x00\x02\x00\x00\x00\x03\x00\x00\x00\x01\
-      \x00\x00\x00\x01\x00\x00\x00\x01\x01\x00\x02\x07\x07\x00\x00\x00\x00\x00\x05\
-      \x00\x00\x00\x00\x00\x00\x00\x01\x00\x00\x00\x02\x00\x00\x00\x03\x00\x00\x00\x01";
+const UNKNOWN: Delta<'static> = Delta {
+    tag: b"OGD9",
+    items: &[BLOCK],
+};
 
-// A with a count of 2^32 - 1.
-const COUNTED: &[u8] = b"OGD1\xff\xff\xff\xff\
-      \x00\x00\x00\x01\x00\x00\x00\x01\x01\x00\x02\x07\x07\x00\x00\x00\x00\x00\x05\
-      \x00\x00\x00\x00\x00\x00\x00\x01\x00\x00\x00\x02\x00\x00\x00\x03\x00\x00\x00\x01";
-
-// A with the tag of no format.
-const UNKNOWN: &[u8] = b"OGD9\x00\x00\x00\x01\
-      \x00\x00\x00\x01\x00\x00\x00\x01\x01\x00\x02\x07\x07\x00\x00\x00\x00\x00\x05\
-      \x00\x00\x00\x00\x00\x00\x00\x01\x00\x00\x00\x02\x00\x00\x00\x03\x00\x00\x00\x01";
-
-// Whether the bytes are refused so, at once and byte by byte.
-fn is_refused_twice<A: Allocator + Copy>(alloc: A, bytes: &[u8], error: DeltaError) -> bool {
+// The bytes are refused so, at once and byte by byte.
+fn is_refused_twice(rt: &impl Abort, alloc: Global, bytes: &[u8], fault: DeltaError) {
+    is_refused(rt, alloc, bytes, fault);
     let mut reader = Reader::new(alloc);
     let fed = feed_pieces(&mut reader, bytes, 1);
     let ended = reader.finish().err();
     let refused = match fed {
-        Ok(()) => ended,
-        Err(refused) => Some(refused),
+        Ok(()) => ended.map_or("read", fault_name),
+        Err(refused) => fault_name(refused),
     };
-    refused == Some(error) && is_refused(alloc, bytes, error)
+    assert_eq!(rt; refused, fault_name(fault), "of {bytes:?} in pieces");
+}
+
+// Each proper prefix of the text is refused.
+fn prefixes_are_refused(rt: &impl Abort, alloc: Global, text: &[u8]) {
+    for end in 0..text.len() {
+        let fault = if end < 4 {
+            DeltaError::Version
+        } else {
+            DeltaError::Refused
+        };
+        is_refused_twice(rt, alloc, &text[..end], fault);
+    }
 }
 
 #[test]
-fn other_bytes_and_proper_prefixes_are_refused(rt: HostRuntime) {
-    let mut all = is_refused_twice(rt.alloc(), UNKNOWN, DeltaError::Version);
-    for bytes in &[LONGER, SWAPPED, TWICE, COUNTED] {
-        all &= is_refused_twice(rt.alloc(), bytes, DeltaError::Refused);
+fn other_bytes_and_proper_prefixes_are_refused(rt: HostRuntime) -> Result<(), Fail> {
+    let alloc = rt.alloc();
+    is_refused_twice(&rt, alloc, &UNKNOWN.bytes(alloc)?, DeltaError::Version);
+    is_refused_twice(&rt, alloc, &SWAPPED.bytes(alloc)?, DeltaError::Refused);
+    is_refused_twice(&rt, alloc, &TWICE.bytes(alloc)?, DeltaError::Refused);
+    // one more byte, and a count of 2^32 - 1
+    let mut longer = FIRST.bytes(alloc)?;
+    longer.push(0)?;
+    is_refused_twice(&rt, alloc, &longer, DeltaError::Refused);
+    let mut counted = FIRST.bytes(alloc)?;
+    for byte in counted.iter_mut().skip(4).take(4) {
+        *byte = 0xff;
     }
-    for text in &[A, D, F, H] {
-        for end in 0..text.len() {
-            let error = if end < 4 {
-                DeltaError::Version
-            } else {
-                DeltaError::Refused
-            };
-            all &= is_refused_twice(rt.alloc(), &text[..end], error);
-        }
+    is_refused_twice(&rt, alloc, &counted, DeltaError::Refused);
+    for delta in &[FIRST, CLAIMED, EARLY, REMOVED] {
+        prefixes_are_refused(&rt, alloc, &delta.bytes(alloc)?);
     }
-    assert!(rt; all);
+    Ok(())
 }
 
-// Whether a reader has, after the bytes of D from one place to another, the operations that are whole.
-fn reads_on<A: Allocator + Copy>(
-    reader: &mut Reader<A>,
-    ops: &[Op<A>],
-    start: usize,
+// A reader has, after the pieces, the operations that are whole: the block of 46 bytes comes after the tag and the count of
+// 8, and the claim of 20 after it.
+fn reads_on(
+    rt: &impl Abort,
+    reader: &mut Reader<Global>,
+    piece: &[u8],
     end: usize,
-) -> bool {
+    ops: &[Op<Global>],
+) {
     let whole = match end {
         0..=53 => 0,
         54..=73 => 1,
         _ => 2,
     };
-    reader.feed(D.get(start..end).unwrap_or(&[])).is_ok()
-        && reader.items().len() == whole
-        && ops.starts_with(reader.items())
-}
-
-// Whether a reader of D, cut at two places, does so after each piece.
-fn reads_cut<A: Allocator + Copy>(alloc: A, ops: &[Op<A>], first: usize, second: usize) -> bool {
-    let mut reader = Reader::new(alloc);
-    let mut all = true;
-    let mut start = 0;
-    for end in [first, second, D.len()] {
-        all &= reads_on(&mut reader, ops, start, end);
-        start = end;
-    }
-    ends_as(reader, ops) && all
-}
-
-// Whether that holds at each pair of places.
-fn reads_every_cut<A: Allocator + Copy>(alloc: A) -> bool {
-    let Ok(list) = decode(alloc, D) else {
-        return false;
-    };
-    let mut all = list.len() == 2;
-    for first in 0..=D.len() {
-        for second in first..=D.len() {
-            all &= reads_cut(alloc, list.as_slice(), first, second);
-        }
-    }
-    all
-}
-
-// Whether a reader that has an operation refuses what follows, and has failed then.
-fn fails_for_good<A: Allocator + Copy>(alloc: A) -> bool {
-    let mut reader = Reader::new(alloc);
-    let is_refused = reader.feed(&D[..60]).is_ok()
-        && reader.items().len() == 1
-        && reader.feed(&[9; 20]) == Err(DeltaError::Refused);
-    has_failed(reader) && is_refused
+    assert!(rt; reader.feed(piece).is_ok(), "{piece:?} up to {end}");
+    let items = reader.items();
+    assert_eq!(rt; items.len(), whole, "items up to {end}");
+    assert!(rt; ops.starts_with(items), "other items up to {end}");
 }
 
 #[test]
-fn operations_come_as_they_are_whole_and_readers_fail_for_good(rt: HostRuntime) {
-    assert!(rt; reads_every_cut(rt.alloc()) && fails_for_good(rt.alloc()));
+fn operations_come_as_they_are_whole(rt: HostRuntime) -> Result<(), Fail> {
+    let alloc = rt.alloc();
+    let text = CLAIMED.bytes(alloc)?;
+    let list = read(&rt, alloc, &text);
+    assert_eq!(rt; (text.len(), list.len()), (74, 2));
+    for first in 0..=text.len() {
+        for second in first..=text.len() {
+            let mut reader = Reader::new(alloc);
+            let mut start = 0;
+            for end in [first, second, text.len()] {
+                let piece = text.get(start..end).unwrap_or(&[]);
+                reads_on(&rt, &mut reader, piece, end, list.as_slice());
+                start = end;
+            }
+            ends_as(&rt, reader, list.as_slice());
+        }
+    }
+    Ok(())
+}
+
+// A reader that has an operation refuses what follows, and has failed then.
+#[test]
+fn readers_fail_for_good(rt: HostRuntime) -> Result<(), Fail> {
+    let alloc = rt.alloc();
+    let text = CLAIMED.bytes(alloc)?;
+    let mut reader = Reader::new(alloc);
+    let front = text.get(..60).expect(&rt, "the front");
+    assert!(rt; reader.feed(front).is_ok());
+    assert_eq!(rt; reader.items().len(), 1);
+    assert!(rt; reader.feed(&[9; 20]) == Err(DeltaError::Refused));
+    has_failed(&rt, reader);
+    Ok(())
 }

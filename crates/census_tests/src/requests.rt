@@ -1,26 +1,30 @@
 //! The allocator that refuses requests.
 
-use crate::answers::are_same;
 use metered::Metered;
 use std::alloc::{Allocator, Global};
+use std::process::Abort;
 
-const ONE: &[u64] = &[1];
-
-// Whether the heap counts the requests of a list that grows, and refuses them.
-fn counts_of<A: Allocator>(heap: &Metered<Global>, numbers: &mut Vec<u64, A>) -> bool {
+// The heap counts the requests of a list that grows, and refuses them. The list asks for memory by `alloc`.
+fn counts<A: Allocator>(rt: &impl Abort, heap: &Metered<Global>, alloc: A) {
+    assert_eq!(rt; heap.left(), u64::MAX, "at first");
+    let mut numbers = Vec::new(alloc);
     heap.arm(0);
-    let is_refused = numbers.push(1).is_err() && numbers.is_empty();
+    assert!(rt;
+        numbers.push(1u64).is_err(),
+        "a request without a grant is granted"
+    );
+    assert_eq!(rt; numbers.len(), 0);
     heap.arm(2);
-    is_refused && numbers.push(1).is_ok() && heap.left() == 1 && are_same(numbers.as_slice(), ONE)
-}
-
-// Whether that is so of a new list, which asks for memory by `alloc`.
-fn counts<A: Allocator>(heap: &Metered<Global>, alloc: A) -> bool {
-    heap.left() == u64::MAX && counts_of(heap, &mut Vec::new(alloc))
+    assert!(rt;
+        numbers.push(1).is_ok(),
+        "a request with a grant is refused"
+    );
+    assert_eq!(rt; heap.left(), 1, "after one request");
+    assert_eq!(rt; numbers.as_slice(), [1].as_slice());
 }
 
 #[test]
 fn requests_are_counted_and_refused(rt: HostRuntime) {
     let heap = Metered::new(rt.alloc());
-    assert!(rt; counts(&heap, &heap));
+    counts(&rt, &heap, &heap);
 }

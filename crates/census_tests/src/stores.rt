@@ -1,205 +1,195 @@
 //! Stores: what they show, insertions and joins, where each request for memory is refused in turn; and calls that make none.
 
-use crate::answers::{are_same, is_equal};
+use crate::answers::{code, is_equal, read};
 use crate::deltas::is_refused;
-use crate::vectors::{A, B, C, D, I, many_notes};
+use crate::vectors::{
+    BLOCK, CLAIMED, Delta, FIRST, FORKED, Item, KAYLES, NEXT, OLD, UNTOLD, many_notes,
+};
 use metered::Metered;
-use oct_code::Code;
-use oct_delta::{DeltaError, Reader, decode, decode_clock, op_size};
+use oct_delta::{DeltaError, Reader, op_size};
 use oct_join::{Clock, Join};
 use oct_ops::Op;
 use oct_store::{Author, Fork, Store};
 use std::alloc::{Allocator, Global};
+use std::process::Abort;
+use std::test::Fail;
 
-// The operations of A, C, B and I in order: two blocks of one dot, another block, and the notes 5.1 and 5.3.
-const ALL: &[u8] = b"OGD1\x00\x00\x00\x05\
-      \x00\x00\x00\x01\x00\x00\x00\x01\x01\x00\x02\x07\x07\x00\x00\x00\x00\x00\x05\
-      \x00\x00\x00\x00\x00\x00\x00\x01\x00\x00\x00\x02\x00\x00\x00\x03\x00\x00\x00\x01\
-      \x00\x00\x00\x01\x00\x00\x00\x01\x01\x00\x02\x07\x07\x00\x00\x00\x01\x00\x04\
-      \x00\x00\x00\x01\x00\x00\x00\x02\x00\x00\x00\x03\x00\x00\x00\x01\
-      \x00\x00\x00\x02\x00\x00\x00\x01\x01\x00\x02\x07\x07\x00\x00\x00\x05\x00\x03\
-      \x00\x00\x00\x04\x00\x00\x00\x03\x00\x00\x00\x02\
-      \x00\x00\x00\x05\x00\x00\x00\x01\x03\x01a\x00\
-      \x00\x00\x00\x05\x00\x00\x00\x03\x03\x01a\x00";
+// Five operations in order: two blocks of one dot, another block, and the notes 5.1 and 5.3.
+const FIVE: Delta<'static> = Delta {
+    tag: OLD,
+    items: &[
+        BLOCK,
+        Item::Block(1, 1, KAYLES, 1, &[1, 2, 3, 1]),
+        Item::Block(2, 1, KAYLES, 5, &[4, 3, 2]),
+        Item::Note(5, 1, b"a", b""),
+        Item::Note(5, 3, b"a", b""),
+    ],
+};
 
 // Their clock, which covers all but the last.
-const CLOCK: &[u8] = b"\x00\x00\x00\x03\x00\x00\x00\x01\
-      \x00\x00\x00\x01\x00\x00\x00\x02\x00\x00\x00\x01\x00\x00\x00\x05\x00\x00\x00\x01";
+const ENTRIES: &[(u32, u32)] = &[(1, 1), (2, 1), (5, 1)];
 
-// Inserts a copy of the operation, and says whether it is new. Where memory is refused the operation comes back, and there is
-// no answer.
-fn puts_with<A: Allocator + Copy>(store: &mut Store<A>, op: &Op<A>, copy: Op<A>) -> Option<bool> {
-    match store.insert(copy) {
-        Ok(added) => Some(added),
-        Err((_, back)) => if is_equal(back, op) {
-            None
-        } else {
-            Some(false)
-        },
-    }
-}
-
-// Whether the operation is new to the store, after each request for memory was refused in turn and left it out. There is
-// one at least where the store was empty. `heap` counts the requests of `alloc`, here and below.
-fn puts<A: Allocator + Copy>(
+// The store takes in the operation after each request for memory was refused in turn, which left it out and gave it back.
+// There is one request at least where the store was empty. The answer is whether the operation is new. `heap` counts the
+// requests of `alloc`, here and below.
+fn insert<A: Allocator + Copy>(
+    rt: &impl Abort,
     heap: &Metered<Global>,
     alloc: A,
     store: &mut Store<A>,
     op: &Op<A>,
 ) -> bool {
+    let count = store.len();
+    let was_there = store.contains(op);
     for grants in 0..100u64 {
-        let Ok(copy) = op.copy(alloc) else {
-            return false;
-        };
+        let copy = op.copy(alloc).ok().expect(rt, "a copy");
         heap.arm(grants);
-        let answer = puts_with(store, op, copy);
+        let inserted = store.insert(copy);
         heap.arm(u64::MAX);
-        if let Some(added) = answer {
-            return added && store.contains(op) && (grants > 0 || store.len() > 1);
-        }
-        if store.contains(op) {
-            return false;
+        match inserted {
+            Ok(is_new) => {
+                assert!(rt; store.contains(op), "operation {count} is not there");
+                assert!(rt; grants > 0 || count > 0, "it took no memory");
+                return is_new;
+            }
+            Err((_, back)) => {
+                assert!(rt;
+                    is_equal(back, op),
+                    "another operation than {count} came back"
+                );
+                assert_eq!(rt; store.contains(op), was_there, "operation {count} is there");
+            }
         }
     }
-    false
+    panic!(rt; "operation {count} is refused at a hundred requests");
 }
 
-// Whether the operations are new to the store, which takes them in so.
-fn takes_ops<A: Allocator + Copy>(
+// The store takes in the operations, which are new to it, or all there.
+fn insert_all<A: Allocator + Copy>(
+    rt: &impl Abort,
     heap: &Metered<Global>,
     alloc: A,
     store: &mut Store<A>,
     ops: &[Op<A>],
-) -> bool {
-    let mut all = true;
-    for op in ops {
-        all &= puts(heap, alloc, store, op);
-    }
-    all
-}
-
-fn takes<A: Allocator + Copy>(
-    heap: &Metered<Global>,
-    alloc: A,
-    store: &mut Store<A>,
-    delta: &[u8],
-) -> bool {
-    match decode(alloc, delta) {
-        Ok(list) => takes_ops(heap, alloc, store, list.as_slice()),
-        Err(_) => false,
+    are_new: bool,
+) {
+    for (number, op) in ops.iter().enumerate() {
+        let is_new = insert(rt, heap, alloc, store, op);
+        assert_eq!(rt; is_new, are_new, "operation {number} is new");
     }
 }
 
-// Whether the store has the first of the operations, perhaps some more of them, and no other.
-fn has_some<A: Allocator + Copy>(store: &Store<A>, ops: &[Op<A>]) -> bool {
-    let mut all = match ops {
-        [first, ..] => store.contains(first),
-        [] => false,
-    };
-    for op in store.iter() {
-        all &= ops.contains(op);
+// The store has the first of the operations, perhaps some more of them, and no other.
+fn has_some<A: Allocator + Copy>(rt: &impl Abort, store: &Store<A>, ops: &[Op<A>]) {
+    let first = ops.first().expect(rt, "an operation");
+    assert!(rt; store.contains(first), "the first one is not there");
+    for (number, op) in store.iter().enumerate() {
+        assert!(rt;
+            ops.contains(op),
+            "operation {number} of the store is another one"
+        );
     }
-    all
 }
 
-fn has_all<A: Allocator + Copy>(store: &Store<A>, ops: &[Op<A>]) -> bool {
-    store.len() == ops.len() && has_some(store, ops)
+fn has_all<A: Allocator + Copy>(rt: &impl Abort, store: &Store<A>, ops: &[Op<A>]) {
+    assert_eq!(rt; store.len(), ops.len(), "operations of the store");
+    has_some(rt, store, ops);
 }
 
-// The authors of all these operations, of each of whom the first one is there.
-const AUTHORS: &[Author] = &[
-    Author {
-        author: 1,
-        through: 1,
-        last: 1,
-    },
-    Author {
-        author: 2,
-        through: 1,
-        last: 1,
-    },
-    Author {
-        author: 5,
-        through: 1,
-        last: 3,
-    },
-];
+// The authors of all these operations, of each of whom the first one is there: through which number they are known, and the
+// last number.
+const AUTHORS: &[(u32, u32, u32)] = &[(1, 1, 1), (2, 1, 1), (5, 1, 3)];
 
-// Whether the one fork is that of the two blocks 1.1.
-fn are_forks(forks: &[Fork]) -> bool {
-    match forks {
-        [fork] => fork.contents == 2 && fork.dot.author() == 1 && fork.dot.number() == 1,
-        _ => false,
+fn are_authors(rt: &impl Abort, authors: &[Author]) {
+    assert_eq!(rt; authors.len(), AUTHORS.len(), "authors");
+    for (author, wanted) in authors.iter().zip(AUTHORS) {
+        let shown = (author.author, author.through, author.last);
+        assert_eq!(rt; shown, *wanted, "author, through and last");
+    }
+}
+
+// The one fork is that of the two blocks 1.1.
+fn are_forks(rt: &impl Abort, forks: &[Fork]) {
+    assert_eq!(rt; forks.len(), 1, "forks");
+    for fork in forks {
+        let shown = (fork.dot.author(), fork.dot.number(), fork.contents);
+        assert_eq!(rt; shown, (1, 1, 2), "author, number and contents");
     }
 }
 
 /// A call that sums up a store.
-#[derive(Clone, Copy)]
+#[derive(Clone, Copy, Debug)]
 enum Summary {
     Clock,
     Authors,
     Forks,
 }
 
-// Whether the summary of a store with all those operations is right, or nothing without memory.
-fn sums_up<A: Allocator + Copy>(
-    store: &Store<A>,
-    summary: Summary,
-    clock: &Clock<A>,
-) -> Option<bool> {
+// The summary of a store with all those operations is right, or there is none without memory; the answer says whether there
+// is one.
+fn sums_up<A: Allocator + Copy>(rt: &impl Abort, store: &Store<A>, summary: Summary) -> bool {
     match summary {
         Summary::Clock => match store.clock() {
-            Ok(read) => Some(are_same(read.entries(), clock.entries())),
-            Err(_) => None,
+            Ok(clock) => {
+                assert_eq!(rt; clock.entries(), ENTRIES);
+                true
+            }
+            Err(_) => false,
         },
         Summary::Authors => match store.authors() {
-            Ok(authors) => Some(are_same(authors.as_slice(), AUTHORS)),
-            Err(_) => None,
+            Ok(authors) => {
+                are_authors(rt, &authors);
+                true
+            }
+            Err(_) => false,
         },
         Summary::Forks => match store.forks() {
-            Ok(forks) => Some(are_forks(&forks)),
-            Err(_) => None,
+            Ok(forks) => {
+                are_forks(rt, &forks);
+                true
+            }
+            Err(_) => false,
         },
     }
 }
 
-// Whether it is right after each request for memory was refused in turn.
+// It is right after each request for memory was refused in turn.
 fn sums_up_again<A: Allocator + Copy>(
+    rt: &impl Abort,
     heap: &Metered<Global>,
     store: &Store<A>,
     summary: Summary,
-    clock: &Clock<A>,
-) -> bool {
+) {
     for grants in 0..100u64 {
         heap.arm(grants);
-        let answer = sums_up(store, summary, clock);
+        let is_there = sums_up(rt, store, summary);
         heap.arm(u64::MAX);
-        if let Some(right) = answer {
-            return right && grants > 0;
+        if is_there {
+            assert!(rt; grants > 0, "{summary:?} took no memory");
+            return;
         }
     }
-    false
+    panic!(rt; "{summary:?} is refused at a hundred requests");
 }
 
 /// A call that copies operations of a store.
-#[derive(Clone, Copy)]
+#[derive(Clone, Copy, Debug)]
 enum Choice {
     All,
     Beyond,
     OfGame,
 }
 
-// Whether these operations are copied after each request for memory was refused in turn.
+// These operations are copied after each request for memory was refused in turn.
 fn copies_again<A: Allocator + Copy>(
+    rt: &impl Abort,
     heap: &Metered<Global>,
     store: &Store<A>,
     choice: Choice,
     clock: &Clock<A>,
     ops: &[Op<A>],
-) -> bool {
-    let Ok(game) = Code::parse(b"0.77") else {
-        return false;
-    };
+) {
+    let game = code(rt, "0.77");
     for grants in 0..100u64 {
         heap.arm(grants);
         let answer = match choice {
@@ -209,213 +199,153 @@ fn copies_again<A: Allocator + Copy>(
         };
         heap.arm(u64::MAX);
         if let Ok(list) = answer {
-            return grants > 0 && are_same(list.as_slice(), ops);
+            assert!(rt; grants > 0, "{choice:?} took no memory");
+            assert_eq!(rt; list.len(), ops.len(), "operations of {choice:?}");
+            assert!(rt; list.as_slice() == ops, "other operations of {choice:?}");
+            return;
         }
     }
-    false
+    panic!(rt; "{choice:?} is refused at a hundred requests");
 }
 
-// Whether all these calls answer so of a store with those operations: the three blocks come first, and what the clock does
-// not cover last.
+// All these calls answer so of a store with those operations: the three blocks come first, and what the clock does not cover
+// last.
 fn answers<A: Allocator + Copy>(
+    rt: &impl Abort,
     heap: &Metered<Global>,
     store: &Store<A>,
     ops: &[Op<A>],
-    clock: &Clock<A>,
-) -> bool {
-    let (Some(blocks), Some(last)) = (ops.get(..3), ops.get(4..)) else {
-        return false;
-    };
-    sums_up_again(heap, store, Summary::Clock, clock)
-        && sums_up_again(heap, store, Summary::Authors, clock)
-        && sums_up_again(heap, store, Summary::Forks, clock)
-        && copies_again(heap, store, Choice::All, clock, ops)
-        && copies_again(heap, store, Choice::Beyond, clock, last)
-        && copies_again(heap, store, Choice::OfGame, clock, blocks)
-}
-
-// Whether that is so with the clock of those operations.
-fn answers_by_clock<A: Allocator + Copy>(
-    heap: &Metered<Global>,
-    alloc: A,
-    store: &Store<A>,
-    ops: &[Op<A>],
-) -> bool {
-    match decode_clock(alloc, CLOCK) {
-        Ok(clock) => answers(heap, store, ops, &clock),
-        Err(_) => false,
+) {
+    for summary in [Summary::Clock, Summary::Authors, Summary::Forks] {
+        sums_up_again(rt, heap, store, summary);
     }
+    let clock = store.clock().ok().expect(rt, "the clock");
+    let blocks = ops.get(..3).expect(rt, "three blocks");
+    let last = ops.get(4..).expect(rt, "the last one");
+    copies_again(rt, heap, store, Choice::All, &clock, ops);
+    copies_again(rt, heap, store, Choice::Beyond, &clock, last);
+    copies_again(rt, heap, store, Choice::OfGame, &clock, blocks);
 }
 
-// Whether a store into which the deltas come, each twice, has these operations and answers so.
+// A store into which deltas come, each twice, has these operations and answers so.
 fn shows<A: Allocator + Copy>(
+    rt: &impl Abort,
     heap: &Metered<Global>,
     alloc: A,
-    store: &mut Store<A>,
-    ops: &[Op<A>],
-) -> bool {
-    let mut all = true;
-    for delta in &[C, I, A, B] {
-        all &= takes(heap, alloc, store, delta);
-        all &= !takes(heap, alloc, store, delta);
+    deltas: &[&[u8]],
+    all: &[u8],
+) {
+    let mut store = Store::new(alloc);
+    for delta in deltas {
+        let list = read(rt, alloc, delta);
+        insert_all(rt, heap, alloc, &mut store, list.as_slice(), true);
+        insert_all(rt, heap, alloc, &mut store, list.as_slice(), false);
     }
-    all && has_all(store, ops) && answers_by_clock(heap, alloc, store, ops)
+    let all = read(rt, alloc, all);
+    has_all(rt, &store, all.as_slice());
+    answers(rt, heap, &store, all.as_slice());
 }
 
-// Whether a store with the operation of A is joined with the other, after each request for memory was refused in turn and
-// left a set between.
-fn joins_again<A: Allocator + Copy>(
-    heap: &Metered<Global>,
-    alloc: A,
-    other: &Store<A>,
-    ops: &[Op<A>],
-) -> bool {
+#[test]
+fn stores_show_what_they_hold(rt: HostRuntime) -> Result<(), Fail> {
+    let heap = Metered::new(rt.alloc());
+    let alloc = rt.alloc();
+    let forked = FORKED.bytes(alloc)?;
+    let untold = UNTOLD.bytes(alloc)?;
+    let first = FIRST.bytes(alloc)?;
+    let next = NEXT.bytes(alloc)?;
+    let all = FIVE.bytes(alloc)?;
+    shows(&rt, &heap, &heap, &[&forked, &untold, &first, &next], &all);
+    Ok(())
+}
+
+// A store with the first of the operations is joined with one that has the others, after each request for memory was refused
+// in turn and left a set between.
+fn joins_again<A: Allocator + Copy>(rt: &impl Abort, heap: &Metered<Global>, alloc: A, all: &[u8]) {
+    let list = read(rt, alloc, all);
+    let (first, others) = list.as_slice().split_at(list.len().min(1));
+    let mut other = Store::new(alloc);
+    insert_all(rt, heap, alloc, &mut other, others, true);
     for grants in 0..100u64 {
         let mut store = Store::new(alloc);
-        if !takes(heap, alloc, &mut store, A) {
-            return false;
-        }
+        insert_all(rt, heap, alloc, &mut store, first, true);
         heap.arm(grants);
-        let joined = store.join(other);
+        let joined = store.join(&other);
         heap.arm(u64::MAX);
         if joined.is_ok() {
-            return grants > 0 && has_all(&store, ops);
+            assert!(rt; grants > 0, "the join took no memory");
+            has_all(rt, &store, list.as_slice());
+            return;
         }
-        if !has_some(&store, ops) {
-            return false;
-        }
+        has_some(rt, &store, list.as_slice());
     }
-    false
+    panic!(rt; "the join is refused at a hundred requests");
 }
 
-// Whether that is so of another store, into which the other deltas come first.
-fn is_joined<A: Allocator + Copy>(
-    heap: &Metered<Global>,
-    alloc: A,
-    other: &mut Store<A>,
-    ops: &[Op<A>],
-) -> bool {
-    let mut all = true;
-    for delta in &[C, I, B] {
-        all &= takes(heap, alloc, other, delta);
-    }
-    all && joins_again(heap, alloc, other, ops)
+// A new store takes in the operations, and has them and no other.
+fn holds<A: Allocator + Copy>(rt: &impl Abort, heap: &Metered<Global>, alloc: A, delta: &[u8]) {
+    let list = read(rt, alloc, delta);
+    let mut store = Store::new(alloc);
+    insert_all(rt, heap, alloc, &mut store, list.as_slice(), true);
+    has_all(rt, &store, list.as_slice());
 }
 
-// Whether a new reader has nothing.
-fn new_reader_is_empty<A: Allocator + Copy>(alloc: A) -> bool {
-    let reader = Reader::new(alloc);
-    reader.items().is_empty()
+#[test]
+fn refused_insertions_and_joins_are_made_again(rt: HostRuntime) -> Result<(), Fail> {
+    let heap = Metered::new(rt.alloc());
+    let alloc = rt.alloc();
+    holds(&rt, &heap, &heap, &many_notes(alloc)?);
+    joins_again(&rt, &heap, &heap, &FIVE.bytes(alloc)?);
+    Ok(())
 }
 
-// Whether a new store has nothing.
-fn new_store_is_empty<A: Allocator + Copy>(alloc: A) -> bool {
-    let store = Store::new(alloc);
-    store.is_empty() && store.len() == 0 && store.last(1) == 0
-}
-
-// Whether a store of two operations, of which the second is removed, answers as it should.
-fn removes<A: Allocator + Copy>(store: &mut Store<A>, block: &Op<A>, claim: &Op<A>) -> bool {
-    store.contains(claim)
-        && store.last(1) == 2
-        && store.len() == 2
-        && store.remove(claim)
-        && !store.remove(claim)
-        && store.contains(block)
-        && !store.contains(claim)
-        && store.last(1) == 1
-        && store.len() == 1
-        && !store.is_empty()
-}
-
-// Whether these calls make no request for memory, and answer as they should for the operations of D.
-fn makes_no_request<A: Allocator + Copy>(
-    heap: &Metered<Global>,
-    alloc: A,
+// A store of two operations, of which the second is removed, answers as it should.
+fn removes<A: Allocator + Copy>(
+    rt: &impl Abort,
+    store: &mut Store<A>,
     block: &Op<A>,
     claim: &Op<A>,
-    store: &mut Store<A>,
-) -> bool {
+) {
+    assert!(rt; store.contains(claim), "the claim is not there");
+    assert_eq!(rt; (store.len(), store.last(1)), (2, 2));
+    assert!(rt; store.remove(claim), "the claim is not removed");
+    assert!(rt; !store.remove(claim), "the claim is removed twice");
+    assert!(rt; !store.contains(claim), "the claim is there");
+    assert!(rt; store.contains(block), "the block is not there");
+    assert_eq!(rt; (store.len(), store.last(1)), (1, 1));
+    assert!(rt; !store.is_empty());
+}
+
+// These calls make no request for memory, and answer as they should for the block and the claim.
+fn makes_no_request<A: Allocator + Copy>(
+    rt: &impl Abort,
+    heap: &Metered<Global>,
+    alloc: A,
+    text: &[u8],
+) {
+    let list = read(rt, alloc, text);
+    let [block, claim] = list.as_slice() else {
+        panic!(rt; "{} operations", list.len());
+    };
+    let mut store = Store::new(alloc);
+    insert_all(rt, heap, alloc, &mut store, list.as_slice(), true);
     heap.arm(1_000);
-    is_refused(alloc, b"OGD9\x00\x00\x00\x00", DeltaError::Version)
-        && is_refused(alloc, &D[..60], DeltaError::Refused)
-        && op_size(block) == 46
-        && op_size(claim) == 20
-        && new_reader_is_empty(alloc)
-        && new_store_is_empty(alloc)
-        && removes(store, block, claim)
-        && heap.left() == 1_000
-}
-
-// The same of the two operations of D, which the store takes in first.
-fn makes_none_on_d<A: Allocator + Copy>(
-    heap: &Metered<Global>,
-    alloc: A,
-    store: &mut Store<A>,
-    ops: &[Op<A>],
-) -> bool {
-    match ops {
-        [block, claim] => {
-            takes_ops(heap, alloc, store, ops) && makes_no_request(heap, alloc, block, claim, store)
-        }
-        _ => false,
-    }
-}
-
-/// What a new store does with operations.
-#[derive(Clone, Copy)]
-enum Trial {
-    /// It takes them in, and has them and no other.
-    Hold,
-    Show,
-    Join,
-    MakeNoRequest,
-}
-
-// Whether the store does so.
-fn does<A: Allocator + Copy>(
-    heap: &Metered<Global>,
-    alloc: A,
-    store: &mut Store<A>,
-    ops: &[Op<A>],
-    trial: Trial,
-) -> bool {
-    match trial {
-        Trial::Hold => takes_ops(heap, alloc, store, ops) && has_all(store, ops),
-        Trial::Show => shows(heap, alloc, store, ops),
-        Trial::Join => is_joined(heap, alloc, store, ops),
-        Trial::MakeNoRequest => makes_none_on_d(heap, alloc, store, ops),
-    }
-}
-
-// Whether a new store does so with the operations of the delta.
-fn new_one_does<A: Allocator + Copy>(
-    heap: &Metered<Global>,
-    alloc: A,
-    delta: &[u8],
-    trial: Trial,
-) -> bool {
-    match decode(alloc, delta) {
-        Ok(list) => does(heap, alloc, &mut Store::new(alloc), list.as_slice(), trial),
-        Err(_) => false,
-    }
+    is_refused(rt, alloc, b"OGD9\x00\x00\x00\x00", DeltaError::Version);
+    let front = text.get(..60).unwrap_or(text);
+    is_refused(rt, alloc, front, DeltaError::Refused);
+    assert_eq!(rt; (op_size(block), op_size(claim)), (46, 20));
+    let reader = Reader::new(alloc);
+    assert!(rt; reader.items().is_empty());
+    let empty = Store::new(alloc);
+    assert!(rt; empty.is_empty());
+    assert_eq!(rt; (empty.len(), empty.last(1)), (0, 0));
+    removes(rt, &mut store, block, claim);
+    assert_eq!(rt; heap.left(), 1_000, "requests that are left");
 }
 
 #[test]
-fn stores_show_what_they_hold(rt: HostRuntime) {
+fn some_calls_make_no_request(rt: HostRuntime) -> Result<(), Fail> {
     let heap = Metered::new(rt.alloc());
-    assert!(rt; new_one_does(&heap, &heap, ALL, Trial::Show));
-}
-
-#[test]
-fn refused_insertions_and_joins_are_made_again(rt: HostRuntime) {
-    let heap = Metered::new(rt.alloc());
-    assert!(rt; new_one_does(&heap, &heap, &many_notes(), Trial::Hold));
-    assert!(rt; new_one_does(&heap, &heap, ALL, Trial::Join));
-}
-
-#[test]
-fn some_calls_make_no_request(rt: HostRuntime) {
-    let heap = Metered::new(rt.alloc());
-    assert!(rt; new_one_does(&heap, &heap, D, Trial::MakeNoRequest));
+    makes_no_request(&rt, &heap, &heap, &CLAIMED.bytes(rt.alloc())?);
+    Ok(())
 }

@@ -1,85 +1,235 @@
-//! Worked texts of deltas, and two long ones.
+//! Worked deltas, written field by field, and two long ones.
 
-/// Kayles from place 0, by author 1.
-pub const A: &[u8] = b"OGD1\x00\x00\x00\x01\
-      \x00\x00\x00\x01\x00\x00\x00\x01\x01\x00\x02\x07\x07\x00\x00\x00\x00\x00\x05\
-      \x00\x00\x00\x00\x00\x00\x00\x01\x00\x00\x00\x02\x00\x00\x00\x03\x00\x00\x00\x01";
+use std::alloc::{AllocError, Global};
+use std::test::Fail;
 
-/// Kayles from place 5, by author 2.
-pub const B: &[u8] = b"OGD1\x00\x00\x00\x01\
-      \x00\x00\x00\x02\x00\x00\x00\x01\x01\x00\x02\x07\x07\x00\x00\x00\x05\x00\x03\
-      \x00\x00\x00\x04\x00\x00\x00\x03\x00\x00\x00\x02";
-
-/// Kayles from place 1, by author 1.
-pub const C: &[u8] = b"OGD1\x00\x00\x00\x01\
-      \x00\x00\x00\x01\x00\x00\x00\x01\x01\x00\x02\x07\x07\x00\x00\x00\x01\x00\x04\
-      \x00\x00\x00\x01\x00\x00\x00\x02\x00\x00\x00\x03\x00\x00\x00\x01";
-
-/// A block and a period claim of 0.3, by author 1.
-pub const D: &[u8] = b"OGD1\x00\x00\x00\x02\
-      \x00\x00\x00\x01\x00\x00\x00\x01\x01\x00\x01\x03\x00\x00\x00\x00\x00\x07\
-      \x00\x00\x00\x00\x00\x00\x00\x01\x00\x00\x00\x00\x00\x00\x00\x01\
-      \x00\x00\x00\x00\x00\x00\x00\x01\x00\x00\x00\x00\
-      \x00\x00\x00\x01\x00\x00\x00\x02\x02\x00\x01\x03\x00\x00\x00\x01\x00\x00\x00\x02";
-
-/// The last place that the old format can name.
-pub const E: &[u8] = b"OGD1\x00\x00\x00\x01\
-      \x00\x00\x00\x01\x00\x00\x00\x01\x01\x00\x02\x07\x07\x00\x00\x0f\xff\x00\x01\x00\x00\x00\x00";
-
-/// A note of author 1.
-pub const F: &[u8] = b"OGD1\x00\x00\x00\x01\x00\x00\x00\x01\x00\x00\x00\x01\x03\x06kayles\x05early";
-
-/// A second note of author 1.
-pub const G: &[u8] = b"OGD1\x00\x00\x00\x01\x00\x00\x00\x01\x00\x00\x00\x02\x03\x06kayles\x05later";
-
-/// The removal of the first note, by author 2.
-pub const H: &[u8] = b"OGD1\x00\x00\x00\x01\
-      \x00\x00\x00\x02\x00\x00\x00\x01\x04\x00\x01\x00\x00\x00\x01\x00\x00\x00\x01";
-
-/// Two notes of author 5 without text.
-pub const I: &[u8] = b"OGD1\x00\x00\x00\x02\
-      \x00\x00\x00\x05\x00\x00\x00\x01\x03\x01a\x00\
-      \x00\x00\x00\x05\x00\x00\x00\x03\x03\x01a\x00";
-
-/// The last place of the new format.
-pub const LAST: &[u8] = b"OGD2\x00\x00\x00\x01\
-      \x00\x00\x00\x01\x00\x00\x00\x01\x01\x00\x02\x07\x07\x00\x00\xff\xff\x00\x01\x00\x00\x00\x00";
-
-/// Some of them, of each kind.
-pub const SOME: &[&[u8]] = &[A, B, D, F, G, H, I];
-
-/// All of them, but for the long ones.
-pub const ALL: &[&[u8]] = &[A, B, C, D, E, F, G, H, I, LAST];
-
-// The nim-values of Kayles for the heaps below 167.
-const KAYLES: [u8; 167] = [
-    0, 1, 2, 3, 1, 4, 3, 2, 1, 4, 2, 6, 4, 1, 2, 7, 1, 4, 3, 2, 1, 4, 6, 7, 4, 1, 2, 8, 5, 4, 7, 2,
-    1, 8, 6, 7, 4, 1, 2, 3, 1, 4, 7, 2, 1, 8, 2, 7, 4, 1, 2, 8, 1, 4, 7, 2, 1, 4, 2, 7, 4, 1, 2, 8,
-    1, 4, 7, 2, 1, 8, 6, 7, 4, 1, 2, 8, 1, 4, 7, 2, 1, 8, 2, 7, 4, 1, 2, 8, 1, 4, 7, 2, 1, 8, 2, 7,
-    4, 1, 2, 8, 1, 4, 7, 2, 1, 8, 2, 7, 4, 1, 2, 8, 1, 4, 7, 2, 1, 8, 2, 7, 4, 1, 2, 8, 1, 4, 7, 2,
-    1, 8, 2, 7, 4, 1, 2, 8, 1, 4, 7, 2, 1, 8, 2, 7, 4, 1, 2, 8, 1, 4, 7, 2, 1, 8, 2, 7, 4, 1, 2, 8,
-    1, 4, 7, 2, 1, 8, 2,
-];
-
-/// Kayles from place 0, by author 1, with 167 values.
-pub(crate) fn long_block() -> [u8; 695] {
-    let mut bytes = [0; 695];
-    bytes[..27].copy_from_slice(
-        b"OGD1\x00\x00\x00\x01\x00\x00\x00\x01\x00\x00\x00\x01\x01\x00\x02\x07\x07\x00\x00\x00\x00\x00\xa7",
-    );
-    for (place, value) in KAYLES.iter().enumerate() {
-        bytes[4 * place + 30] = *value;
-    }
-    bytes
+/// An operation of a delta: its author, its number, and what it says.
+#[derive(Clone, Copy)]
+pub(crate) enum Item<'a> {
+    /// The code, the first heap and the nim-values of a block.
+    Block(u32, u32, Digits<'a>, u32, &'a [u32]),
+    /// The code, the start and the period of a claim.
+    Claim(u32, u32, Digits<'a>, u32, u32),
+    /// The name and the text of a note.
+    Note(u32, u32, &'a [u8], &'a [u8]),
+    /// The dots of a removal, each an author and a number.
+    Removal(u32, u32, &'a [(u32, u32)]),
 }
 
-/// The notes 3.1 to 3.70 without text.
-pub(crate) fn many_notes() -> [u8; 848] {
-    let mut bytes = [0; 848];
-    bytes[..8].copy_from_slice(b"OGD1\x00\x00\x00\x46");
-    for number in 1..71u8 {
-        let place = 12 * number as usize - 4;
-        bytes[place..place + 12].copy_from_slice(&[0, 0, 0, 3, 0, 0, 0, number, 3, 1, b'n', 0]);
+/// An octal code: the digit before the point, and those after it.
+pub(crate) type Digits<'a> = (u8, &'a [u8]);
+
+/// A delta: its tag and its operations.
+#[derive(Clone, Copy)]
+pub(crate) struct Delta<'a> {
+    pub(crate) tag: &'a [u8],
+    pub(crate) items: &'a [Item<'a>],
+}
+
+impl Delta<'_> {
+    /// Its bytes.
+    pub(crate) fn bytes(&self, alloc: Global) -> Result<Vec<u8>, Fail> {
+        let mut out = Vec::from_slice(alloc, self.tag)?;
+        put_number(&mut out, u32::try_from(self.items.len())?)?;
+        for item in self.items {
+            put_item(&mut out, item)?;
+        }
+        Ok(out)
     }
-    bytes
+}
+
+fn put_number(out: &mut Vec<u8>, number: u32) -> Result<(), AllocError> {
+    out.extend_from_slice(&number.to_be_bytes())
+}
+
+// A count of two bytes.
+fn put_count(out: &mut Vec<u8>, count: usize) -> Result<(), Fail> {
+    let count = u16::try_from(count)?;
+    out.extend_from_slice(&count.to_be_bytes())?;
+    Ok(())
+}
+
+// A text after its length, which is one byte.
+fn put_text(out: &mut Vec<u8>, text: &[u8]) -> Result<(), Fail> {
+    out.push(u8::try_from(text.len())?)?;
+    out.extend_from_slice(text)?;
+    Ok(())
+}
+
+// The author, the number and the kind of an operation.
+fn put_head(out: &mut Vec<u8>, author: u32, number: u32, kind: u8) -> Result<(), Fail> {
+    put_number(out, author)?;
+    put_number(out, number)?;
+    out.push(kind)?;
+    Ok(())
+}
+
+fn put_code(out: &mut Vec<u8>, code: Digits) -> Result<(), Fail> {
+    out.push(code.0)?;
+    put_text(out, code.1)
+}
+
+fn put_item(out: &mut Vec<u8>, item: &Item) -> Result<(), Fail> {
+    match *item {
+        Item::Block(author, number, code, start, values) => {
+            put_head(out, author, number, 1)?;
+            put_code(out, code)?;
+            put_number(out, start)?;
+            put_count(out, values.len())?;
+            for value in values {
+                put_number(out, *value)?;
+            }
+        }
+        Item::Claim(author, number, code, start, period) => {
+            put_head(out, author, number, 2)?;
+            put_code(out, code)?;
+            put_number(out, start)?;
+            put_number(out, period)?;
+        }
+        Item::Note(author, number, name, text) => {
+            put_head(out, author, number, 3)?;
+            put_text(out, name)?;
+            put_text(out, text)?;
+        }
+        Item::Removal(author, number, dots) => {
+            put_head(out, author, number, 4)?;
+            put_count(out, dots.len())?;
+            for &(author, number) in dots {
+                put_number(out, author)?;
+                put_number(out, number)?;
+            }
+        }
+    }
+    Ok(())
+}
+
+/// The tags of the old format and of the new one.
+pub(crate) const OLD: &[u8] = b"OGD1";
+
+pub(crate) const NEW: &[u8] = b"OGD2";
+
+/// The codes 0.77 of Kayles, and 0.3.
+pub(crate) const KAYLES: Digits<'static> = (0, &[7, 7]);
+
+pub(crate) const THREE: Digits<'static> = (0, &[3]);
+
+/// The first block of Kayles.
+pub(crate) const BLOCK: Item<'static> = Item::Block(1, 1, KAYLES, 0, &[0, 1, 2, 3, 1]);
+
+pub(crate) const FIRST: Delta<'static> = Delta {
+    tag: OLD,
+    items: &[BLOCK],
+};
+
+/// The block that goes on from it, by author 2.
+pub(crate) const NEXT: Delta<'static> = Delta {
+    tag: OLD,
+    items: &[Item::Block(2, 1, KAYLES, 5, &[4, 3, 2])],
+};
+
+/// Another block under the dot of the first one.
+pub(crate) const FORKED: Delta<'static> = Delta {
+    tag: OLD,
+    items: &[Item::Block(1, 1, KAYLES, 1, &[1, 2, 3, 1])],
+};
+
+/// A block and a period claim of 0.3.
+pub(crate) const TURNS: Item<'static> = Item::Block(1, 1, THREE, 0, &[0, 1, 0, 1, 0, 1, 0]);
+
+pub(crate) const CLAIM: Item<'static> = Item::Claim(1, 2, THREE, 1, 2);
+
+pub(crate) const CLAIMED: Delta<'static> = Delta {
+    tag: OLD,
+    items: &[TURNS, CLAIM],
+};
+
+/// The last heap that the old format can name.
+pub(crate) const OLD_LIMIT: Delta<'static> = Delta {
+    tag: OLD,
+    items: &[Item::Block(1, 1, KAYLES, 4_095, &[0])],
+};
+
+/// A note.
+pub(crate) const EARLY: Delta<'static> = Delta {
+    tag: OLD,
+    items: &[Item::Note(1, 1, b"kayles", b"early")],
+};
+
+/// A second note under its name.
+pub(crate) const LATER: Delta<'static> = Delta {
+    tag: OLD,
+    items: &[Item::Note(1, 2, b"kayles", b"later")],
+};
+
+/// The removal of the first note, by author 2.
+pub(crate) const REMOVED: Delta<'static> = Delta {
+    tag: OLD,
+    items: &[Item::Removal(2, 1, &[(1, 1)])],
+};
+
+/// Two notes of author 5 without text.
+pub(crate) const UNTOLD: Delta<'static> = Delta {
+    tag: OLD,
+    items: &[Item::Note(5, 1, b"a", b""), Item::Note(5, 3, b"a", b"")],
+};
+
+/// The last heap of the new format.
+pub(crate) const LIMIT: Delta<'static> = Delta {
+    tag: NEW,
+    items: &[Item::Block(1, 1, KAYLES, 65_535, &[0])],
+};
+
+/// A block of Kayles with 167 nim-values.
+pub(crate) const LONG: Delta<'static> = Delta {
+    tag: OLD,
+    items: &[Item::Block(1, 1, KAYLES, 0, &KAYLES_VALUES)],
+};
+
+/// Some of them, of each kind, with their names.
+pub(crate) const SOME: &[(&str, Delta<'static>)] = &[
+    ("first", FIRST),
+    ("next", NEXT),
+    ("claimed", CLAIMED),
+    ("early", EARLY),
+    ("later", LATER),
+    ("removed", REMOVED),
+    ("untold", UNTOLD),
+];
+
+/// The others, but for the long ones.
+pub(crate) const OTHERS: &[(&str, Delta<'static>)] = &[
+    ("forked", FORKED),
+    ("old limit", OLD_LIMIT),
+    ("limit", LIMIT),
+];
+
+/// The nim-values of the heaps 0 to 166 of Kayles, which repeat from heap 71 on with period 12.
+pub(crate) const KAYLES_VALUES: [u32; 167] = [
+    0, 1, 2, 3, 1, 4, 3, 2, 1, 4, 2, 6, //
+    4, 1, 2, 7, 1, 4, 3, 2, 1, 4, 6, 7, //
+    4, 1, 2, 8, 5, 4, 7, 2, 1, 8, 6, 7, //
+    4, 1, 2, 3, 1, 4, 7, 2, 1, 8, 2, 7, //
+    4, 1, 2, 8, 1, 4, 7, 2, 1, 4, 2, 7, //
+    4, 1, 2, 8, 1, 4, 7, 2, 1, 8, 6, 7, //
+    4, 1, 2, 8, 1, 4, 7, 2, 1, 8, 2, 7, //
+    4, 1, 2, 8, 1, 4, 7, 2, 1, 8, 2, 7, //
+    4, 1, 2, 8, 1, 4, 7, 2, 1, 8, 2, 7, //
+    4, 1, 2, 8, 1, 4, 7, 2, 1, 8, 2, 7, //
+    4, 1, 2, 8, 1, 4, 7, 2, 1, 8, 2, 7, //
+    4, 1, 2, 8, 1, 4, 7, 2, 1, 8, 2, 7, //
+    4, 1, 2, 8, 1, 4, 7, 2, 1, 8, 2, 7, //
+    4, 1, 2, 8, 1, 4, 7, 2, 1, 8, 2,
+];
+
+/// The notes 3.1 to 3.70 without text.
+pub(crate) fn many_notes(alloc: Global) -> Result<Vec<u8>, Fail> {
+    let mut items = Vec::new(alloc);
+    for number in 1..71u32 {
+        items.push(Item::Note(3, number, b"n", b""))?;
+    }
+    let notes = Delta {
+        tag: OLD,
+        items: &items,
+    };
+    notes.bytes(alloc)
 }
