@@ -1,9 +1,10 @@
 -- Blocks of the values of a b-file, issued one after another.
-use Rattle.std.proofs.Common.{◌≡◌, ℕ, suc, ◌+◌, ◌-◌, ◌*◌, ◌<◌, ◌≤◌, List, [], ◌∷◌, map, length, Option, Some, None, Result, Ok, Err, refl, sym, ap, ◌∙◌, arith, ne_eqb}
-use Rattle.std.specs.Prelude.{nat_lt, if◌then◌else◌}
+use Rattle.std.proofs.Common.{◌≡◌, ℕ, suc, ◌+◌, ◌-◌, ◌*◌, ◌<◌, ◌≤◌, min, Bool, true, false, List, [], ◌∷◌, take, map, length, Option, Some, None, Result, Ok, Err, refl, sym, ap, ◌∙◌, arith, ne_eqb}
+use Rattle.std.specs.Prelude.{nat_le, nat_lt, if◌then◌else◌}
 use Rattle.std.specs.List.{range_with_len}
 use Rattle.std.specs.Option.{option_or}
-use Rattle.std.proofs.lemmas.Bool.{le-ltb}
+use Rattle.std.proofs.lemmas.Bool.{le-ltb, leb-false, leb-true}
+use Rattle.std.proofs.lemmas.List.{take_all}
 use Rattle.oct_code.specs.Code.{Code}
 use Rattle.oct_code.specs.declared.limits.TheConstants.{LIMIT}
 use Rattle.oct_ops.specs.Body as kind
@@ -53,3 +54,15 @@ module _ (so_far : Claimed) (c : Code) (file : Bfile) (i count : ℕ) where
 
   pub all_issued : count ≤ i → with_blocks so_far left ≡ Ok so_far
   all_issued end = let none : count - i ≡ 0 = omega arith in ap (λ n. with_blocks so_far (map (block_at c file) (range_with_len i n))) none
+
+-- as many as there are, and at most m
+pub take_least : (xs : List ℕ) (n m : ℕ) → n ≡ min (length xs) m → take n xs ≡ take m xs
+take_least xs n m least = by (nat_le (length xs) m) refl
+  where
+    by : (t : Bool) → nat_le (length xs) m ≡ t → take n xs ≡ take m xs
+    by true few =
+        let fits : length xs ≤ m = leb-true (length xs) m few in
+        take_all n xs (omega (arith, least, fits)) ∙ sym (take_all m xs fits)
+    by false many =
+        let same : n ≡ m = omega (arith, least, leb-false (length xs) m many) in
+        ap (λ k. take k xs) same

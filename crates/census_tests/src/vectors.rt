@@ -69,16 +69,32 @@ fn put_code(out: &mut Vec<u8>, code: Digits) -> Result<(), Fail> {
     put_text(out, code.1)
 }
 
+// Nim-values after their count.
+fn put_values(out: &mut Vec<u8>, values: &[u32]) -> Result<(), Fail> {
+    put_count(out, values.len())?;
+    for value in values {
+        put_number(out, *value)?;
+    }
+    Ok(())
+}
+
+// Dots after their count.
+fn put_dots(out: &mut Vec<u8>, dots: &[(u32, u32)]) -> Result<(), Fail> {
+    put_count(out, dots.len())?;
+    for &(author, number) in dots {
+        put_number(out, author)?;
+        put_number(out, number)?;
+    }
+    Ok(())
+}
+
 fn put_item(out: &mut Vec<u8>, item: &Item) -> Result<(), Fail> {
     match *item {
         Item::Block(author, number, code, start, values) => {
             put_head(out, author, number, 1)?;
             put_code(out, code)?;
             put_number(out, start)?;
-            put_count(out, values.len())?;
-            for value in values {
-                put_number(out, *value)?;
-            }
+            put_values(out, values)?;
         }
         Item::Claim(author, number, code, start, period) => {
             put_head(out, author, number, 2)?;
@@ -93,11 +109,7 @@ fn put_item(out: &mut Vec<u8>, item: &Item) -> Result<(), Fail> {
         }
         Item::Removal(author, number, dots) => {
             put_head(out, author, number, 4)?;
-            put_count(out, dots.len())?;
-            for &(author, number) in dots {
-                put_number(out, author)?;
-                put_number(out, number)?;
-            }
+            put_dots(out, dots)?;
         }
     }
     Ok(())
