@@ -1,11 +1,10 @@
 -- What is written of values reads back as these values.
-use Rattle.std.proofs.Common.{◌≡◌, ◌≢◌, ℕ, suc, ◌+◌, ◌-◌, ◌<◌, ◌≤◌, ◌^◌, ◌==◌, Bool, true, false, not, ◌&&◌, ◌||◌, cond, List, [], ◌∷◌, ◌++◌, map, length, Option, Some, None, Ok, refl, sym, ap, ◌∙◌, subst, rules, arith, append_assoc, ne_eqb, eq-eqb}
+use Rattle.std.proofs.Common.{◌≡◌, ℕ, ◌+◌, ◌<◌, ◌≤◌, ◌^◌, ◌==◌, true, false, not, ◌&&◌, ◌||◌, cond, List, [], ◌∷◌, ◌++◌, map, length, Option, Some, None, refl, ap, ◌∙◌, arith, append_assoc, ne_eqb, eq-eqb}
 use Rattle.std.specs.Prelude.{codes, filter, nat_le, nat_lt, if◌then◌else◌}
 use Rattle.std.specs.Fmt.{decimal}
 use Rattle.std.specs.Int.{IsInRange}
-use Rattle.std.specs.List.{All, AllByRecursion, onto_first, slice_split}
+use Rattle.std.specs.List.{All, AllByRecursion, onto_first}
 use Rattle.std.specs.Str.{all_ascii_digits}
-use Rattle.std.specs.Str.Parse.{digits_value}
 use Rattle.std.proofs.lemmas.Bool.{lt-leb, lt-ltb}
 use Rattle.std.proofs.lemmas.Fmt.{decimal_nonempty, digits_decimal, digits_value-decimal}
 use Rattle.std.proofs.lemmas.List.Elements.{All-cons, All-nil}
@@ -13,7 +12,7 @@ use Rattle.std.proofs.lemmas.List.Splits.{slice_split_at, slice_split_none}
 use Rattle.std.proofs.lemmas.Str.Parse.{tells_all_ascii_digits}
 use Rattle.oct_code.specs.declared.limits.TheConstants.{LIMIT}
 use Rattle.oct_pages.specs.Catalogue.{Text}
-use Rattle.oct_views.specs.Bfile.{begins_comment, begins_with_feed, bfile_of, bfile_text, checked_by, file_by, first_fault, follows, is_blank, is_filled, line_by, line_of, lines, number_of, row_of, row_text, rows_text, start_of, values_of, words}
+use Rattle.oct_views.specs.Bfile.{begins_comment, begins_with_feed, checked_by, file_by, first_fault, follows, is_blank, is_filled, line_by, line_of, lines, number_of, row_of, row_text, rows_text, values_of, words}
 use Rattle.oct_views.specs.BfileLaws.{WrittenReadsBack}
 use Rattle.oct_views.specs.declared.bfile_error.BfileError.TheVariants.{Order, PastLimit}
 use Rattle.oct_views.specs.declared.bfile_line.BfileLine.{BfileLine}

@@ -306,7 +306,7 @@ const ISSUES: &[Script<'static>] = &[
 /// A b-file of Kayles, with a comment, blanks and each end of a line.
 const KAYLES: &[u8] = b"# Kayles\r\n\r 1\t1 \n2 2\r3   3\n4 1";
 
-const CLAIMED: &str =
+const CLAIMED_JSON: &str =
     "{\"authors\":[{\"author\":7,\"last\":1,\"through\":1}],\"census\":2,\"forks\":[],\"games\":[{\"blocks\":[{\"author\":7,\"count\":4,\"number\":1,\"start\":1,\"status\":\"proved\"}],\"code\":\"0.77\",\"known\":5,\"periods\":[],\"values\":[0,1,2,3,1]}],\"notes\":[]}\n";
 
 const VIEWS: &[Script<'static>] = &[
@@ -317,7 +317,7 @@ const VIEWS: &[Script<'static>] = &[
             (Ask::Claim("0.77", KAYLES), Ok("issued 7.1\n")),
             (Ask::Bfile("0.77"), Ok("0 0\n1 1\n2 2\n3 3\n4 1\n")),
             (Ask::Bfile("0.6"), Ok("0 0\n")),
-            (Ask::Json, Ok(CLAIMED)),
+            (Ask::Json, Ok(CLAIMED_JSON)),
             (Ask::Bfile("0.8"), Err(Fault::Code(CodeError::Digit))),
             (Ask::Plot("0.8"), Err(Fault::Code(CodeError::Digit))),
         ],
