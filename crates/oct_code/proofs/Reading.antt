@@ -1,8 +1,10 @@
 -- What a code's parts, read or compared one by one, say of the code.
-use Rattle.std.proofs.Common.{arith, ◌≡◌, ◌⊎◌, ◌==◌, ℕ, suc, ◌-◌, ◌≤◌, Bool, false, not, if◌then◌else◌, nat_lt, inl, inr, List, [], ◌∷◌, length, Option, Some, None, refl, sym, ap, ap₂, ◌∙◌, slice_index, length-take}
+use Rattle.std.proofs.Common.{arith, ◌≡◌, ◌⊎◌, ◌==◌, ℕ, suc, ◌-◌, ◌≤◌, Bool, false, not, if◌then◌else◌, nat_lt, inl, inr, List, [], ◌∷◌, ◌++◌, length, replicate, Option, Some, None, refl, sym, ap, ap₂, ◌∙◌, slice_index, length-take}
 use Rattle.std.proofs.lemmas.List.{get_or_default, get_or_past}
 use Rattle.std.specs.Borrow.{Bor}
-use Rattle.std.specs.Cmp.Lexicographic.{slice_cmp}
+use Rattle.std.specs.Cmp.{nat_cmp_total, tied_itself}
+use Rattle.std.specs.Cmp.Lexicographic.{slice_cmp, lists_total}
+use Rattle.std.specs.FinSet.{nat_cmp-IsAntisymmetric}
 use Rattle.std.specs.Option.{option_copied, unwrap_or}
 use Rattle.std.specs.Ordering.{nat_cmp, ordering_then}
 use Rattle.std.specs.Slice.{IsItemAt}
@@ -10,7 +12,7 @@ use Rattle.std.specs.declared.cmp.Ordering.{Ordering}
 use Rattle.std.specs.declared.cmp.Ordering.TheVariants.{Less, Equal, Greater}
 use Rattle.oct_code.specs.Code.{Code, len, digit, code_cmp}
 use Rattle.oct_code.specs.CodeOrder.{both_tie}
-use Rattle.oct_code.specs.Fields.{IsStored, code_of}
+use Rattle.oct_code.specs.Fields.{IsStored, code_of, zeros_after, fields_of-code_of}
 use Rattle.oct_code.specs.TextFaults.{is_head_byte, are_digit_bytes, trimmed, parts_fault}
 use Rattle.oct_code.specs.declared.code.Code.TheInside.{Inside}
 use Rattle.oct_code.specs.declared.error.CodeError.{CodeError}
@@ -44,8 +46,18 @@ differs Equal Less o apart = refl
 differs Equal Greater o apart = refl
 differs Equal Equal o apart = absurd (apart refl)
 
+-- of lists that are as long, what follows both of them decides nothing
+appended : (xs ys zs : List ℕ) → length xs ≡ length ys → slice_cmp nat_cmp (xs ++ zs) (ys ++ zs) ≡ slice_cmp nat_cmp xs ys
+appended [] [] zs same = tied_itself (lists_total nat_cmp_total) zs
+appended [] (y ∷ ys) zs same = absurd (omega (arith, same))
+appended (x ∷ xs) [] zs same = absurd (omega (arith, same))
+appended (x ∷ xs) (y ∷ ys) zs same = ap (ordering_then (nat_cmp x y)) (appended xs ys zs (omega (arith, same)))
+
 stored_len : (s : Inside) (c : Code) → IsStored s → code_of s ≡ c → s.len ≡ len c
 stored_len s c stored is = sym (length-take s.len s.digits ∙ omega (arith, stored.len, stored.room)) ∙ ap len is
+
+stored_digits : (s : Inside) (c : Code) → IsStored s → code_of s ≡ c → s.digits ≡ c.digits ++ zeros_after c.digits
+stored_digits s c stored is = ap (λ (a : Inside). a.digits) (sym (fields_of-code_of s stored)) ∙ ap (λ (k : Code). k.digits ++ zeros_after k.digits) is
 
 module _ (s t : Inside) (c d : Code) (first : IsStored s) (second : IsStored t) (is : code_of s ≡ c) (other : code_of t ≡ d) where
   heads : nat_cmp s.head t.head ≡ nat_cmp c.head d.head
@@ -57,9 +69,15 @@ module _ (s t : Inside) (c d : Code) (first : IsStored s) (second : IsStored t) 
   same : (o : Ordering) → ordering_then (nat_cmp s.head t.head) (ordering_then (nat_cmp s.len t.len) o) ≡ ordering_then (nat_cmp c.head d.head) (ordering_then (nat_cmp (len c) (len d)) o)
   same o = ap₂ (λ x y. ordering_then x (ordering_then y o)) heads lens
 
-  -- where head and number are the same, the digits decide
-  pub cmp_ties : ordering_then (nat_cmp s.head t.head) (nat_cmp s.len t.len) ≡ Equal → slice_cmp nat_cmp c.digits d.digits ≡ code_cmp c d
-  cmp_ties tie = ties _ _ _ tie ∙ same _
+  arrays : s.len ≡ t.len → slice_cmp nat_cmp s.digits t.digits ≡ slice_cmp nat_cmp c.digits d.digits
+  arrays same_len =
+      let lengths : len c ≡ len d = sym (stored_len s c first is) ∙ same_len ∙ stored_len t d second other in
+      let zeros : zeros_after d.digits ≡ zeros_after c.digits = ap (λ n. replicate (MAX_DIGITS - n) 0) (sym lengths) in
+      ap₂ (slice_cmp nat_cmp) (stored_digits s c first is) (stored_digits t d second other ∙ ap (λ l. d.digits ++ l) zeros) ∙ appended c.digits d.digits (zeros_after c.digits) lengths
+
+  -- where head and number are the same, the digits decide, and so do their arrays
+  pub cmp_ties : ordering_then (nat_cmp s.head t.head) (nat_cmp s.len t.len) ≡ Equal → slice_cmp nat_cmp s.digits t.digits ≡ code_cmp c d
+  cmp_ties tie = arrays (nat_cmp-IsAntisymmetric s.len t.len (both_tie (nat_cmp s.head t.head) _ tie).1) ∙ ties _ _ _ tie ∙ same _
 
   -- elsewhere they decide
   pub cmp_differs : (ordering_then (nat_cmp s.head t.head) (nat_cmp s.len t.len) ≡ Equal → ⊥) → ordering_then (nat_cmp s.head t.head) (nat_cmp s.len t.len) ≡ code_cmp c d

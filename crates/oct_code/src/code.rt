@@ -161,7 +161,8 @@ impl Ord for Code {
 
     fn cmp(&self, other: &Code) -> Ordering {
         match self.head.cmp(&other.head).then(self.len.cmp(&other.len)) {
-            Ordering::Equal => self.digits().cmp(other.digits()),
+            // Beyond `k` both have zeros.
+            Ordering::Equal => self.digits.cmp(&other.digits),
             unequal => unequal,
         }
     }

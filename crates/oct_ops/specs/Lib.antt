@@ -8,6 +8,7 @@ pub mod Games
 pub mod Laws
 pub mod Limits
 pub mod ListOrder
+pub mod NoteBytes
 pub mod Operation
 pub mod Operations
 pub mod Order

@@ -28,6 +28,15 @@ period_cmp_total = then_total (on_total (λ p. p.code) code_cmp_total) (then_tot
 pub note_cmp_total : IsTotalOrder note_cmp
 note_cmp_total = then_total (on_total (λ n. n.name) (list_cmp_total nat_cmp_total)) (on_total (λ n. n.text) (list_cmp_total nat_cmp_total))
 
+pub note_eq_equiv : IsEquivalence (eq_by_cmp note_cmp)
+note_eq_equiv = eq_by_cmp_equiv note_cmp_total
+
+pub note_eq_partial : IsPartialEquivalence (eq_by_cmp note_cmp)
+note_eq_partial = partial_equiv_from_equiv note_eq_equiv
+
+pub note_partial_order : IsPartialOrder (eq_by_cmp note_cmp) (as_partial_cmp note_cmp)
+note_partial_order = partial_order_from_total note_cmp_total
+
 pub removal_cmp_total : IsTotalOrder removal_cmp
 removal_cmp_total = on_total (λ r. r.dots) (list_cmp_total dot_cmp_total)
 

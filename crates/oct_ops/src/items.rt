@@ -1,12 +1,23 @@
 //! Lists that are ordered by their lengths first.
 
 ghost use Rattle.std.specs.Prelude.{◌≡◌, IfOk};
+ghost use Rattle.oct_ops.specs.ListOrder.{list_cmp};
 
 use std::alloc::{AllocError, Allocator};
 use std::cmp::Ordering;
 use std::marker::Model;
 
-/// A list. Of two lists the shorter is the lesser, and of two that are as long the first item that differs decides.
+/// Which of two lists is the lesser: the shorter one, and of two that are as long the first item that differs decides.
+pub(crate) fn compare<T: Ord>(mine: &[T], others: &[T]) -> Ordering
+    ensures { result ≡ list_cmp T.cmp mine.now others.now }
+{
+    match mine.len().cmp(&others.len()) {
+        Ordering::Equal => mine.cmp(others),
+        lens => lens,
+    }
+}
+
+/// A list, ordered as `compare` says.
 #[derive(Drop)]
 pub(crate) struct Items<T, A: Allocator> {
     items: Vec<T, A>,
@@ -87,12 +98,7 @@ impl<T: Ord, A: Allocator> Ord for Items<T, A> {
     ghost matches_eq = { λ a b. refl };
 
     fn cmp(&self, other: &Self) -> Ordering {
-        let mine = self.as_slice();
-        let others = other.as_slice();
-        match mine.len().cmp(&others.len()) {
-            Ordering::Equal => mine.cmp(others),
-            lens => lens,
-        }
+        compare(self.as_slice(), other.as_slice())
     }
 }
 

@@ -105,9 +105,7 @@ impl<A: Allocator> Body<A> {
             Body::Removal(_) => kinds::REMOVAL,
         }
     }
-}
 
-impl<A: Allocator + Copy> Body<A> {
     /// A body that is equal to this one, in memory of `alloc`.
     pub fn copy(&self, alloc: A) -> Result<Body<A>, AllocError>
         ensures { IfOk result (λ copy. content copy ≡ content self.now) }
@@ -169,9 +167,7 @@ impl<A: Allocator> Op<A> {
             Body::Note(_) | Body::Removal(_) => true,
         }
     }
-}
 
-impl<A: Allocator + Copy> Op<A> {
     /// An operation that is equal to this one, in memory of `alloc`.
     pub fn copy(&self, alloc: A) -> Result<Op<A>, AllocError>
         ensures { IfOk result (λ copy. copy ≡ self.now) }
