@@ -11,12 +11,12 @@ ghost use Rattle.oct_delta.specs.Writing.{Keeps};
 use crate::error::EncodeError;
 use crate::format::Edition;
 use crate::output::{Put, put_bytes, put_u32};
+use oct_join::Ops;
 use oct_ops::Op;
 use std::alloc::{AllocError, Allocator};
-use std::collections::btree_set::Iter;
 
 // Appends operations.
-fn put_ops<A: Allocator>(out: &mut Vec<u8, A>, ops: Iter<'_, Op<A>>) -> Result<(), AllocError>
+fn put_ops<A: Allocator>(out: &mut Vec<u8, A>, ops: Ops<'_, A>) -> Result<(), AllocError>
     ensures ok { OnOk result (out.new.items ≡ out.old.items ++ flat_map op_bytes ops.entry) }
     ensures kept { Keeps out.old.items out.new.items }
 {
@@ -27,7 +27,7 @@ fn put_ops<A: Allocator>(out: &mut Vec<u8, A>, ops: Iter<'_, Op<A>>) -> Result<(
 }
 
 // Whether each operation keeps the limits of the first edition.
-fn each_keeps_old_limits<A: Allocator>(ops: Iter<'_, Op<A>>) -> bool
+fn each_keeps_old_limits<A: Allocator>(ops: Ops<'_, A>) -> bool
     ensures { result ≡ list_all keeps_old_limits ops.entry }
 {
     for op in ops {
@@ -39,7 +39,7 @@ fn each_keeps_old_limits<A: Allocator>(ops: Iter<'_, Op<A>>) -> bool
 }
 
 // The edition of the text: the first where it can spell all operations.
-fn edition_of_each<A: Allocator>(ops: Iter<'_, Op<A>>) -> Edition
+fn edition_of_each<A: Allocator>(ops: Ops<'_, A>) -> Edition
     ensures { format result ≡ format_of ops.entry }
 {
     if each_keeps_old_limits(ops) {
@@ -50,7 +50,7 @@ fn edition_of_each<A: Allocator>(ops: Iter<'_, Op<A>>) -> Edition
 }
 
 // Appends a tag, a count and the operations.
-fn put_set<A: Allocator>(out: &mut Vec<u8, A>, ops: Iter<'_, Op<A>>) -> Result<(), AllocError>
+fn put_set<A: Allocator>(out: &mut Vec<u8, A>, ops: Ops<'_, A>) -> Result<(), AllocError>
     requires { length ops < 2 ^ 32 }
     ensures ok { OnOk result (out.new.items ≡ out.old.items ++ encoded ops.entry) }
     ensures kept { Keeps out.old.items out.new.items }
@@ -65,10 +65,7 @@ fn put_set<A: Allocator>(out: &mut Vec<u8, A>, ops: Iter<'_, Op<A>>) -> Result<(
 /// Appends the one text of the operations that are left of an iterator over a set, as `encode` does for a list. No
 /// operation is copied. After a refusal `out` is as it was. The answer is `TooMany` exactly where their number is no
 /// `u32`.
-pub fn encode_each<A: Allocator>(
-    ops: Iter<'_, Op<A>>,
-    out: &mut Vec<u8, A>,
-) -> Result<(), EncodeError>
+pub fn encode_each<A: Allocator>(ops: Ops<'_, A>, out: &mut Vec<u8, A>) -> Result<(), EncodeError>
     ensures ok { OnOk result (out.new.items ≡ out.old.items ++ encoded ops.entry) }
     ensures too_many { IsErrOf result EncodeError.TooMany ↔ (2 ^ 32 ≤ length ops.entry) }
     ensures err { OnErr result (out.new.items ≡ out.old.items) }

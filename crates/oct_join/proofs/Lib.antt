@@ -2,3 +2,4 @@ pub mod Merging
 pub mod SetMerging
 mod Bounds
 mod Places
+mod Searching

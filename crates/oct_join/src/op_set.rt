@@ -1,17 +1,22 @@
 //! A finite set of operations.
 
-ghost use Rattle.std.specs.Prelude.{◌≡◌, ◌↔◌, not, false, length, IsTrue, IfOk, IfErr, OnOk, OnErr};
+ghost use Rattle.std.specs.Prelude.{◌≡◌, ◌↔◌, MatchOption, not, false, true, length, IsTrue, IfOk, IfErr, OnOk, OnErr};
 ghost use Rattle.oct_join.specs.SetBounds.{subset_order, union_bound};
 ghost use Rattle.oct_ops.specs.Operations.{empty, insert, remove, contains, listed, union, IsSubset};
+ghost use Rattle.oct_ops.specs.Order.{op_cmp};
 ghost use Rattle.oct_ops.specs.OrderLaws.{op_cmp_total, op_cmp_exact};
 
 use crate::join::Join;
+use crate::ops::Ops;
+use chunked::{Chunks, Place, Probe};
 use oct_ops::Op;
 use std::alloc::{AllocError, Allocator};
-use std::collections::{BTreeSet, btree_set};
+use std::cmp::Ordering;
 use std::marker::Model;
+use std::rc::Rc;
 
-/// A finite set of operations, in memory of `A`. Operations are the same only if dot and body are.
+/// A finite set of operations, in memory of `A`. Operations are the same only if dot and body are. An operation is never
+/// changed, so that sets and ledgers may share it.
 ///
 ///     let mut ops = OpSet::new(alloc);
 ///     ops.insert(operation)?;               // true: it is new
@@ -19,25 +24,43 @@ use std::marker::Model;
 ///     ops.join(&other)?;                    // the union; a refusal leaves a set between the old one and the union
 ///     ops.iter()                            // all, in the operation order
 ///
-/// A look-up, an insertion and a removal take a number of steps that grows with the logarithm of the set's size.
+/// A look-up, an insertion and a removal compare a number of operations that grows with the logarithm of the set's size, and
+/// an insertion at the end two. An insertion moves the references of one chunk at most, and at times the list of the chunks.
 #[derive(Drop)]
 pub struct OpSet<A: Allocator + Copy> {
-    ops: BTreeSet<Op<A>, A>,
+    ops: Chunks<Rc<Op<A>, A>, A>,
     alloc: A,
 }
 
 impl<A: Allocator + Copy> Model for OpSet<A> {
-    ghost use Rattle.std.specs.List.Sorted.{IsStrictlySortedBy};
+    ghost use Rattle.std.specs.Prelude.{◌≡◌, true};
+    ghost use Rattle.chunked.specs.Chunked.{chunked, IsChunked};
+    ghost use Rattle.oct_join.specs.Shared.{contents};
     ghost use Rattle.oct_ops.specs.Operations.{Operations, operations_code, set_of};
     ghost use Rattle.oct_ops.specs.Order.{op_cmp};
+    ghost use Rattle.oct_ops.specs.Sets.{rises};
 
     ghost Value = { Operations };
 
     ghost coded = { operations_code };
 
-    ghost view = { λ s. set_of s.ops.keys };
+    ghost view = { λ s. set_of (contents (chunked s.ops)) };
 
-    ghost invariant = { λ s. IsStrictlySortedBy op_cmp s.ops.keys };
+    ghost invariant = { λ s. IsChunked s.ops × (rises op_cmp (contents (chunked s.ops)) ≡ true) };
+}
+
+/// How an operation that is shared compares with one that is searched.
+#[derive(Clone, Copy)]
+struct Sought<'a, A: Allocator> {
+    op: &'a Op<A>,
+}
+
+impl<A: Allocator> Probe<Rc<Op<A>, A>> for Sought<'_, A> {
+    ghost order = { λ s op. op_cmp op.value s.op.now };
+
+    fn compare(&self, op: &Rc<Op<A>, A>) -> Ordering {
+        op.as_ref().cmp(self.op)
+    }
 }
 
 impl<A: Allocator + Copy> OpSet<A> {
@@ -46,7 +69,7 @@ impl<A: Allocator + Copy> OpSet<A> {
         ensures { result ≡ empty }
     {
         OpSet {
-            ops: BTreeSet::new(alloc),
+            ops: Chunks::new(alloc),
             alloc,
         }
     }
@@ -69,7 +92,7 @@ impl<A: Allocator + Copy> OpSet<A> {
     pub fn contains(&self, op: &Op<A>) -> bool
         ensures { result ≡ contains self.now op.now }
     {
-        self.ops.contains(op)
+        self.ops.search(&Sought { op }).is_ok()
     }
 
     /// Puts the operation in, and says whether it is new. Memory can be refused only for one that is not there; then the
@@ -81,10 +104,56 @@ impl<A: Allocator + Copy> OpSet<A> {
         ensures absent { OnErr result (contains self.old op ≡ false) }
         ensures returned { IfErr result (λ refused. refused.1 ≡ op) }
     {
-        match self.ops.insert(op) {
-            Ok(added) => Ok(added),
-            Err(refused) => Err((AllocError, refused.value)),
+        let Err(place) = self.ops.search(&Sought { op: &op }) else {
+            return Ok(false);
+        };
+        let place = match self.ops.room_at(place) {
+            Ok(place) => place,
+            Err(refused) => return Err((refused, op)),
+        };
+        match Rc::new(self.alloc, op) {
+            Ok(shared) => self.ops.insert(place, shared),
+            Err(refused) => return Err((AllocError, refused.value)),
         }
+        Ok(true)
+    }
+
+    /// Puts in an operation that is shared, and says whether it is new. Memory can be refused only for one that is not there;
+    /// then the set stays as it is.
+    pub fn share(&mut self, op: &Rc<Op<A>, A>) -> Result<bool, AllocError>
+        ensures added { IfOk result (λ added. added ≡ not (contains self.old op.now.value)) }
+        ensures ok { OnOk result (self.new ≡ insert self.old op.now.value) }
+        ensures err { OnErr result (self.new ≡ self.old) }
+        ensures absent { OnErr result (contains self.old op.now.value ≡ false) }
+    {
+        let Err(place) = self.ops.search(&Sought { op: op.as_ref() }) else {
+            return Ok(false);
+        };
+        let place = self.ops.room_at(place)?;
+        let shared = op.clone()?;
+        self.ops.insert(place, shared);
+        Ok(true)
+    }
+
+    /// Puts the operation in, and gives what shares it if it is new. Memory can be refused only for one that is not there;
+    /// then the set stays as it is.
+    pub fn insert_shared(&mut self, op: Op<A>) -> Result<Option<Rc<Op<A>, A>>, AllocError>
+        ensures added { IfOk result (λ shared. MatchOption shared (contains self.old op ≡ true) (λ shared. (contains self.old op ≡ false) × (shared.value ≡ op))) }
+        ensures ok { OnOk result (self.new ≡ insert self.old op) }
+        ensures err { OnErr result (self.new ≡ self.old) }
+        ensures absent { OnErr result (contains self.old op ≡ false) }
+    {
+        let sought = Sought { op: &op };
+        let Err(place) = self.ops.search(&sought) else {
+            return Ok(None);
+        };
+        let place = self.ops.room_at(place)?;
+        let Ok(shared) = Rc::new(self.alloc, op) else {
+            return Err(AllocError);
+        };
+        let kept = shared.clone()?;
+        self.ops.insert(place, kept);
+        Ok(Some(shared))
     }
 
     /// Puts in a copy of the operation, unless it is there. Memory can be refused only for one that is not there; then the
@@ -109,14 +178,20 @@ impl<A: Allocator + Copy> OpSet<A> {
         ensures was { result ≡ contains self.old op.now }
         ensures gone { self.new ≡ remove self.old op.now }
     {
-        self.ops.remove(op)
+        match self.ops.search(&Sought { op }) {
+            Ok(place) => {
+                self.ops.remove(place);
+                true
+            }
+            Err(_) => false,
+        }
     }
 
     /// The operations in their order.
-    pub fn iter(&self) -> btree_set::Iter<'_, Op<A>>
+    pub fn iter(&self) -> Ops<'_, A>
         ensures { result ≡ listed self.now }
     {
-        self.ops.iter()
+        Ops::new(self.ops.iter())
     }
 }
 
@@ -126,8 +201,8 @@ impl<A: Allocator + Copy> Join for OpSet<A> {
     ghost bound = { union };
 
     fn join(&mut self, other: &OpSet<A>) -> Result<(), AllocError> {
-        for op in other.iter() {
-            self.add(op)?;
+        for op in other.ops.iter() {
+            self.share(op)?;
         }
         Ok(())
     }

@@ -8,12 +8,12 @@ ghost use Rattle.oct_join.specs.SetBounds.{subset_order, union_bound};
 ghost use Rattle.oct_notes.specs.Notes as spec;
 
 use crate::removed::Removed;
-use oct_join::{Join, OpSet};
+use oct_join::{Join, OpSet, Ops};
 use oct_ops::{Body, Dot, Op};
 use std::alloc::{AllocError, Allocator};
 use std::cmp::Ordering;
-use std::collections::btree_set;
 use std::marker::Model;
+use std::rc::Rc;
 
 /// A finite set of notes and removals, in memory of `A`: an observed-remove set (Shapiro et al. 2011). Operations are the
 /// same only if dot and body are.
@@ -24,7 +24,7 @@ use std::marker::Model;
 ///     notes.live_refs()?                    // the live notes, by name; `live` copies them
 ///     notes.take_back(&note);               // as if it had not been added
 ///
-/// `insert`, `add` and `take_back` take a number of steps that grows with the logarithm of the set's size. `live_refs`,
+/// `insert`, `add`, `share` and `take_back` take what they take in an `OpSet`. `live_refs`,
 /// `live` and `live_dots` read the whole set once; beside that they sort the dots that are removed, and look up the dot of
 /// each note.
 #[derive(Drop)]
@@ -107,6 +107,20 @@ impl<A: Allocator + Copy> Notes<A> {
         self.ops.add(op)
     }
 
+    /// Puts in an operation that is shared, which has to be a note or a removal. Memory can be refused only where it is not
+    /// there; then the set stays as it is.
+    pub fn share(&mut self, op: &Rc<Op<A>, A>) -> Result<(), AllocError>
+        requires { IsTrue (spec.concerns_notes op.now.value.body) }
+        ensures ok { OnOk result (self.new ≡ insert self.old op.now.value) }
+        ensures err { OnErr result (self.new ≡ self.old) }
+        ensures absent { OnErr result (contains self.old op.now.value ≡ false) }
+    {
+        match self.ops.share(op) {
+            Ok(_) => Ok(()),
+            Err(refused) => Err(refused),
+        }
+    }
+
     /// Takes the operation out again, if it is there.
     pub fn take_back(&mut self, op: &Op<A>)
         ensures { self.new ≡ remove self.old op.now }
@@ -160,7 +174,7 @@ impl<A: Allocator + Copy> Notes<A> {
     }
 
     // The operations in their order.
-    fn iter(&self) -> btree_set::Iter<'_, Op<A>>
+    fn iter(&self) -> Ops<'_, A>
         ensures { result ≡ listed self.now }
     {
         self.ops.iter()

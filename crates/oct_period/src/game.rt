@@ -1,18 +1,20 @@
 //! What is known of a game.
 
-ghost use Rattle.std.specs.Prelude.{◌≡◌, true, false, IfErr, IfOk, IfSome, OnErr, OnOk};
+ghost use Rattle.std.specs.Prelude.{◌≡◌, true, false, Some, IfErr, IfOk, IfSome, OnErr, OnOk};
+ghost use Rattle.std.specs.Option.{IsSome};
 ghost use Rattle.oct_mex.specs.NimValues.{nim_value, position_value as nim_sum};
 ghost use Rattle.oct_mex.specs.Periods.{IsPeriodicFrom};
+ghost use Rattle.oct_ops.specs.Games.{game_of};
 ghost use Rattle.oct_ops.specs.Sets as sets;
 ghost use Rattle.oct_period.specs.Claims.{AreOfGame, claims_in, first_proved, is_claimed};
 ghost use Rattle.oct_period.specs.FarBlocks.{block_status};
 ghost use Rattle.oct_period.specs.Found.{found_period, IsFoundPeriod};
-ghost use Rattle.oct_period.specs.GameContent.{ledger_of};
+ghost use Rattle.oct_period.specs.GameContent.{has_body, ledger_of, with_body};
 ghost use Rattle.oct_period.specs.Moving.{winning_move, IsWinningAnswer};
 ghost use Rattle.oct_period.specs.Outcomes.{outcome, IsOutcomeOf};
 ghost use Rattle.oct_period.specs.Periods.{heap_value, position_value};
 ghost use Rattle.oct_period.specs.Proved.{IsProvedBy};
-ghost use Rattle.oct_verify.specs.Filing.{blocks_in};
+ghost use Rattle.oct_verify.specs.Filing.{block_of, blocks_in};
 
 use crate::claim::PeriodClaim;
 use crate::far::verdict_by;
@@ -24,14 +26,15 @@ use crate::values::{heap_value_by, is_proved, position_value_by};
 use crate::winner::Outcome;
 use crate::winning::outcome_of;
 use oct_code::Code;
-use oct_ops::{Block, Dot, Period};
+use oct_ops::{Block, Body, Dot, Op, Period};
 use oct_verify::{Ledger, Status};
 use std::alloc::{AllocError, Allocator};
 use std::collections::{BTreeSet, btree_set};
 use std::marker::Model;
+use std::rc::Rc;
 
-/// The blocks and the period claims of one game, each under its dot, with what is known from them. Only `insert_block` and
-/// `insert_period` ask for memory.
+/// The blocks and the period claims of one game, each under its dot, with what is known from them. Only `insert_block`,
+/// `insert_period` and `share` ask for memory.
 #[derive(Drop)]
 pub struct Game<A: Allocator + Copy> {
     ledger: Ledger<A>,
@@ -95,6 +98,35 @@ impl<A: Allocator + Copy> Game<A> {
             Ok(_) => Ok(()),
             Err(_) => Err((AllocError, period)),
         }
+    }
+
+    /// Puts in the block or the claim of an operation of the game, which is shared, as `insert_block` and `insert_period` do. One
+    /// that is there changes nothing, and asks for no memory. Where memory is refused, nothing changes.
+    pub fn share(&mut self, op: &Rc<Op<A>, A>) -> Result<(), AllocError>
+        requires { game_of op.now.value ≡ Some self.old.code }
+        ensures ok { OnOk result (self.new ≡ with_body self.old op.now.value.dot op.now.value.body) }
+        ensures err { OnErr result (self.new ≡ self.old) }
+        ensures absent { OnErr result (has_body self.old op.now.value.dot op.now.value.body ≡ false) }
+    {
+        match op.body() {
+            Body::Block(_) => self.share_block(op),
+            Body::Period(period) => match self.insert_period(op.dot(), *period) {
+                Ok(()) => Ok(()),
+                Err((refusal, _)) => Err(refusal),
+            },
+            Body::Note(_) | Body::Removal(_) => unreachable!(),
+        }
+    }
+
+    // Puts in the block of an operation of the game, which is shared.
+    fn share_block(&mut self, op: &Rc<Op<A>, A>) -> Result<(), AllocError>
+        requires block { IsSome (block_of op.now.value.body) }
+        requires game { game_of op.now.value ≡ Some self.old.code }
+        ensures ok { OnOk result (self.new ≡ with_body self.old op.now.value.dot op.now.value.body) }
+        ensures err { OnErr result (self.new ≡ self.old) }
+        ensures absent { OnErr result (has_body self.old op.now.value.dot op.now.value.body ≡ false) }
+    {
+        self.ledger.share(op)
     }
 
     /// The blocks of the game.

@@ -3,15 +3,15 @@ use Rattle.std.specs.Prelude.{◌≡◌, Bool, Option, Some, None, IfSome, cond,
 use Rattle.std.specs.List.{list_any}
 use Rattle.std.specs.Ordering.{eq_by_cmp}
 use Rattle.oct_code.specs.Code.{Code, code_cmp}
-use Rattle.oct_ops.specs.Body as kind
 use Rattle.oct_ops.specs.Body.{Body, Operation}
-use Rattle.oct_ops.specs.Operation.{Dot, Block, Period}
+use Rattle.oct_ops.specs.Operation.{Dot}
 use Rattle.oct_ops.specs.Operations as set
 use Rattle.oct_ops.specs.Operations.{Operations, listed}
 use Rattle.oct_ops.specs.Sets as sets
 use Rattle.oct_ops.specs.Games.{game_of_body, of_code}
 use Rattle.oct_notes.specs.Notes.{concerns_notes, notes_of}
 use Rattle.oct_period.specs.GameContent.{GameContent}
+pub use Rattle.oct_period.specs.GameContent.{with_block, with_period, with_body}
 use Rattle.oct_pages.specs.Catalogue.{blocks_of, claims_of}
 
 -- the game that is found at each code
@@ -51,19 +51,6 @@ new_game c = record { code = c; blocks = sets.empty; claims = sets.empty }
 -- the game of this code, or a new one
 abbrev pub game_at : Games → Code → GameContent
 game_at games c = unwrap_or (games c) (new_game c)
-
-abbrev pub with_block : GameContent → Dot → Block → GameContent
-with_block game d b = record game { blocks = sets.insert game.blocks (d, b) }
-
-abbrev pub with_period : GameContent → Dot → Period → GameContent
-with_period game d p = record game { claims = sets.insert game.claims (d, p) }
-
--- with a block or a claim under its dot; other bodies are of no game
-abbrev pub with_body : GameContent → Dot → Body → GameContent
-with_body game d (kind.Block b) = with_block game d b
-with_body game d (kind.Period p) = with_period game d p
-with_body game d (kind.Note n) = game
-with_body game d (kind.Removal r) = game
 
 -- the games after a body of this game, or of none, was put in under its dot
 abbrev pub filed_at : Games → Dot → Body → Option Code → Games

@@ -187,9 +187,10 @@ impl<A: Allocator + Copy> Replica<A> {
         let Some(dot) = self.next_dot() else {
             return Err((IssueError::LastNumber, body));
         };
-        match self.insert(Op::new(dot, body)) {
+        let op = Op::new(dot, body);
+        match self.add(&op) {
             Ok(_) => Ok(dot),
-            Err((_, op)) => Err((IssueError::OutOfMemory, op.into_body())),
+            Err(_) => Err((IssueError::OutOfMemory, op.into_body())),
         }
     }
 
@@ -431,19 +432,21 @@ impl<A: Allocator + Copy> Replica<A> {
         Some(own_dot(self.author, last + 1))
     }
 
-    // Puts the operation in, and says whether it is new. Memory can be refused only where it is; then nothing changes,
-    // and the operation comes back.
-    fn insert(&mut self, op: Op<A>) -> Result<bool, (AllocError, Op<A>)>
+    // Puts the operation in, and says whether it is new. The set and the operation's game, or the notes, share it. Memory can
+    // be refused only where it is new; then nothing changes.
+    fn insert(&mut self, op: Op<A>) -> Result<bool, AllocError>
         ensures added { IfOk result (λ added. added ≡ not (contains self.old.ops op)) }
         ensures ok { OnOk result (self.new ≡ record self.old { ops = insert self.old.ops op }) }
         ensures err { OnErr result (self.new ≡ self.old) }
         ensures absent { OnErr result (contains self.old.ops op ≡ false) }
-        ensures returned { IfErr result (λ refused. refused.1 ≡ op) }
     {
-        if self.store.contains(&op) {
+        let Some(shared) = self.store.insert_shared(op)? else {
             return Ok(false);
+        };
+        if let Err(refused) = file(&mut self.games, &mut self.notes, self.alloc, &shared) {
+            self.store.remove(shared.as_ref());
+            return Err(refused);
         }
-        self.insert_new(op)?;
         Ok(true)
     }
 
@@ -459,31 +462,7 @@ impl<A: Allocator + Copy> Replica<A> {
             return Ok(false);
         }
         let copy = op.copy(self.alloc)?;
-        match self.insert_new(copy) {
-            Ok(()) => Ok(true),
-            Err((refused, _)) => Err(refused),
-        }
-    }
-
-    // Puts in an operation that is not there: a copy goes into the set, and the operation itself into its game or the
-    // notes. Without memory nothing changes, and the operation comes back.
-    fn insert_new(&mut self, op: Op<A>) -> Result<(), (AllocError, Op<A>)>
-        requires { contains self.old.ops op ≡ false }
-        ensures ok { OnOk result (self.new ≡ record self.old { ops = insert self.old.ops op }) }
-        ensures err { OnErr result (self.new ≡ self.old) }
-        ensures returned { IfErr result (λ refused. refused.1 ≡ op) }
-    {
-        let Ok(copy) = op.copy(self.alloc) else {
-            return Err((AllocError, op));
-        };
-        if let Err((refused, _)) = self.store.insert(copy) {
-            return Err((refused, op));
-        }
-        if let Err((refused, op)) = file(&mut self.games, &mut self.notes, self.alloc, op) {
-            self.store.remove(&op);
-            return Err((refused, op));
-        }
-        Ok(())
+        self.insert(copy)
     }
 }
 

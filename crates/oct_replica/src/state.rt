@@ -12,16 +12,16 @@ use crate::error::LoadError;
 use crate::replica::Replica;
 use byteorder::{BigEndian, ByteOrder};
 use oct_delta::{DeltaError, EncodeError, decode, encode_each, put_bytes, put_u32};
+use oct_join::Ops;
 use oct_ops::{Op, OpList};
 use std::alloc::Allocator;
-use std::collections::btree_set::Iter;
 
 /// Appends the text of an author and the operations of its set. After a refusal what was there before is at the front.
 #[tactic(auto, using(oct_delta::proofs::Written::keeps_then))]
 pub(crate) fn put_state<A: Allocator>(
     out: &mut Vec<u8, A>,
     author: u32,
-    ops: Iter<'_, Op<A>>,
+    ops: Ops<'_, A>,
 ) -> Result<(), EncodeError>
     ensures ok { OnOk result (out.new.items ≡ out.old.items ++ state_text author ops.entry) }
     ensures kept { Keeps out.old.items out.new.items }

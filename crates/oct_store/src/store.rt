@@ -1,6 +1,6 @@
 //! A finite set of operations.
 
-ghost use Rattle.std.specs.Prelude.{◌≡◌, ◌↔◌, ◌++◌, not, false, length, IsTrue, IfOk, IfErr, OnOk, OnErr};
+ghost use Rattle.std.specs.Prelude.{◌≡◌, ◌↔◌, ◌++◌, not, false, length, true, IsTrue, MatchOption, IfOk, IfErr, OnOk, OnErr};
 ghost use Rattle.oct_ops.specs.Operations.{empty, insert, remove, contains, listed, union, IsSubset};
 ghost use Rattle.oct_ops.specs.OrderLaws.{op_cmp_total, op_cmp_exact};
 ghost use Rattle.oct_join.specs.SetBounds.{subset_order, union_bound};
@@ -10,11 +10,11 @@ ghost use Rattle.oct_store.specs.Summary as summary;
 use crate::author::Author;
 use crate::fork::Fork;
 use oct_code::Code;
-use oct_join::{Clock, Join, OpSet};
+use oct_join::{Clock, Join, OpSet, Ops};
 use oct_ops::{Op, OpList};
 use std::alloc::{AllocError, Allocator};
-use std::collections::btree_set;
 use std::marker::Model;
+use std::rc::Rc;
 
 /// A finite set of operations, in memory of `A`. Operations are the same only if dot and body are.
 ///
@@ -24,8 +24,8 @@ use std::marker::Model;
 ///     store.join(&other)?;                  // the union; a refusal leaves a set between the old one and the union
 ///     store.list()?                         // copies of all, in the operation order
 ///
-/// A look-up, an insertion and a removal take a number of steps that grows with the logarithm of the set's size. What is
-/// read off the whole set is read in one pass over it, in the order of the operations.
+/// A look-up, an insertion and a removal take what they take in an `OpSet`. What is read off the whole set is read in one
+/// pass over it, in the order of the operations.
 #[derive(Drop)]
 pub struct Store<A: Allocator + Copy> {
     ops: OpSet<A>,
@@ -86,6 +86,17 @@ impl<A: Allocator + Copy> Store<A> {
         self.ops.insert(op)
     }
 
+    /// Puts the operation in, and gives what shares it if it is new. Memory can be refused only for one that is not there;
+    /// then the set stays as it is.
+    pub fn insert_shared(&mut self, op: Op<A>) -> Result<Option<Rc<Op<A>, A>>, AllocError>
+        ensures added { IfOk result (λ shared. MatchOption shared (contains self.old op ≡ true) (λ shared. (contains self.old op ≡ false) × (shared.value ≡ op))) }
+        ensures ok { OnOk result (self.new ≡ insert self.old op) }
+        ensures err { OnErr result (self.new ≡ self.old) }
+        ensures absent { OnErr result (contains self.old op ≡ false) }
+    {
+        self.ops.insert_shared(op)
+    }
+
     /// Takes the operation out, and says whether it was there.
     pub fn remove(&mut self, op: &Op<A>) -> bool
         ensures was { result ≡ contains self.old op.now }
@@ -95,7 +106,7 @@ impl<A: Allocator + Copy> Store<A> {
     }
 
     /// The operations in their order.
-    pub fn iter(&self) -> btree_set::Iter<'_, Op<A>>
+    pub fn iter(&self) -> Ops<'_, A>
         ensures { result ≡ listed self.now }
     {
         self.ops.iter()

@@ -11,7 +11,7 @@ use Rattle.oct_verify.specs.Filed.{Filed}
 use Rattle.oct_verify.specs.Filing.{Filing}
 use Rattle.oct_verify.specs.Kept.{filing_of, listed, blocks_of, IsPlaceOf}
 use Rattle.oct_verify.specs.Known.{IsKnownLength, known, status}
-use Rattle.oct_verify.specs.Chunked.{chunked}
+use Rattle.chunked.specs.Chunked.{chunked}
 use Rattle.oct_verify.specs.Shelf.{shelved, IsKept}
 use Rattle.oct_verify.specs.declared.shelf.Shelf.{Shelf}
 use Rattle.oct_verify.proofs.Filings.{listed_again}

@@ -3,19 +3,22 @@ use Rattle.std.proofs.Common.{◌≡◌, ℕ, ◌<◌, ◌≤◌, Bool, true, fa
 use Rattle.std.specs.List.{AllWithin}
 use Rattle.std.specs.List.Sorted.{IsPartitionedBy, IsPartitionPoint}
 use Rattle.std.proofs.lemmas.List.{get_or_default}
-use Rattle.std.proofs.lemmas.Bool.{cases_lt, cases_order, true≢false}
+use Rattle.std.proofs.lemmas.Bool.{cases_lt, cases_order, false_from_ne_true, true≢false}
 use Rattle.oct_code.specs.Code.{Code}
 use Rattle.oct_ops.specs.Operation.{Block}
+use Rattle.oct_ops.specs.Sets.{contains}
 use Rattle.oct_verify.specs.Filed.{Filed}
+use Rattle.oct_verify.specs.Filing.{Filing}
 use Rattle.oct_verify.specs.Kept.{is_pending, IsSettling}
-use Rattle.oct_verify.specs.Chunked.{chunked, index_of, IsChunked, IsInside, IsBeside, IsItemAt, content}
-use Rattle.oct_verify.specs.Shelf.{IsHalfway, IsKept}
+use Rattle.chunked.specs.Chunked.{chunked, index_of, IsChunked, IsInside, IsBeside, IsItemAt, content}
+use Rattle.oct_verify.specs.Shelf.{shelved, HasRoomFor, IsHalfway, IsKept}
 use Rattle.oct_verify.specs.Known.{first_wrong, verdict_at, verdict}
-use Rattle.oct_verify.specs.declared.chunks.Chunks.{Chunks}
-use Rattle.oct_verify.specs.declared.chunks.Place.{Place}
+use Rattle.chunked.specs.declared.chunks.Chunks.{Chunks}
+use Rattle.chunked.specs.declared.chunks.Place.{Place}
 use Rattle.oct_verify.specs.declared.shelf.Shelf.{Shelf}
-use Rattle.oct_verify.proofs.Joining.{end-upto}
+use Rattle.chunked.proofs.Joining.{end-upto, within-joined}
 use Rattle.oct_verify.proofs.Keeping.{more_room}
+use Rattle.oct_verify.proofs.Searching.{gap_not_filed}
 
 module _ {X : Type 0} (q : X → Bool) (xs : List X) (mark : ℕ) (pass : AllWithin (λ x. q x ≡ true) xs 0 mark) (fail : AllWithin (λ x. q x ≡ false) xs mark (length xs)) where
   pub parted_by_mark : IsPartitionedBy q xs
@@ -48,16 +51,17 @@ module _ (code : Code) (es : List Filed) (settled known room : ℕ) (h : IsSettl
 
 -- a place with an entry is one of the list
 pub inside_within : {X A : Type 0} (s : Chunks X A) (place : Place) → IsInside s place → index_of s place < length (chunked s)
-inside_within s place h = elim s.chunks.items as (λ l. s.chunks.items ≡ l → index_of s place < length (chunked s)) [
-  | [] ↦ λ e. absurd (omega (arith, h.chunk, ap length e))
-  | v ∷ vs ↦ λ e. omega (arith, end-upto content s.chunks.items place.chunk v h.chunk, h.at v)
-] refl
+inside_within s place h = within-joined content s.chunks.items place.chunk place.at h.chunk h.at
 
 pub beside_upto : {X A : Type 0} (s : Chunks X A) (place : Place) → IsBeside s place → index_of s place ≤ length (chunked s)
 beside_upto s place h = elim s.chunks.items as (λ l. s.chunks.items ≡ l → index_of s place ≤ length (chunked s)) [
   | [] ↦ λ e. absurd (omega (arith, h.chunk, ap length e))
   | v ∷ vs ↦ λ e. omega (arith, end-upto content s.chunks.items place.chunk v h.chunk, h.at v)
 ] refl
+
+-- a block that has room only now is not there
+pub absent_yet : {A : Type 0} (s : Shelf A) (f : Filing) (place : Place) → HasRoomFor s f place → contains (shelved s) f ≡ false
+absent_yet s f place h = false_from_ne_true _ (gap_not_filed (chunked s.entries) f (index_of s.entries place) h.gap)
 
 -- the first entry that waits, where there is one
 pub record IsFirstWaiting {A : Type 0} (s : Shelf A) (here : Place) (entry : Filed) : Type 0 where

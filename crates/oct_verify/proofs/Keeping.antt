@@ -23,7 +23,7 @@ use Rattle.oct_verify.specs.declared.status.Status.{Status}
 use Rattle.oct_verify.specs.declared.status.Status.TheVariants.{Proved, Refuted, Pending}
 use Rattle.oct_verify.proofs.Filings.{set_of-insert}
 use Rattle.oct_verify.proofs.KnownLaws.{shows-place, shown-by}
-use Rattle.oct_verify.proofs.Lists.{AllWithin-insert, AllWithin-insert_before, AllWithin-insert_after, All-insert, AllPairs-insert, map-insert, AllWithin-set_before, map-set_same}
+use Rattle.chunked.proofs.Lists.{AllWithin-insert, AllWithin-insert_before, AllWithin-insert_after, All-insert, AllPairs-insert, map-insert, AllWithin-set_before, map-set_same}
 use Rattle.oct_verify.proofs.Verdicts.{verdict_cases, proved, refuted, proved_from_true}
 
 -- a known length grows

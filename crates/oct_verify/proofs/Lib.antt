@@ -1,7 +1,4 @@
-mod Chunking
 mod Ending
-mod Joining
-mod Lists
 mod Lookup
 pub mod Answered
 pub mod Filings

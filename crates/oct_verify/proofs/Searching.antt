@@ -1,11 +1,12 @@
 -- What a binary search among rising entries finds.
-use Rattle.std.proofs.Common.{◌≡◌, ◌≢◌, ℕ, ◌<◌, ◌≤◌, Bool, true, false, List, length, get_or, refl, sym, ap, subst, ◌∙◌, arith, inl, inr}
+use Rattle.std.proofs.Common.{◌≡◌, ◌≢◌, ℕ, ◌<◌, ◌≤◌, true, false, List, length, get_or, refl, sym, ap, subst, ◌∙◌, arith, inl, inr}
 use Rattle.std.specs.List.{AllPairs, AllWithin}
-use Rattle.std.specs.List.Sorted.{IsPartitionedBy, IsPartitionPoint}
+use Rattle.std.specs.List.Sorted.{IsPartitionedBy}
 use Rattle.std.specs.Ordering.{is_lt, ordering_reverse}
 use Rattle.std.specs.declared.cmp.Ordering.{Ordering}
 use Rattle.std.specs.declared.cmp.Ordering.TheVariants.{Less, Equal, Greater}
-use Rattle.std.proofs.lemmas.List.{length-map, get_or-map, get_or_default}
+use Rattle.std.proofs.lemmas.List.{length-map, get_or-map}
+use Rattle.chunked.specs.Chunked.{IsFound, IsGapAt}
 use Rattle.oct_ops.specs.Sets.{contains}
 use Rattle.oct_verify.specs.Filing.{Filing, filing_cmp}
 use Rattle.oct_verify.specs.Kept.{IsGap, IsPlaceOf, filing_of, listed, filings_of}
@@ -39,21 +40,23 @@ module _ (es : List Filed) (rising : AllPairs (λ f g. filing_cmp f g ≡ Less) 
       let less' = subst (λ g. filing_cmp g (get_or (listed es) j (filing_of d)) ≡ Less) (get_or-map filing_of es i d (filing_of d) (omega arith)) less in
       subst (λ g. filing_cmp (filing_of (get_or es i d)) g ≡ Less) (get_or-map filing_of es j d (filing_of d) hi) less'
 
-  abbrev before : Filed → Bool
-  before e = is_lt (filing_cmp (filing_of e) f)
+  abbrev order : Filed → Ordering
+  order e = filing_cmp (filing_of e) f
 
   -- no entry that is before f comes after one that is not
-  pub parted_before : IsPartitionedBy before es
+  pub parted_before : IsPartitionedBy (λ e. is_lt (order e)) es
   parted_before i j d le lt passes = elim (cases_lt i j) [
-    | inr same ↦ ap (λ k. before (get_or es k d)) (let e : i ≡ j = omega arith in e) ∙ passes
+    | inr same ↦ ap (λ k. is_lt (order (get_or es k d))) (let e : i ≡ j = omega arith in e) ∙ passes
     | inl earlier ↦ ap is_lt (filing_cmp_total.trans (filing_of (get_or es i d)) (filing_of (get_or es j d)) f (less_at i j d earlier lt) (less_from_lt _ passes))
   ]
 
   -- where f is not, it has a gap
-  pub gap_at : (at : ℕ) → at ≤ length es → IsPartitionPoint (λ e. before e ≡ true) (λ e. before e ≡ false) es at → ((d : Filed) → at < length es → filing_cmp (filing_of (get_or es at d)) f ≢ Equal) → IsGap es f at
-  gap_at at le point other =
-      let here : (d : Filed) → at < length es → filing_cmp f (filing_of (get_or es at d)) ≡ Less = λ d lt. turned f (filing_of (get_or es at d)) Greater (greater_from_not _ (point.1 at d (omega arith) lt) (other d lt)) in (
-        AllWithin-listed (λ g. filing_cmp g f ≡ Less) es 0 at le (λ k d lo hi. less_from_lt _ (point.0 k d lo hi)),
+  pub gap_at : (at : ℕ) → IsGapAt order es at → IsGap es f at
+  gap_at at found =
+      let le = found.0 in
+      let point = found.1 in
+      let here : (d : Filed) → at < length es → filing_cmp f (filing_of (get_or es at d)) ≡ Less = λ d lt. turned f (filing_of (get_or es at d)) Greater (greater_from_not _ (point.1 at d (omega arith) lt) (found.2 d lt)) in (
+        AllWithin-listed (λ g. filing_cmp g f ≡ Less) es 0 at le (λ k d lo hi. point.0 k d lo hi),
         subst (λ n. AllWithin (λ g. filing_cmp f g ≡ Less) (listed es) at n) (sym (length-map es filing_of))
             (AllWithin-listed (λ g. filing_cmp f g ≡ Less) es at (length es) (omega arith) (λ k d lo hi. elim (cases_lt at k) [
               | inr same ↦ ap (λ i. filing_cmp f (filing_of (get_or es i d))) (let e : k ≡ at = omega arith in e) ∙ here d (omega arith)
@@ -61,8 +64,8 @@ module _ (es : List Filed) (rising : AllPairs (λ f g. filing_cmp f g ≡ Less) 
             ])),
       )
 
-  pub place_at : (at : ℕ) (e : Filed) → at < length es → get_or es at e ≡ e → filing_cmp (filing_of e) f ≡ Equal → IsPlaceOf es f at
-  place_at at e lt is equal = record { within = lt; is = λ d. ap filing_of (get_or_default es at d e lt ∙ is) ∙ filing_cmp_exact (filing_of e) f equal }
+  pub place_at : (at : ℕ) → IsFound order es at → IsPlaceOf es f at
+  place_at at found = record { within = found.0; is = λ d. filing_cmp_exact _ f (found.1 d) }
 
   pub filed_at : (at : ℕ) → IsPlaceOf es f at → contains (filings_of es) f ≡ true
   filed_at at h = filed_from_contains (listed es) f (at, omega (arith, h.within, length-map es filing_of), get_or-map filing_of es at (entry_of f) f h.within ∙ h.is (entry_of f))

@@ -1,7 +1,6 @@
 pub use Rattle.oct_code.specs.Code
 pub use Rattle.oct_mex.specs.NimValues
 pub use Rattle.oct_ops.specs.Operation
-pub mod Chunked
 pub mod Filed
 pub mod Filing
 pub mod FilingLaws

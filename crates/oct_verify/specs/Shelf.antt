@@ -4,8 +4,8 @@ use Rattle.oct_code.specs.declared.limits.TheConstants.{LIMIT}
 use Rattle.oct_verify.specs.Filed.{Filed}
 use Rattle.oct_verify.specs.Filing.{Filing, Filings}
 use Rattle.oct_verify.specs.Kept.{Fits, IsSettling, AreParked, IsGap, filings_of}
-use Rattle.oct_verify.specs.Chunked.{chunked, index_of, IsChunked, IsInside, IsBeside, HasRoom}
-use Rattle.oct_verify.specs.declared.chunks.Place.{Place}
+use Rattle.chunked.specs.Chunked.{chunked, index_of, IsChunked, IsInside, IsBeside, HasRoom}
+use Rattle.chunked.specs.declared.chunks.Place.{Place}
 use Rattle.oct_verify.specs.declared.shelf.Shelf.{Shelf}
 
 -- the blocks of the shelf

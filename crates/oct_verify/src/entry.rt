@@ -1,48 +1,63 @@
-//! A block under its dot with its status, and tests of such entries.
+//! The operation of a block with its status, and what entries are searched by.
 
-ghost use Rattle.std.specs.Prelude.{◌≡◌, not, set};
-ghost use Rattle.std.specs.Ordering.{is_lt};
-ghost use Rattle.oct_verify.specs.Filed.{Filed};
-ghost use Rattle.oct_verify.specs.Filing.{filing_cmp};
+ghost use Rattle.std.specs.Prelude.{◌≡◌, not};
+ghost use Rattle.std.specs.Option.{IsSome};
+ghost use Rattle.oct_verify.specs.Filed.{block_in, filed_of};
+ghost use Rattle.oct_verify.specs.Filing.{block_of, filing_cmp};
 ghost use Rattle.oct_verify.specs.Kept.{filing_of, is_pending};
-ghost use Rattle.oct_verify.specs.Chunked.{chunked, index_of, IsChunked, IsInside, IsItemAt};
+ghost use Rattle.oct_verify.specs.declared.status.Status.TheVariants.{Pending};
 
-use crate::chunks::{Chunks, Place, Test};
 use crate::status::Status;
-use oct_ops::{Block, Dot};
+use chunked::{Change, Probe, Test};
+use oct_ops::{Block, Body, Dot, Op};
 use std::alloc::Allocator;
 use std::cmp::Ordering;
 use std::marker::Model;
+use std::rc::Rc;
 
-/// A block under its dot, with its status.
+/// A block under its dot, with its status. The operation that it is may be shared.
 #[derive(Drop)]
 pub(crate) struct Entry<A: Allocator> {
-    dot: Dot,
-    block: Block<A>,
+    op: Rc<Op<A>, A>,
     status: Status,
 }
 
 impl<A: Allocator> Model for Entry<A> {
-    ghost use Rattle.oct_verify.specs.Filed.{Filed};
+    ghost use Rattle.std.specs.Option.{IsSome};
+    ghost use Rattle.oct_verify.specs.Filed.{Filed, filed_of};
+    ghost use Rattle.oct_verify.specs.Filing.{block_of};
 
     ghost Value = { Filed };
 
-    ghost view = { λ e. record { dot = e.dot; block = e.block; status = e.status } };
+    ghost view = { λ e. filed_of e.op.value e.status };
+
+    ghost invariant = { λ e. IsSome (block_of e.op.value.body) };
 }
 
 impl<A: Allocator> Entry<A> {
-    /// The entry of a block with this status.
-    pub(crate) fn new(dot: Dot, block: Block<A>, status: Status) -> Entry<A>
-        ensures { result ≡ record { dot = dot; block = block; status = status } }
+    /// The entry of a block that is not judged yet.
+    pub(crate) fn new(op: Rc<Op<A>, A>) -> Entry<A>
+        requires { IsSome (block_of op.value.body) }
+        ensures { result ≡ filed_of op.value Pending }
     {
-        Entry { dot, block, status }
+        Entry {
+            op,
+            status: Status::Pending,
+        }
+    }
+
+    /// Who made the block, and which of the author's operations it is.
+    pub(crate) fn dot(&self) -> Dot
+        ensures { result ≡ self.now.dot }
+    {
+        self.op.dot()
     }
 
     /// The block.
     pub(crate) fn block(&self) -> &Block<A>
         ensures { result.now ≡ self.now.block }
     {
-        &self.block
+        block_within(&self.op)
     }
 
     /// Its status.
@@ -58,41 +73,48 @@ impl<A: Allocator> Entry<A> {
     {
         self.status = status;
     }
+}
 
-    /// By the first place, then by the dot, then by the block.
-    pub(crate) fn compare(&self, dot: &Dot, block: &Block<A>) -> Ordering
-        ensures { result ≡ filing_cmp (filing_of self.now) (dot.now, block.now) }
-    {
-        let starts = self.block.start().cmp(&block.start());
-        starts.then_with(|| self.dot.cmp(dot).then_with(|| self.block.cmp(block)))
+/// The block of an operation.
+pub(crate) fn block_within<A: Allocator>(op: &Op<A>) -> &Block<A>
+    requires { IsSome (block_of op.now.body) }
+    ensures { result.now ≡ block_in op.now.body }
+{
+    match op.body() {
+        Body::Block(block) => block,
+        Body::Period(_) | Body::Note(_) | Body::Removal(_) => unreachable!(),
     }
 }
 
-impl<A: Allocator + Copy> Chunks<Entry<A>, A> {
-    /// Writes the status of the entry at a place.
-    pub(crate) fn set_status(&mut self, place: Place, status: Status)
-        requires chunked { IsChunked self.old }
-        requires inside { IsInside self.old place }
-        ensures chunked { IsChunked self.new }
-        ensures len { self.new.len ≡ self.old.len }
-        ensures items { (e : Filed) → IsItemAt self.old place e → chunked self.new ≡ set (chunked self.old) (index_of self.old place) (record e { status = status }) }
-    {
-        self.chunks[place.chunk][place.at].set_status(status);
+/// The block of an operation alone.
+pub(crate) fn into_block<A: Allocator>(op: Op<A>) -> Block<A>
+    requires { IsSome (block_of op.body) }
+    ensures { result ≡ block_in op.body }
+{
+    match op.into_body() {
+        Body::Block(block) => block,
+        Body::Period(_) | Body::Note(_) | Body::Removal(_) => unreachable!(),
     }
 }
 
-/// That an entry comes before a block.
+/// The block that is searched, under its dot.
 #[derive(Clone, Copy)]
-pub(crate) struct IsBefore<'a, A: Allocator> {
+pub(crate) struct Sought<'a, A: Allocator> {
     pub(crate) dot: &'a Dot,
     pub(crate) block: &'a Block<A>,
 }
 
-impl<A: Allocator> Test<Entry<A>> for IsBefore<'_, A> {
-    ghost passes = { λ t e. is_lt (filing_cmp (filing_of e) (t.dot.now, t.block.now)) };
+impl<A: Allocator> Probe<Entry<A>> for Sought<'_, A> {
+    ghost order = { λ s e. filing_cmp (filing_of e) (s.dot.now, s.block.now) };
 
-    fn passes(&self, entry: &Entry<A>) -> bool {
-        entry.compare(self.dot, self.block) == Ordering::Less
+    // By the first place, then by the dot, then by the block.
+    fn compare(&self, entry: &Entry<A>) -> Ordering {
+        let block = entry.block();
+        let starts = block.start().cmp(&self.block.start());
+        starts.then_with(|| entry
+            .dot()
+            .cmp(self.dot)
+            .then_with(|| block.cmp(self.block)))
     }
 }
 
@@ -105,5 +127,19 @@ impl<A: Allocator> Test<Entry<A>> for IsSettled {
 
     fn passes(&self, entry: &Entry<A>) -> bool {
         entry.status() != Status::Pending
+    }
+}
+
+/// That an entry gets this status.
+#[derive(Clone, Copy)]
+pub(crate) struct Judged {
+    pub(crate) status: Status,
+}
+
+impl<A: Allocator> Change<Entry<A>> for Judged {
+    ghost changed = { λ j e. record e { status = j.status } };
+
+    fn change(&self, entry: &mut Entry<A>) {
+        entry.set_status(self.status);
     }
 }

@@ -1,20 +1,24 @@
 //! The ledger of a game.
 
 ghost use Rattle.std.specs.Prelude.{◌≡◌, ◌+◌, ◌<◌, ◌≤◌, true, false, Some, None, nat_le, nat_lt, if◌then◌else◌, count_by, length, OnOk, OnErr, IfOk, IfErr};
+ghost use Rattle.std.specs.Option.{IsSome};
 ghost use Rattle.oct_mex.specs.NimValues.{nim_value, nim_values};
+ghost use Rattle.oct_ops.specs.Games.{game_of};
 ghost use Rattle.oct_ops.specs.Sets as sets;
-ghost use Rattle.oct_verify.specs.Filing.{AreBlocksOf, Filing, blocks_in};
+ghost use Rattle.oct_verify.specs.Filing.{AreBlocksOf, Filing, block_of, blocks_in, has_block_of, with_block_of};
 ghost use Rattle.oct_verify.specs.Known.{known, status, IsKnownLength};
 ghost use Rattle.oct_verify.specs.Next.{next_values};
 
 use crate::shelf::Shelf;
 use crate::status::Status;
 use oct_code::{Code, LIMIT};
-use oct_ops::{Block, Dot};
+use oct_ops::{Block, Dot, Op};
 use std::alloc::{AllocError, Allocator};
 use std::marker::Model;
+use std::rc::Rc;
 
-/// A finite set of blocks of one game, each under its dot, with what is known from them. Only `insert` asks for memory.
+/// A finite set of blocks of one game, each under its dot, with what is known from them. Only `insert` and `share`
+/// ask for memory to keep.
 #[derive(Drop)]
 pub struct Ledger<A: Allocator + Copy> {
     shelf: Shelf<A>,
@@ -62,6 +66,18 @@ impl<A: Allocator + Copy> Ledger<A> {
         ensures returned { IfErr result (λ refused. refused.1 ≡ block) }
     {
         self.shelf.insert(dot, block)
+    }
+
+    /// Puts in the block of an operation of the game, which is shared, as `insert` does. One that is there changes nothing, and
+    /// asks for no memory. Where memory is refused, nothing changes.
+    pub fn share(&mut self, op: &Rc<Op<A>, A>) -> Result<(), AllocError>
+        requires block { IsSome (block_of op.now.value.body) }
+        requires game { game_of op.now.value ≡ Some self.old.code }
+        ensures ok { OnOk result (self.new ≡ with_block_of self.old op.now.value) }
+        ensures err { OnErr result (self.new ≡ self.old) }
+        ensures absent { OnErr result (has_block_of self.old op.now.value ≡ false) }
+    {
+        self.shelf.share(op)
     }
 
     /// The known length: the greatest number, from 1 on, such that each heap from 1 on below it lies in some true block.
@@ -123,7 +139,7 @@ impl<A: Allocator + Copy> Ledger<A> {
     {
         let start = self.known() as usize;
         let end = start + count as usize;
-        let alloc = self.shelf.entries.alloc;
+        let alloc = self.shelf.alloc;
         let mut values = self.shelf.comparer.values.copy(alloc)?;
         values.extend_to(end)?;
         Vec::from_slice(alloc, &values.as_slice()[start..end])

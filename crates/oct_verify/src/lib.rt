@@ -9,12 +9,11 @@
 //!     ledger.insert(near, at_1_to_6)?;  // settles both: known 8
 //!     ledger.status(&far, &at_7)        // Proved
 //!
-//! - `Ledger` is a code and a finite set of pairs of a dot and a block.
+//! - `Ledger` is a code and a finite set of pairs of a dot and a block. A block may be shared with who has its operation.
 //! - `Status` says whether a block is proved, refuted at its least wrong place, or pending.
 //! - `laws` says what holds of all sets of blocks.
 #![tactic(auto)]
 
-mod chunks;
 mod comparer;
 mod entry;
 pub mod laws;

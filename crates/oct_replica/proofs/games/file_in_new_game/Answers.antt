@@ -20,5 +20,5 @@ returns-in-Err-clause-err g c =
 
 pub returns-clause-ok : goal.returns-clause-ok
 returns-clause-ok g c =
-    put_made (tree.get code_cmp c.args.games.now) (tree.get code_cmp c.insert.new.self) (tree.get code_cmp c.file_there.new.games) c.args.code c.args.code c.new-game.result (λ game. with_body game c.args.op.dot c.args.op.body)
+    put_made (tree.get code_cmp c.args.games.now) (tree.get code_cmp c.insert.new.self) (tree.get code_cmp c.file_there.new.games) c.args.code c.args.code c.new-game.result (λ game. with_body game c.args.op.now.value.dot c.args.op.now.value.body)
     refl c.new-game.ensures c.requires.absent c.in-Ok.ensures.updates.0 c.in_default-file_there.ensures.ok

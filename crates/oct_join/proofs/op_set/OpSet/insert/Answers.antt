@@ -1,29 +1,59 @@
-use Rattle.std.proofs.Common.{sym, ap, ◌∙◌, not}
+use Rattle.std.proofs.Common.{◌≡◌, not, sym, ap, ◌∙◌}
+use Rattle.std.specs.List.{insert}
+use Rattle.chunked.specs.Chunked.{chunked, index_of}
 use Rattle.oct_ops.specs.Operations as set
-use Rattle.oct_ops.specs.SetLaws.{contains-keys, keys_added}
 use Rattle.oct_ops.specs.OrderLaws.{op_cmp_total, op_cmp_exact}
+use Rattle.oct_ops.specs.SetLaws.{insert_held}
+use Rattle.oct_join.specs.Shared.{content}
+use Rattle.oct_join.proofs.Searching.{contains_found, contains_missing, parted, rises_grown, set_grown}
 use Rattle.oct_join.proofs.op_set.OpSet.insert.Goals as goal
-use Rattle.oct_join.proofs.op_set.OpSet.insert.Goals.{in-Ok, in-Err}
+
+pub search-requires-clause-parted : goal.search-requires-clause-parted
+search-requires-clause-parted g c = parted content op_cmp_total op_cmp_exact (chunked c.self.inside.ops) c.args.op c.self.invariant.1
+
+-- it is there already
+pub returns-in_default-clause-added : goal.returns-in_default-clause-added
+returns-in_default-clause-added g c =
+    let ops = c.self.inside.ops in
+    let x = c.args.op in
+    ap not (sym (sym (ap (λ s. set.contains s x) c.self.view_is) ∙ contains_found content op_cmp_total op_cmp_exact (chunked ops) x c.self.invariant.1 (index_of ops c.in_default.field-0) c.in_default.ensures.1))
+
+pub returns-in_default-clause-ok : goal.returns-in_default-clause-ok
+returns-in_default-clause-ok g c =
+    let ops = c.self.inside.ops in
+    let x = c.args.op in
+    sym (insert_held op_cmp_total op_cmp_exact _ x (sym (ap (λ s. set.contains s x) c.self.view_is) ∙ contains_found content op_cmp_total op_cmp_exact (chunked ops) x c.self.invariant.1 (index_of ops c.in_default.field-0) c.in_default.ensures.1))
+
+pub returns-in-Err-room_at-clause-absent : goal.returns-in-Err-room_at-clause-absent
+returns-in-Err-room_at-clause-absent g c =
+    let ops = c.self.inside.ops in
+    let x = c.args.op in
+    sym (ap (λ s. set.contains s x) c.self.view_is) ∙ contains_missing content op_cmp_total op_cmp_exact (chunked ops) x c.self.invariant.1 (index_of ops c.in-Err.place) c.in-Err.ensures.1
+
+pub returns-in-Err-new-clause-absent : goal.returns-in-Err-new-clause-absent
+returns-in-Err-new-clause-absent g c =
+    let ops = c.self.inside.ops in
+    let x = c.args.op in
+    sym (ap (λ s. set.contains s x) c.self.view_is) ∙ contains_missing content op_cmp_total op_cmp_exact (chunked ops) x c.self.invariant.1 (index_of ops c.in-Err.place) c.in-Err.ensures.1
 
 pub returns-clause-added : goal.returns-clause-added
 returns-clause-added g c =
-    let seen = sym (contains-keys op_cmp_total op_cmp_exact c.self.inside.ops c.args.op) ∙ ap (λ s. set.contains s c.args.op) c.self.view_is in
-    elim c.match-insert.branch [
-      | in-Ok w ↦ rw w.result-is (w.in-Ok.ensures.added ∙ ap not seen)
-      | in-Err w ↦ rw w.result-is tt
-    ]
+    let ops = c.self.inside.ops in
+    let x = c.args.op in
+    ap not (sym (sym (ap (λ s. set.contains s x) c.self.view_is) ∙ contains_missing content op_cmp_total op_cmp_exact (chunked ops) x c.self.invariant.1 (index_of ops c.in-Err.place) c.in-Err.ensures.1))
+
+pub invariant_of-self-in-Ok-new : goal.invariant_of-self-in-Ok-new
+invariant_of-self-in-Ok-new g c =
+    let ops = c.self.inside.ops in
+    let x = c.args.op in
+    let more : chunked c.insert.new.self ≡ insert (chunked ops) (index_of ops c.in-Err.place) c.in-Ok-new.shared =
+    c.insert.ensures.items ∙ (λ i. insert (c.in-Ok.ensures.same i) (c.in-Ok.ensures.ok.2 i) c.in-Ok-new.shared) in
+    (c.insert.ensures.chunked, rises_grown content op_cmp_total op_cmp_exact (chunked ops) _ (index_of ops c.in-Err.place) c.in-Ok-new.shared x c.in-Ok-new.ensures.ok c.self.invariant.1 c.in-Err.ensures.1 more)
 
 pub returns-clause-ok : goal.returns-clause-ok
 returns-clause-ok g c =
-    elim c.match-insert.branch [
-      | in-Ok w ↦ rw w.result-is (keys_added op_cmp_total op_cmp_exact _ _ _ w.in-Ok.ensures.updates ∙ ap (λ s. set.insert s c.args.op) c.self.view_is)
-      | in-Err w ↦ rw w.result-is tt
-    ]
-
-pub returns-clause-absent : goal.returns-clause-absent
-returns-clause-absent g c =
-    let seen = sym (contains-keys op_cmp_total op_cmp_exact c.self.inside.ops c.args.op) ∙ ap (λ s. set.contains s c.args.op) c.self.view_is in
-    elim c.match-insert.branch [
-      | in-Ok w ↦ rw w.result-is tt
-      | in-Err w ↦ rw w.result-is (sym seen ∙ w.in-Err.ensures.absent)
-    ]
+    let ops = c.self.inside.ops in
+    let x = c.args.op in
+    let more : chunked c.insert.new.self ≡ insert (chunked ops) (index_of ops c.in-Err.place) c.in-Ok-new.shared =
+    c.insert.ensures.items ∙ (λ i. insert (c.in-Ok.ensures.same i) (c.in-Ok.ensures.ok.2 i) c.in-Ok-new.shared) in
+    set_grown content op_cmp_total op_cmp_exact (chunked ops) _ (index_of ops c.in-Err.place) c.in-Ok-new.shared x c.in-Ok-new.ensures.ok c.self.invariant.1 c.in-Err.ensures.1 more ∙ ap (λ s. set.insert s x) c.self.view_is

@@ -29,7 +29,7 @@ returns-in-Ok-clause-dot g c = c.in-Some.ensures.dot
 pub returns-in-Ok-clause-ok : goal.returns-in-Ok-clause-ok
 returns-in-Ok-clause-ok g c =
     c.in-Ok.ensures.ok
-    ∙ ap (λ (o : Operation). record { author = c.args.self.now.author; ops = insert c.args.self.now.ops o }) (c.new.ensures
+    ∙ ap (λ (o : Operation). record { author = c.args.self.now.author; ops = insert c.args.self.now.ops o }) (c.new-op.ensures
     ∙ ap (λ d. record { dot = d; body = content c.args.body }) c.in-Some.ensures.dot)
 
 pub returns-in-Ok-clause-room : goal.returns-in-Ok-clause-room
@@ -60,4 +60,4 @@ pub returns-in-Err-clause-err : goal.returns-in-Err-clause-err
 returns-in-Err-clause-err g c = c.in-Err.ensures.err
 
 pub returns-in-Err-clause-returned : goal.returns-in-Err-clause-returned
-returns-in-Err-clause-returned g c = c.into_body.ensures.value ∙ ap (λ (o : Operation). o.body) (c.in-Err.ensures.returned ∙ c.new.ensures)
+returns-in-Err-clause-returned g c = c.into_body.ensures.value ∙ ap (λ (o : Operation). o.body) c.new-op.ensures

@@ -2,7 +2,7 @@ use Rattle.std.proofs.Common.{sym, subst}
 use Rattle.oct_ops.specs.Sets as set
 use Rattle.oct_verify.specs.Filing.{AreBlocksOf, GameBlocks}
 use Rattle.oct_verify.specs.Kept.{listed}
-use Rattle.oct_verify.specs.Chunked.{chunked}
+use Rattle.chunked.specs.Chunked.{chunked}
 use Rattle.oct_verify.proofs.Filings.{listed_again}
 use Rattle.oct_verify.proofs.ledger.Ledger.code.Goals as goal
 

@@ -3,7 +3,7 @@ use Rattle.oct_ops.specs.Sets.{contains}
 use Rattle.oct_verify.specs.Filed.{Filed}
 use Rattle.oct_verify.specs.Filing.{Filing, GameBlocks, blocks_in}
 use Rattle.oct_verify.specs.Known.{status}
-use Rattle.oct_verify.specs.Chunked.{chunked, index_of}
+use Rattle.chunked.specs.Chunked.{chunked, index_of}
 use Rattle.oct_verify.proofs.Answered.{status_is}
 use Rattle.oct_verify.proofs.Searching.{gap_not_filed}
 use Rattle.oct_verify.proofs.ledger.Ledger.status.Goals as goal

@@ -4,7 +4,7 @@ use Rattle.oct_ops.specs.Sets.{contains}
 use Rattle.oct_verify.specs.Shelf.{shelved}
 use Rattle.oct_mex.specs.Held.{Held}
 use Rattle.oct_verify.specs.Filing.{Filing}
-use Rattle.oct_verify.specs.Chunked.{chunked, index_of}
+use Rattle.chunked.specs.Chunked.{chunked, index_of}
 use Rattle.oct_verify.proofs.Growing.{kept_grown}
 use Rattle.oct_verify.proofs.Searching.{filed_at, gap_not_filed}
 use Rattle.oct_verify.proofs.shelf.Shelf.make_room.Goals as goal
@@ -17,7 +17,7 @@ returns-in_err-room_at-clause-kept g c =
     let old = c.args.self.now in
     let more = c.in_ok-room_to.ensures.ok in
     let room = ap (λ (h : Held). h.room) more in
-    kept_grown old record { comparer = record old.comparer { values = c.room_to.new.self }; entries = c.room_at.new.self; known = old.known } c.requires.kept c.in_err-room_at.ensures.chunked c.in_err-room_at.ensures.same refl refl
+    kept_grown old record { comparer = record old.comparer { values = c.room_to.new.self }; entries = c.room_at.new.self; known = old.known; alloc = old.alloc } c.requires.kept c.in_err-room_at.ensures.chunked c.in_err-room_at.ensures.same refl refl
     (ap (λ (h : Held). h.code) more) (ap (λ (h : Held). h.len) more) (omega (arith, room))
 
 pub returns-clause-kept : goal.returns-clause-kept
@@ -25,7 +25,7 @@ returns-clause-kept g c =
     let old = c.args.self.now in
     let more = c.in_ok-room_to.ensures.ok in
     let room = ap (λ (h : Held). h.room) more in
-    kept_grown old record { comparer = record old.comparer { values = c.room_to.new.self }; entries = c.room_at.new.self; known = old.known } c.requires.kept c.in_ok-room_at.ensures.chunked c.in_ok-room_at.ensures.same refl refl
+    kept_grown old record { comparer = record old.comparer { values = c.room_to.new.self }; entries = c.room_at.new.self; known = old.known; alloc = old.alloc } c.requires.kept c.in_ok-room_at.ensures.chunked c.in_ok-room_at.ensures.same refl refl
     (ap (λ (h : Held). h.code) more) (ap (λ (h : Held). h.len) more) (omega (arith, room))
 
 pub returns-in_default-clause-ok : goal.returns-in_default-clause-ok

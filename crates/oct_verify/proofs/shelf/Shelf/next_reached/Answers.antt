@@ -1,7 +1,7 @@
 use Rattle.std.proofs.Common.{◌<◌, ◌≤◌, sym, ap, subst, arith}
 use Rattle.oct_verify.specs.Filed.{Filed}
 use Rattle.oct_verify.proofs.Keeping.{parked_from_first}
-use Rattle.oct_verify.specs.Chunked.{chunked}
+use Rattle.chunked.specs.Chunked.{chunked}
 use Rattle.oct_verify.proofs.Growing.{first_waiting}
 use Rattle.oct_verify.proofs.shelf.Shelf.next_reached.Goals as goal
 

@@ -1,0 +1,3 @@
+pub mod Chunking
+pub mod Joining
+pub mod Lists
