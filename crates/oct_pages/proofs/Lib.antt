@@ -6,4 +6,5 @@ pub mod Lines
 pub mod GameParts
 pub mod Members
 pub mod GroupLaws
+pub mod NextGame
 mod Windows

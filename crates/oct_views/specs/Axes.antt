@@ -13,17 +13,17 @@ use Rattle.oct_views.specs.declared.points.Frame.{Frame}
 abbrev pub step_of : ℕ → ℕ
 step_of span = unwrap_or (find (λ step. nat_le span (8 * step)) STEPS) span
 
+-- a line at a place of an axis, and a number beside it, in the texts that stand around them
+abbrev pub marked : Text → Text → Text → ℕ → ℕ → Text
+marked front middle back place n = concat (front ∷ decimal place ∷ middle ∷ decimal place ∷ back ∷ decimal n ∷ codes "</text>\n" ∷ [])
+
 -- the tick of a heap, so far to the right
 abbrev pub heap_tick : ℕ → ℕ → Text
-heap_tick right heap = concat (
-    codes "<path d=\"M" ∷ decimal right ∷ codes " 0v6\"/><text x=\"" ∷ decimal right ∷ codes "\" y=\"26\">"
-    ∷ decimal heap ∷ codes "</text>\n" ∷ [])
+heap_tick right heap = marked (codes "<path d=\"M") (codes " 0v6\"/><text x=\"") (codes "\" y=\"26\">") right heap
 
 -- the tick of a nim-value, so far above
 abbrev pub value_tick : ℕ → ℕ → Text
-value_tick above value = concat (
-    codes "<path d=\"M0 -" ∷ decimal above ∷ codes "h-6\"/><text class=\"value\" x=\"-12\" y=\"-" ∷ decimal above ∷ codes "\" dy=\"6\">"
-    ∷ decimal value ∷ codes "</text>\n" ∷ [])
+value_tick above value = marked (codes "<path d=\"M0 -") (codes "h-6\"/><text class=\"value\" x=\"-12\" y=\"-") (codes "\" dy=\"6\">") above value
 
 -- the tick of a number on an axis that spans so much
 abbrev pub tick : Axis → ℕ → ℕ → Text

@@ -15,27 +15,25 @@ use Rattle.oct_views.specs.declared.plot.TheConstants.{STYLE}
 
 -- ---- what stands before the drawing
 
-abbrev pub proved_title : Option Period → Text
-proved_title None = []
-proved_title (Some p) = concat (codes ", period " ∷ decimal p.period ∷ codes " from " ∷ decimal p.start ∷ [])
+-- the period and its start, where one is proved, after a text that leads to them
+abbrev pub proved_text : Text → Option Period → Text
+proved_text lead None = []
+proved_text lead (Some p) = concat (lead ∷ decimal p.period ∷ codes " from " ∷ decimal p.start ∷ [])
 
 abbrev pub known_title : Code → ℕ → Text
 known_title c known = concat (code_text c ∷ codes ": nim-values of heaps 0 to " ∷ decimal (known - 1) ∷ [])
 
 -- the game, the heaps whose values are known, and the period, where one is proved
 abbrev pub title : Code → ℕ → Option Period → Text
-title c known proved = concat (known_title c known ∷ proved_title proved ∷ [])
+title c known proved = concat (known_title c known ∷ proved_text (codes ", period ") proved ∷ [])
 
-abbrev pub opening : Code → Text
-opening c = concat (
+-- the frame with its title, the style, and the title as it is drawn
+abbrev pub head : Code → Text → Text
+head c named = concat (
     codes "<svg xmlns=\"http://www.w3.org/2000/svg\" class=\"plot\" viewBox=\"0 0 840 460\" role=\"img\" aria-labelledby=\"plot-" ∷ code_text c
-    ∷ codes "\"><title id=\"plot-" ∷ code_text c ∷ codes "\">" ∷ [])
-
-abbrev pub styled : Text
-styled = concat (codes "</title>\n<style>" ∷ STYLE.now ∷ codes "</style>\n<g transform=\"translate(100 390)\">\n<text class=\"title\" x=\"0\" y=\"-340\">" ∷ [])
-
-abbrev pub head : Code → ℕ → Option Period → Text
-head c known proved = concat (opening c ∷ title c known proved ∷ styled ∷ title c known proved ∷ codes "</text>\n" ∷ [])
+    ∷ codes "\"><title id=\"plot-" ∷ code_text c ∷ codes "\">" ∷ named
+    ∷ codes "</title>\n<style>" ∷ STYLE.now ∷ codes "</style>\n<g transform=\"translate(100 390)\">\n<text class=\"title\" x=\"0\" y=\"-340\">" ∷ named
+    ∷ codes "</text>\n" ∷ [])
 
 -- ---- the drawing
 
@@ -62,7 +60,7 @@ points_text ps = concat (codes "<path class=\"points\" transform=\"scale(.5 -.5)
 
 abbrev pub plot : Code → List ℕ → Option Period → Text
 plot c values proved = concat (
-    head c (length values) proved
+    head c (title c (length values) proved)
     ∷ period_text (frame_of values) proved
     ∷ axes (frame_of values)
     ∷ points_text (points_of values)

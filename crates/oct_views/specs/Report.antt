@@ -15,7 +15,7 @@ use Rattle.oct_store.specs.declared.fork.Fork.{Fork}
 use Rattle.oct_verify.specs.declared.status.Status.{Status}
 use Rattle.oct_verify.specs.declared.status.Status.TheVariants as of_block
 use Rattle.oct_views.specs.Escape.{escaped}
-use Rattle.oct_views.specs.Plot.{plot}
+use Rattle.oct_views.specs.Plot.{plot, proved_text}
 use Rattle.oct_views.specs.Sheet.{GameSheet, Sheet}
 use Rattle.oct_views.specs.Tables.{table}
 use Rattle.oct_views.specs.declared.report.TheConstants.{STYLE}
@@ -43,11 +43,6 @@ is_pending of_block.Pending = true
 abbrev pub count_of : (Status → Bool) → List BlockRow → ℕ
 count_of p blocks = count_by (λ r. p r.status) blocks
 
--- the period and its start, where a claim is proved
-abbrev pub period_words : Option Period → Text
-period_words None = []
-period_words (Some p) = concat (decimal p.period ∷ codes " from " ∷ decimal p.start ∷ [])
-
 abbrev pub known_cells : Code → ℕ → Text
 known_cells c known = concat (
     codes "<tr><th scope=\"row\"><a href=\"#game-" ∷ code_text c ∷ codes "\">" ∷ code_text c ∷ codes "</a></th><td>"
@@ -60,7 +55,7 @@ count_cells blocks = concat (
 
 -- a game, how many heaps are known, the period, and how many blocks are proved, refuted and pending
 abbrev pub game_row : GameSheet → Text
-game_row g = concat (known_cells g.code (length g.values) ∷ period_words g.proved ∷ count_cells g.blocks ∷ [])
+game_row g = concat (known_cells g.code (length g.values) ∷ proved_text [] g.proved ∷ count_cells g.blocks ∷ [])
 
 abbrev pub games_table : List GameSheet → Text
 games_table games = table (codes "Games")

@@ -3,7 +3,7 @@
 
 ghost use Rattle.std.specs.Prelude.{◌≡◌, ◌++◌, ◌*◌, ◌<◌, ◌^◌, OnOk, find, nat_le};
 ghost use Rattle.oct_pages.specs.Growth.{Extends};
-ghost use Rattle.oct_views.specs.Axes.{axes, heap_tick, step_of, tick, ticks, value_tick};
+ghost use Rattle.oct_views.specs.Axes.{axes, marked, step_of, tick, ticks};
 ghost use Rattle.oct_views.specs.Points.{IsFrame};
 
 use crate::pieces::Piece::{Number, Text};
@@ -125,52 +125,46 @@ fn append_tick<A: Allocator>(
     ensures grown { Extends out.old.items out.new.items }
 {
     match axis {
-        Axis::Heaps => append_heap_tick(out, scaled(number, span, WIDTH), number),
-        Axis::Values => append_value_tick(out, scaled(number, span, HEIGHT), number),
+        Axis::Heaps => append_marked(
+            out,
+            b"<path d=\"M",
+            b" 0v6\"/><text x=\"",
+            b"\" y=\"26\">",
+            scaled(number, span, WIDTH),
+            number,
+        ),
+        Axis::Values => append_marked(
+            out,
+            b"<path d=\"M0 -",
+            b"h-6\"/><text class=\"value\" x=\"-12\" y=\"-",
+            b"\" dy=\"6\">",
+            scaled(number, span, HEIGHT),
+            number,
+        ),
     }
 }
 
-// Appends the tick of a heap, so far to the right.
-fn append_heap_tick<A: Allocator>(
+// Appends a line at a place of an axis, and a number beside it, in the texts that stand around them.
+fn append_marked<A: Allocator>(
     out: &mut Vec<u8, A>,
-    right: u64,
-    heap: u64,
+    front: &'static [u8],
+    middle: &'static [u8],
+    back: &'static [u8],
+    place: u64,
+    number: u64,
 ) -> Result<(), AllocError>
-    ensures ok { OnOk result (out.new.items ≡ out.old.items ++ heap_tick right heap) }
+    ensures ok { OnOk result (out.new.items ≡ out.old.items ++ marked front.now middle.now back.now place number) }
     ensures grown { Extends out.old.items out.new.items }
 {
     append_pieces(
         out,
         &[
-            Text(b"<path d=\"M"),
-            Number(right),
-            Text(b" 0v6\"/><text x=\""),
-            Number(right),
-            Text(b"\" y=\"26\">"),
-            Number(heap),
-            Text(b"</text>\n"),
-        ],
-    )
-}
-
-// Appends the tick of a nim-value, so far above.
-fn append_value_tick<A: Allocator>(
-    out: &mut Vec<u8, A>,
-    above: u64,
-    value: u64,
-) -> Result<(), AllocError>
-    ensures ok { OnOk result (out.new.items ≡ out.old.items ++ value_tick above value) }
-    ensures grown { Extends out.old.items out.new.items }
-{
-    append_pieces(
-        out,
-        &[
-            Text(b"<path d=\"M0 -"),
-            Number(above),
-            Text(b"h-6\"/><text class=\"value\" x=\"-12\" y=\"-"),
-            Number(above),
-            Text(b"\" dy=\"6\">"),
-            Number(value),
+            Text(front),
+            Number(place),
+            Text(middle),
+            Number(place),
+            Text(back),
+            Number(number),
             Text(b"</text>\n"),
         ],
     )

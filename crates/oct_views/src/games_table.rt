@@ -2,15 +2,15 @@
 
 ghost use Rattle.std.specs.Prelude.{◌≡◌, ◌++◌, OnOk, length};
 ghost use Rattle.oct_pages.specs.Growth.{Extends};
-ghost use Rattle.oct_views.specs.Report.{count_cells, count_of, is_pending, is_proved, is_refuted, known_cells, period_words};
+ghost use Rattle.oct_views.specs.Report.{count_cells, count_of, is_pending, is_proved, is_refuted, known_cells};
 
 use crate::game::GameSheet;
 use crate::pieces::Piece::{Code as CodeText, Number, Text};
 use crate::pieces::append_pieces;
+use crate::plot::append_proved;
 use crate::rows::BlockRow;
 use crate::tables::Rows;
 use oct_code::Code;
-use oct_ops::Period;
 use oct_verify::Status;
 use std::alloc::{AllocError, Allocator};
 
@@ -28,7 +28,7 @@ impl<'a, B: Allocator + Copy> Rows<GameSheet<'a, B>> for Games {
         row: &GameSheet<'a, B>,
     ) -> Result<(), AllocError> {
         append_known(out, &row.code, row.values.len())?;
-        append_period(out, &row.proved)?;
+        append_proved(out, b"", &row.proved)?;
         append_counts(out, &row.blocks)
     }
 }
@@ -52,27 +52,6 @@ fn append_known<A: Allocator>(
             Text(b"</a></th><td>"),
             Number(known as u64),
             Text(b"</td><td>"),
-        ],
-    )
-}
-
-// Appends the period and its start, where a claim is proved.
-fn append_period<A: Allocator>(
-    out: &mut Vec<u8, A>,
-    proved: &Option<Period>,
-) -> Result<(), AllocError>
-    ensures ok { OnOk result (out.new.items ≡ out.old.items ++ period_words proved.now) }
-    ensures grown { Extends out.old.items out.new.items }
-{
-    let Some(period) = proved else {
-        return Ok(());
-    };
-    append_pieces(
-        out,
-        &[
-            Number(period.period() as u64),
-            Text(b" from "),
-            Number(period.start() as u64),
         ],
     )
 }

@@ -1,11 +1,11 @@
 //! The plot of a game's known nim-values.
 #![tactic(auto, using(oct_pages::proofs::Growing::extends_trans))]
 
-ghost use Rattle.std.specs.Prelude.{◌≡◌, ◌++◌, ◌<◌, ◌≤◌, ◌^◌, OnErr, OnOk, length};
+ghost use Rattle.std.specs.Prelude.{◌≡◌, ◌++◌, ◌<◌, ◌≤◌, ◌^◌, IfOk, OnErr, OnOk, length};
 ghost use Rattle.std.specs.List.{flat_map};
 ghost use Rattle.oct_pages.specs.Growth.{Extends};
 ghost use Rattle.oct_views.specs.Points.{IsFrame, points_of};
-ghost use Rattle.oct_views.specs.Plot.{head, period_text, plot, point_text, points_text, proved_title, right_of, shade, title};
+ghost use Rattle.oct_views.specs.Plot.{head, period_text, plot, point_text, points_text, proved_text, right_of, shade, title};
 
 use crate::axes::{HEIGHT, WIDTH, append_axes};
 use crate::pieces::Piece::{Code as CodeText, Number, Text};
@@ -53,7 +53,8 @@ pub(crate) fn append_plot<A: Allocator + Copy>(
     ensures grown { Extends out.old.items out.new.items }
 {
     let frame = Frame::of(values);
-    append_head(out, code, values.len(), proved)?;
+    let title = title_of(*out.allocator(), code, values.len(), proved)?;
+    append_head(out, code, &title)?;
     append_period(out, frame, proved)?;
     append_axes(out, frame)?;
     append_points(out, values)?;
@@ -64,10 +65,9 @@ pub(crate) fn append_plot<A: Allocator + Copy>(
 fn append_head<A: Allocator>(
     out: &mut Vec<u8, A>,
     code: &Code,
-    known: usize,
-    proved: &Option<Period>,
+    title: &[u8],
 ) -> Result<(), AllocError>
-    ensures ok { OnOk result (out.new.items ≡ out.old.items ++ head code.now known proved.now) }
+    ensures ok { OnOk result (out.new.items ≡ out.old.items ++ head code.now title.now) }
     ensures grown { Extends out.old.items out.new.items }
 {
     append_pieces(
@@ -80,50 +80,47 @@ fn append_head<A: Allocator>(
             Text(b"\"><title id=\"plot-"),
             CodeText(*code),
             Text(b"\">"),
-        ],
-    )?;
-    append_title(out, code, known, proved)?;
-    append_pieces(
-        out,
-        &[
+            Text(title),
             Text(b"</title>\n<style>"),
             Text(STYLE),
             Text(
                 b"</style>\n<g transform=\"translate(100 390)\">\n<text class=\"title\" x=\"0\" y=\"-340\">",
             ),
+            Text(title),
+            Text(b"</text>\n"),
         ],
-    )?;
-    append_title(out, code, known, proved)?;
-    append_pieces(out, &[Text(b"</text>\n")])
+    )
 }
 
-// Appends which game it is, and what is known of it.
-fn append_title<A: Allocator>(
-    out: &mut Vec<u8, A>,
+// Which game it is, and what is known of it.
+fn title_of<A: Allocator>(
+    alloc: A,
     code: &Code,
     known: usize,
     proved: &Option<Period>,
-) -> Result<(), AllocError>
-    ensures ok { OnOk result (out.new.items ≡ out.old.items ++ title code.now known proved.now) }
-    ensures grown { Extends out.old.items out.new.items }
+) -> Result<Vec<u8, A>, AllocError>
+    ensures { IfOk result (λ text. text.items ≡ title code.now known proved.now) }
 {
+    let mut text = Vec::new(alloc);
     append_pieces(
-        out,
+        &mut text,
         &[
             CodeText(*code),
             Text(b": nim-values of heaps 0 to "),
             Number((known as u64).saturating_sub(1)),
         ],
     )?;
-    append_proved(out, proved)
+    append_proved(&mut text, b", period ", proved)?;
+    Ok(text)
 }
 
-// Appends the period, where one is proved.
-fn append_proved<A: Allocator>(
+/// Appends the period and its start, where one is proved, after a text that leads to them.
+pub(crate) fn append_proved<A: Allocator>(
     out: &mut Vec<u8, A>,
+    lead: &[u8],
     proved: &Option<Period>,
 ) -> Result<(), AllocError>
-    ensures ok { OnOk result (out.new.items ≡ out.old.items ++ proved_title proved.now) }
+    ensures ok { OnOk result (out.new.items ≡ out.old.items ++ proved_text lead.now proved.now) }
     ensures grown { Extends out.old.items out.new.items }
 {
     let Some(period) = proved else {
@@ -132,7 +129,7 @@ fn append_proved<A: Allocator>(
     append_pieces(
         out,
         &[
-            Text(b", period "),
+            Text(lead),
             Number(period.period() as u64),
             Text(b" from "),
             Number(period.start() as u64),
