@@ -12,10 +12,9 @@ use Rattle.oct_ops.specs.Operations.{listed}
 use Rattle.oct_ops.specs.Valid.{IsOp}
 use Rattle.oct_replica.specs.Content.{ReplicaContent}
 use Rattle.oct_store.specs.Summary.{beyond}
-use Rattle.census_core.specs.Asking.{delta_of, value, value_in, value_text}
+use Rattle.census_core.specs.Asking.{delta_of}
 use Rattle.census_core.specs.Codes.{code_of, read_code}
 use Rattle.census_core.specs.Lines.{number_line}
-use Rattle.census_core.specs.Moving.{move_in, move_text, winning}
 use Rattle.census_core.specs.Refusals.{encode_fault}
 use Rattle.census_core.specs.Replies.{Answer, said}
 use Rattle.census_core.specs.Steps.{◌>>=◌, because}
@@ -23,22 +22,6 @@ use Rattle.census_core.specs.Stored.{loaded}
 use Rattle.census_core.specs.declared.fault.Fault.{Fault}
 use Rattle.census_core.specs.declared.fault.Fault.TheVariants as fault
 use Rattle.census_core.proofs.Wholes.{all_beyond}
-
-pub value_said : (state word : Bytes) (heaps : List ℕ) (r : ReplicaContent) (c : Code) (text : Bytes) → loaded state ≡ Ok r → read_code word ≡ Ok c → text ≡ value_text c heaps (value_in r.ops c heaps)
-    → value state word heaps ≡ Ok (said text)
-value_said state word heaps r c text there coded spelled =
-    let done : ReplicaContent → Code → Result Answer Fault = λ q d. Ok (said (value_text d heaps (value_in q.ops d heaps))) in
-    ap (λ l. l >>= λ q. code_of word >>= λ d. done q d) there
-    ∙ ap (λ d. because fault.Code d >>= λ e. done r e) coded
-    ∙ ap (λ t. Ok (said t)) (sym spelled)
-
-pub move_said : (state word : Bytes) (heaps : List ℕ) (r : ReplicaContent) (c : Code) (text : Bytes) → loaded state ≡ Ok r → read_code word ≡ Ok c → text ≡ move_text heaps (move_in r.ops c heaps)
-    → winning state word heaps ≡ Ok (said text)
-move_said state word heaps r c text there coded spelled =
-    let done : ReplicaContent → Code → Result Answer Fault = λ q d. Ok (said (move_text heaps (move_in q.ops d heaps))) in
-    ap (λ l. l >>= λ q. code_of word >>= λ d. done q d) there
-    ∙ ap (λ d. because fault.Code d >>= λ e. done r e) coded
-    ∙ ap (λ t. Ok (said t)) (sym spelled)
 
 -- a text of a game
 pub game_said : (state word : Bytes) (spelling : ReplicaContent → Code → Bytes) (r : ReplicaContent) (c : Code) (text : Bytes) → loaded state ≡ Ok r → read_code word ≡ Ok c → text ≡ spelling r c

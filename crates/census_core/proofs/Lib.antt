@@ -14,6 +14,7 @@ mod Members
 mod Merging
 mod Numbers
 mod Outcomes
+mod Rejoining
 mod Stepping
 mod StoredStates
 mod Taking

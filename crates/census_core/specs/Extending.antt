@@ -68,12 +68,16 @@ extend_turn count c r = do
 abbrev pub wanted : ℕ → Result ℕ Fault
 wanted count = if nat_le 1 count && nat_le count LIMIT then Ok count else Err Number
 
--- ---- the command
+-- ---- the commands
 
-abbrev pub extend : Bytes → ℕ → List Bytes → Result Answer Fault
-extend state count words = do
+-- each game has its turn, by the number of nim-values that are wanted of it
+abbrev pub in_turns : (ℕ → Code → ReplicaContent → Result Turn Fault) → Bytes → ℕ → List Bytes → Result Answer Fault
+in_turns turn state count words = do
   count ← wanted count
   replica ← loaded state
   games ← codes_of words
-  turn ← in_turn (extend_turn count) games (record { replica = replica; text = [] })
-  saved turn.replica turn.text
+  end ← in_turn (turn count) games (record { replica = replica; text = [] })
+  saved end.replica end.text
+
+abbrev pub extend : Bytes → ℕ → List Bytes → Result Answer Fault
+extend = in_turns extend_turn

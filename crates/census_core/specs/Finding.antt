@@ -15,13 +15,15 @@ use Rattle.oct_replica.specs.Beside.{content_in}
 use Rattle.oct_replica.specs.Content.{ReplicaContent}
 use Rattle.oct_verify.specs.Filing.{blocks_in}
 use Rattle.census_core.specs.Codes.{codes_of}
-use Rattle.census_core.specs.Extending.{extended, known_in, wanted}
+use Rattle.census_core.specs.Extending.{extend_turn, extended, in_turns, known_in}
 use Rattle.census_core.specs.Issuing.{with_body}
 use Rattle.census_core.specs.Replies.{Answer, said}
 use Rattle.census_core.specs.Steps.{◌>>=◌}
-use Rattle.census_core.specs.Stored.{loaded, saved}
-use Rattle.census_core.specs.Turns.{Turn, in_turn}
+use Rattle.census_core.specs.Stored.{loaded}
+use Rattle.census_core.specs.Turns.{Turn}
 use Rattle.census_core.specs.declared.fault.Fault.{Fault}
+use Rattle.census_core.specs.declared.surveying.Aim.{Aim}
+use Rattle.census_core.specs.declared.surveying.Aim.TheVariants.{Extend, Survey}
 
 -- the least period that the known nim-values prove, and of this the least start
 abbrev pub found_in : Operations → Code → Option Period
@@ -44,11 +46,19 @@ abbrev pub with_claim : ReplicaContent → Option Period → Result ReplicaConte
 with_claim r None = Ok r
 with_claim r (Some p) = if is_claimed (claims_in (content_in r.ops p.code).claims) p then Ok r else with_body r (kind.Period p)
 
+-- what is found is told and claimed
+abbrev pub surveyed : Code → ReplicaContent → Result Turn Fault
+surveyed c r = do
+  next ← with_claim r (found_in r.ops c)
+  Ok (record { replica = next; text = find_line r.ops c })
+
 abbrev pub survey_turn : ℕ → Code → ReplicaContent → Result Turn Fault
-survey_turn count c r = do
-  e ← extended c count r
-  next ← with_claim e.replica (found_in e.replica.ops c)
-  Ok (record { replica = next; text = find_line e.replica.ops c })
+survey_turn count c r = extended c count r >>= λ e. surveyed c e.replica
+
+-- what a game has in its turn
+abbrev pub turn_of : Aim → ℕ → Code → ReplicaContent → Result Turn Fault
+turn_of Extend = extend_turn
+turn_of Survey = survey_turn
 
 -- ---- the commands
 
@@ -59,9 +69,4 @@ find state words = do
   Ok (said (flat_map (find_line replica.ops) games))
 
 abbrev pub survey : Bytes → ℕ → List Bytes → Result Answer Fault
-survey state count words = do
-  count ← wanted count
-  replica ← loaded state
-  games ← codes_of words
-  turn ← in_turn (survey_turn count) games (record { replica = replica; text = [] })
-  saved turn.replica turn.text
+survey = in_turns survey_turn

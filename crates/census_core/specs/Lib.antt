@@ -10,6 +10,7 @@ pub mod Issuing
 pub mod Lines
 pub mod Moving
 pub mod Performed
+pub mod Questions
 pub mod Refusals
 pub mod Replies
 pub mod States

@@ -1,15 +1,18 @@
-//! The commands that leave a state as it is.
+//! The commands that ask for one game, one page or all operations of a state.
 
 ghost use Rattle.std.specs.Prelude.{◌≡◌, ◌≢◌, Ok, Err, IfOk, IfErr};
 ghost use Rattle.std.specs.List.{All};
 ghost use Rattle.oct_ops.specs.Operations.{listed};
 ghost use Rattle.oct_ops.specs.Valid.{IsOp};
-ghost use Rattle.census_core.specs.Asking.{delta, delta_of, page, page_of, show, value, value_text, value_in};
+ghost use Rattle.census_core.specs.Asking.{delta, delta_of, page, page_of, value_text, value_in};
 ghost use Rattle.census_core.specs.Lines.{outcome_line};
+ghost use Rattle.census_core.specs.Questions.{answered, told};
 ghost use Rattle.census_core.specs.Replies.{answer_of, said};
+ghost use Rattle.census_core.specs.Viewing.{bfile_in, plot_in};
 
 use crate::codes::read_code;
 use crate::fault::Fault;
+use crate::moving::move_text;
 use crate::reply::Reply;
 use crate::states::load;
 use crate::texts::number_line;
@@ -17,6 +20,7 @@ use oct_code::Code;
 use oct_join::Clock;
 use oct_period::Outcome;
 use oct_replica::Replica;
+use oct_views::{GameSheet, write_bfile, write_plot};
 use std::alloc::{AllocError, Global};
 
 /// The reply of a text alone.
@@ -30,15 +34,50 @@ pub(crate) fn said(text: Vec<u8>) -> Reply
     }
 }
 
-/// The value of a position, and who wins it.
-pub(crate) fn value(alloc: Global, state: &[u8], code: &[u8], heaps: &[u64]) -> Result<Reply, Fault>
-    ensures ok { IfOk result (λ reply. value state.now code.now heaps.now ≡ Ok (answer_of reply)) }
-    ensures err { IfErr result (λ e. e ≢ Fault.OutOfMemory → value state.now code.now heaps.now ≡ Err e) }
+/// What is asked of one game.
+#[derive(Clone, Copy)]
+pub(crate) enum Question<'a> {
+    /// The value of a position, and who wins it.
+    Value(&'a [u64]),
+    /// A winning move of a position.
+    Move(&'a [u64]),
+    /// The known nim-values as a b-file.
+    Bfile,
+    /// The known nim-values as a picture.
+    Plot,
+}
+
+/// The answer to a question about a game.
+pub(crate) fn answer(
+    alloc: Global,
+    state: &[u8],
+    code: &[u8],
+    question: Question<'_>,
+) -> Result<Reply, Fault>
+    ensures ok { IfOk result (λ reply. answered question.entry state.now code.now ≡ Ok (answer_of reply)) }
+    ensures err { IfErr result (λ e. e ≢ Fault.OutOfMemory → answered question.entry state.now code.now ≡ Err e) }
 {
     let replica = load(alloc, state)?;
     let code = read_code(code)?;
-    let text = value_text(alloc, &replica, code, heaps)?;
+    let text = answer_text(alloc, &replica, code, question)?;
     Ok(said(text))
+}
+
+// The text of the answer.
+fn answer_text(
+    alloc: Global,
+    replica: &Replica<Global>,
+    code: Code,
+    question: Question<'_>,
+) -> Result<Vec<u8>, AllocError>
+    ensures { IfOk result (λ text. text.items ≡ told question.entry replica.now.ops code) }
+{
+    match question {
+        Question::Value(heaps) => value_text(alloc, replica, code, heaps),
+        Question::Move(heaps) => move_text(alloc, replica, code, heaps),
+        Question::Bfile => bfile_text(alloc, replica, code),
+        Question::Plot => plot_text(alloc, replica, code),
+    }
 }
 
 // The lines of a position's value and of who wins it, or of the first heap whose nim-value is not known.
@@ -71,6 +110,28 @@ fn outcome_line(outcome: &Outcome) -> &'static [u8]
     }
 }
 
+// The known nim-values of a game as a b-file.
+fn bfile_text(alloc: Global, replica: &Replica<Global>, code: Code) -> Result<Vec<u8>, AllocError>
+    ensures { IfOk result (λ text. text.items ≡ bfile_in replica.now.ops code) }
+{
+    let parts = replica.parts();
+    let game = GameSheet::of_code(alloc, &parts, code)?;
+    let mut text = Vec::new(alloc);
+    write_bfile(game.values, &mut text)?;
+    Ok(text)
+}
+
+// The known nim-values of a game as a picture.
+fn plot_text(alloc: Global, replica: &Replica<Global>, code: Code) -> Result<Vec<u8>, AllocError>
+    ensures { IfOk result (λ text. text.items ≡ plot_in replica.now.ops code) }
+{
+    let parts = replica.parts();
+    let game = GameSheet::of_code(alloc, &parts, code)?;
+    let mut text = Vec::new(alloc);
+    write_plot(&code, game.values, &game.proved, &mut text)?;
+    Ok(text)
+}
+
 /// One page of the catalogue.
 pub(crate) fn page(alloc: Global, state: &[u8], number: u32) -> Result<Reply, Fault>
     ensures ok { IfOk result (λ reply. page state.now number ≡ Ok (answer_of reply)) }
@@ -89,17 +150,6 @@ fn page_reply(alloc: Global, replica: &Replica<Global>, number: u32) -> Result<R
     if !replica.page(number, &mut text)? {
         return Err(Fault::NoPage);
     }
-    Ok(said(text))
-}
-
-/// The catalogue.
-pub(crate) fn show(alloc: Global, state: &[u8]) -> Result<Reply, Fault>
-    ensures ok { IfOk result (λ reply. show state.now ≡ Ok (answer_of reply)) }
-    ensures err { IfErr result (λ e. e ≢ Fault.OutOfMemory → show state.now ≡ Err e) }
-{
-    let replica = load(alloc, state)?;
-    let mut text = Vec::new(alloc);
-    replica.catalogue(&mut text)?;
     Ok(said(text))
 }
 

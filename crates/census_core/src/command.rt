@@ -4,18 +4,17 @@ ghost use Rattle.std.specs.Prelude.{◌≡◌, ◌≢◌, Ok, Err, IfOk, IfErr};
 ghost use Rattle.census_core.specs.Performed.{performed};
 ghost use Rattle.census_core.specs.Replies.{answer_of};
 
-use crate::asking::{delta, page, show, value};
+use crate::asking::{Question, answer, delta, page};
 use crate::claiming::claim;
-use crate::extending::extend;
 use crate::fault::Fault;
-use crate::finding::{find, survey};
+use crate::finding::find;
 use crate::issuing::{compute, import, note, unnote};
-use crate::moving::winning;
 use crate::progress::{Progress, Silent};
 use crate::reply::Reply;
 use crate::request::Request;
 use crate::states::{init, merge};
-use crate::viewing::{bfile, json, plot, report};
+use crate::surveying::{Aim, give_turns};
+use crate::viewing::{View, show};
 use std::alloc::Global;
 
 /// Does one command, from the bytes of the state file and of another file: what is to be written, and the text. `Init`
@@ -46,9 +45,13 @@ pub fn perform_watched<P: Progress>(
         Request::Import => import(alloc, state, file),
         Request::Claim { code } => claim(alloc, state, code, file),
         Request::Compute { code, count } => compute(alloc, state, code, *count),
-        Request::Extend { count, codes } => extend(alloc, state, *count, codes, progress),
+        Request::Extend { count, codes } => {
+            give_turns(alloc, state, *count, codes, Aim::Extend, progress)
+        }
         Request::Find { codes } => find(alloc, state, codes),
-        Request::Survey { count, codes } => survey(alloc, state, *count, codes, progress),
+        Request::Survey { count, codes } => {
+            give_turns(alloc, state, *count, codes, Aim::Survey, progress)
+        }
         Request::Period {
             code,
             start,
@@ -58,13 +61,13 @@ pub fn perform_watched<P: Progress>(
         Request::Unnote { name } => unnote(alloc, state, name),
         Request::Merge => merge(alloc, state, file),
         Request::Delta => delta(alloc, state),
-        Request::Value { code, heaps } => value(alloc, state, code, heaps),
-        Request::Move { code, heaps } => winning(alloc, state, code, heaps),
+        Request::Value { code, heaps } => { answer(alloc, state, code, Question::Value(heaps)) }
+        Request::Move { code, heaps } => answer(alloc, state, code, Question::Move(heaps)),
         Request::Page { number } => page(alloc, state, *number),
-        Request::Show => show(alloc, state),
-        Request::Bfile { code } => bfile(alloc, state, code),
-        Request::Plot { code } => plot(alloc, state, code),
-        Request::Json => json(alloc, state),
-        Request::Report => report(alloc, state),
+        Request::Show => show(alloc, state, View::Catalogue),
+        Request::Bfile { code } => answer(alloc, state, code, Question::Bfile),
+        Request::Plot { code } => answer(alloc, state, code, Question::Plot),
+        Request::Json => show(alloc, state, View::Json),
+        Request::Report => show(alloc, state, View::Report),
     }
 }

@@ -1,21 +1,15 @@
-//! The command that makes values of games known.
+//! How values of games are made known.
 
-ghost use Rattle.std.specs.Prelude.{◌≡◌, ◌≢◌, ◌<◌, ◌≤◌, [], Ok, Err, IfOk, IfErr, OnOk, map};
+ghost use Rattle.std.specs.Prelude.{◌≡◌, ◌≢◌, ◌<◌, ◌≤◌, Ok, Err, IfOk, IfErr, OnOk};
 ghost use Rattle.oct_code.specs.declared.limits.TheConstants.{LIMIT};
 ghost use Rattle.oct_ops.specs.Body as kind;
 ghost use Rattle.oct_ops.specs.Views.{content};
 ghost use Rattle.oct_ops.specs.declared.limits.TheConstants.{MAX_ITEMS};
-ghost use Rattle.census_core.specs.Extending.{extend, extend_turn, extended, extended_to, known_in, wanted, with_values};
+ghost use Rattle.census_core.specs.Extending.{extended, extended_to, known_in, wanted, with_values};
 ghost use Rattle.census_core.specs.Issuing.{with_body};
-ghost use Rattle.census_core.specs.Replies.{answer_of};
-ghost use Rattle.census_core.specs.Turns.{in_turn};
 
-use crate::codes::read_codes;
 use crate::fault::Fault;
 use crate::progress::Progress;
-use crate::reply::Reply;
-use crate::states::{load, save};
-use crate::texts::append_extended;
 use oct_code::{Code, LIMIT};
 use oct_ops::{Body, MAX_ITEMS};
 use oct_replica::Replica;
@@ -23,24 +17,6 @@ use std::alloc::Global;
 
 // The most blocks that are issued of a game: together they have as many values as a game has places.
 const MOST_BLOCKS: u32 = 64;
-
-/// Makes so many values of each game known, by blocks of the next ones.
-pub(crate) fn extend<P: Progress>(
-    alloc: Global,
-    state: &[u8],
-    count: u32,
-    codes: &[Vec<u8>],
-    progress: &mut P,
-) -> Result<Reply, Fault>
-    ensures ok { IfOk result (λ reply. extend state.now count (map (λ word. word.items) codes.now) ≡ Ok (answer_of reply)) }
-    ensures err { IfErr result (λ e. e ≢ Fault.OutOfMemory → extend state.now count (map (λ word. word.items) codes.now) ≡ Err e) }
-{
-    check_count(count)?;
-    let mut replica = load(alloc, state)?;
-    let codes = read_codes(alloc, codes)?;
-    let text = extend_each(alloc, &mut replica, count, &codes, progress)?;
-    save(alloc, &replica, text)
-}
 
 /// Refuses a number of values that no game has.
 pub(crate) fn check_count(count: u32) -> Result<(), Fault>
@@ -52,26 +28,6 @@ pub(crate) fn check_count(count: u32) -> Result<(), Fault>
         return Err(Fault::Number);
     }
     Ok(())
-}
-
-// Gives each game its turn, and a line.
-fn extend_each<P: Progress>(
-    alloc: Global,
-    replica: &mut Replica<Global>,
-    count: u32,
-    codes: &[Code],
-    progress: &mut P,
-) -> Result<Vec<u8>, Fault>
-    requires { count ≤ LIMIT }
-    ensures ok { IfOk result (λ text. in_turn (extend_turn count) codes.now (record { replica = replica.old; text = [] }) ≡ Ok (record { replica = replica.new; text = text.items })) }
-    ensures err { IfErr result (λ e. e ≢ Fault.OutOfMemory → in_turn (extend_turn count) codes.now (record { replica = replica.old; text = [] }) ≡ Err e) }
-{
-    let mut text = Vec::new(alloc);
-    for code in codes {
-        let issued = extend_game(replica, *code, count, progress)?;
-        append_extended(&mut text, *code, replica.known(*code), issued)?;
-    }
-    Ok(text)
 }
 
 /// Issues blocks of the next values of a game until so many are known, and says how many blocks they are.

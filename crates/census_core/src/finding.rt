@@ -1,19 +1,16 @@
-//! The commands that look for periods.
+//! How periods of games are found and claimed.
 
-ghost use Rattle.std.specs.Prelude.{◌≡◌, ◌≢◌, ◌≤◌, [], Ok, Err, IfOk, IfErr, OnOk, map};
+ghost use Rattle.std.specs.Prelude.{◌≡◌, ◌≢◌, Ok, Err, IfOk, IfErr, OnOk, map};
 ghost use Rattle.std.specs.List.{flat_map};
-ghost use Rattle.oct_code.specs.declared.limits.TheConstants.{LIMIT};
-ghost use Rattle.census_core.specs.Finding.{find, find_line, survey, survey_turn, with_claim};
+ghost use Rattle.census_core.specs.Finding.{find, find_line, surveyed, with_claim};
 ghost use Rattle.census_core.specs.Replies.{answer_of};
-ghost use Rattle.census_core.specs.Turns.{in_turn};
 
 use crate::asking::said;
 use crate::codes::read_codes;
-use crate::extending::{check_count, extend_game, issue_body};
+use crate::extending::issue_body;
 use crate::fault::Fault;
-use crate::progress::Progress;
 use crate::reply::Reply;
-use crate::states::{load, save};
+use crate::states::load;
 use crate::texts::append_found;
 use oct_code::Code;
 use oct_ops::{Body, Period};
@@ -47,43 +44,19 @@ fn find_each(
     Ok(text)
 }
 
-/// Makes so many values of each game known, says which period they prove, and claims it.
-pub(crate) fn survey<P: Progress>(
-    alloc: Global,
-    state: &[u8],
-    count: u32,
-    codes: &[Vec<u8>],
-    progress: &mut P,
-) -> Result<Reply, Fault>
-    ensures ok { IfOk result (λ reply. survey state.now count (map (λ word. word.items) codes.now) ≡ Ok (answer_of reply)) }
-    ensures err { IfErr result (λ e. e ≢ Fault.OutOfMemory → survey state.now count (map (λ word. word.items) codes.now) ≡ Err e) }
-{
-    check_count(count)?;
-    let mut replica = load(alloc, state)?;
-    let codes = read_codes(alloc, codes)?;
-    let text = survey_each(alloc, &mut replica, count, &codes, progress)?;
-    save(alloc, &replica, text)
-}
-
-// Gives each game its turn, and a line.
-fn survey_each<P: Progress>(
+/// Says which period the known values of a game prove, and claims it.
+pub(crate) fn survey_known(
     alloc: Global,
     replica: &mut Replica<Global>,
-    count: u32,
-    codes: &[Code],
-    progress: &mut P,
+    code: Code,
 ) -> Result<Vec<u8>, Fault>
-    requires { count ≤ LIMIT }
-    ensures ok { IfOk result (λ text. in_turn (survey_turn count) codes.now (record { replica = replica.old; text = [] }) ≡ Ok (record { replica = replica.new; text = text.items })) }
-    ensures err { IfErr result (λ e. e ≢ Fault.OutOfMemory → in_turn (survey_turn count) codes.now (record { replica = replica.old; text = [] }) ≡ Err e) }
+    ensures ok { IfOk result (λ text. surveyed code replica.old ≡ Ok (record { replica = replica.new; text = text.items })) }
+    ensures err { IfErr result (λ e. e ≢ Fault.OutOfMemory → surveyed code replica.old ≡ Err e) }
 {
+    let found = replica.find_period(code);
     let mut text = Vec::new(alloc);
-    for code in codes {
-        extend_game(replica, *code, count, progress)?;
-        let found = replica.find_period(*code);
-        append_found(&mut text, *code, &found, replica.known(*code))?;
-        claim_found(replica, found)?;
-    }
+    append_found(&mut text, code, &found, replica.known(code))?;
+    claim_found(replica, found)?;
     Ok(text)
 }
 

@@ -30,6 +30,7 @@ mod progress;
 mod reply;
 mod request;
 mod states;
+mod surveying;
 mod taken;
 mod texts;
 mod unions;

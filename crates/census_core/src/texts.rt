@@ -73,19 +73,21 @@ fn range_line(alloc: Global, first: Dot, last: Dot) -> Result<Vec<u8>, AllocErro
     Ok(line)
 }
 
-/// Appends the line of a game: how many of its values are known, and how many blocks were issued.
-pub(crate) fn append_extended(
-    text: &mut Vec<u8>,
+/// The line of a game: how many of its values are known, and how many blocks were issued.
+pub(crate) fn extended_line(
+    alloc: Global,
     code: Code,
     known: u32,
     issued: u32,
-) -> Result<(), AllocError>
-    ensures { OnOk result (text.new.items ≡ text.old.items ++ extended_line code known issued) }
+) -> Result<Vec<u8>, AllocError>
+    ensures { IfOk result (λ line. line.items ≡ extended_line code known issued) }
 {
-    code.append_text(text)?;
-    append_labelled(text, b" known ", known)?;
-    append_labelled(text, b" issued ", issued)?;
-    append_text(text, b"\n")
+    let mut line = Vec::new(alloc);
+    code.append_text(&mut line)?;
+    append_labelled(&mut line, b" known ", known)?;
+    append_labelled(&mut line, b" issued ", issued)?;
+    append_text(&mut line, b"\n")?;
+    Ok(line)
 }
 
 /// Appends the line of a game: which period is found, what proves it, and how many of its values are known.

@@ -28,8 +28,12 @@ One table of nim-sequences of octal games that a group of researchers can trust
 
 Usage: census COMMAND ..
 
+An operation is a block of values, a claim of a period, a note, or that notes are taken back, issued
+under its author's next number: 2.1 is the first of author 2. A state is the file of one author with
+the operations issued there or taken in; a delta is a file of operations, to be sent to others.
+
 Without a state:
-  fold                       The catalogue of deltas in hexadecimal, from standard input
+  fold                       What follows from deltas in hexadecimal, from standard input
 A state file of one's own:
   init STATE ID              Makes one, for the author ID
   import STATE FILE          Issues a block of values from a JSON file
@@ -37,11 +41,11 @@ A state file of one's own:
   compute STATE CODE COUNT   Computes the next values of a game, and issues them
   extend STATE COUNT CODE..  Does so until the first COUNT values of each game are known
   survey STATE COUNT CODE..  Does that, finds the period of each game, and claims it
-  period STATE CODE E P      Issues the claim that a game's values repeat
+  period STATE CODE E P      Claims that a game's values repeat by P from heap E on
   note STATE NAME TEXT       Issues a note
   unnote STATE NAME          Takes back the notes of a name that this state shows
 What is known:
-  show STATE                 The catalogue
+  show STATE                 The catalogue: all that follows from the state's operations
   page STATE NUMBER          64 lines of it
   find STATE CODE..          The period that the known values of each game prove
   value STATE CODE HEAP..    The nim-value of a position, and who wins
@@ -74,10 +78,8 @@ Exit status: 0 done, 1 refused, 2 command line, 3 file, stream or network, 4 mem
 pub(crate) const FOLD: Help = Help {
     about: "Reads deltas from standard input, and prints their catalogue",
     after: "\
-Each line of the input is the hexadecimal text of one delta: blocks of values, period
-claims, notes and removals of notes. The catalogue of the operations of all lines is
-printed. Every other line that is not empty is refused; standard error says how many
-were.
+Each line of the input is the hexadecimal text of one delta. The catalogue of the operations of all
+lines is printed. Every other line that is not empty is refused; standard error says how many were.
 
 Exit status: 0 done (also where lines were refused), 2 command line, 3 input or output, 4 memory
 
@@ -111,8 +113,8 @@ Example:
 pub(crate) const CLAIM: Help = Help {
     about: "Issues the values of a b-file, and prints which operations they are",
     after: "\
-Blocks of 1024 values and a last one of those that are left are issued from the file's first number
-on. The values may be wrong: the catalogue says at which heap. Lines end by LF, CR LF or CR, and
+The values are issued as blocks of 1024 and a last one of those that are left. They may be wrong: the
+catalogue says at which heap. Lines end by LF, CR LF or CR, and
 empty lines and those that begin with # are passed over. After a fault the state is as it was.
 
 Exit status: 0 done, 1 refused: Load (the state), Code, Bfile (Form, Order or PastLimit and the first
@@ -153,8 +155,8 @@ pub(crate) const FIND: Help = Help {
     about: "Says which period the known values of each game prove",
     after: "\
 A line for each game names the least period P that its known values prove, the least heap E from
-which on it holds, and how many values prove it, 2E + 2P + k, k the number of digits of the code; or
-it says `no period`. A period that is said holds for all heaps. The state stays as it is.
+which on it holds, and how many values prove it: 2E + 2P + k, k the number of digits of the code. Or
+it says `no period`. A period that is named holds for all heaps. The state stays as it is.
 
 Exit status: 0 done (also where there is no period), 1 refused: Load (the state), Code;
 2 command line, 3 file, 4 memory
@@ -202,9 +204,9 @@ Example:
 };
 
 pub(crate) const UNNOTE: Help = Help {
-    about: "Takes back the notes of a name that this state shows, and prints the removal's author and number",
+    about: "Takes back the notes of a name, and prints the author and number of this operation",
     after: "\
-Notes of the name that come later stay.
+Those that the state shows are taken back. Others of the name, which come later, stay.
 
 Exit status: 0 done, 1 refused: Load (the state), Removal (there is no such note), Issue, TooMany;
 2 command line, 3 file, 4 memory

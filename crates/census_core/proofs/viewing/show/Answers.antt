@@ -1,7 +1,7 @@
 use Rattle.std.proofs.Common.{Ok, ap, sym, ◌∙◌}
 use Rattle.census_core.specs.Replies.{said}
 use Rattle.census_core.proofs.Stepping.{then_with}
-use Rattle.census_core.proofs.viewing.report.Goals as goal
+use Rattle.census_core.proofs.viewing.show.Goals as goal
 
 pub returns-clause-ok : goal.returns-clause-ok
 returns-clause-ok c =

@@ -2,7 +2,7 @@ use Rattle.std.proofs.Common.{◌++◌, ap, ◌∙◌}
 use Rattle.oct_ops.specs.Operations.{listed}
 use Rattle.oct_views.specs.Plot.{plot}
 use Rattle.oct_views.specs.Sheet.{game_sheet}
-use Rattle.census_core.proofs.viewing.plot_text.Goals as goal
+use Rattle.census_core.proofs.asking.plot_text.Goals as goal
 
 pub returns : goal.returns
 returns c =

@@ -1,9 +1,0 @@
-use Rattle.std.proofs.Common.{Ok, ap, sym, ◌∙◌}
-use Rattle.census_core.specs.Viewing.{bfile_in}
-use Rattle.census_core.proofs.Asked.{game_said}
-use Rattle.census_core.proofs.viewing.bfile.Goals as goal
-
-pub returns-clause-ok : goal.returns-clause-ok
-returns-clause-ok c =
-    game_said c.args.state.now c.args.code.now (λ r d. bfile_in r.ops d) c.in_ok-replica.replica c.in_ok-code.code c.in_ok-text.text.items c.in_ok-replica.ensures.ok (sym c.read_code.ensures ∙ c.in_ok-code.was) c.in_ok-text.ensures
-    ∙ ap Ok (sym c.said.ensures)

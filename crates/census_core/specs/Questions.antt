@@ -1,0 +1,36 @@
+-- What is asked of one game, and in which view all that is known is shown.
+use Rattle.std.specs.Prelude.{Result, Ok}
+use Rattle.oct_code.specs.Code.{Code}
+use Rattle.oct_delta.specs.Text.{Bytes}
+use Rattle.oct_ops.specs.Operations.{Operations, listed}
+use Rattle.oct_pages.specs.Catalogue.{Text, catalogue}
+use Rattle.census_core.specs.Asking.{value_in, value_text}
+use Rattle.census_core.specs.Codes.{code_of}
+use Rattle.census_core.specs.Moving.{move_in, move_text}
+use Rattle.census_core.specs.Replies.{Answer, said}
+use Rattle.census_core.specs.Steps.{◌>>=◌}
+use Rattle.census_core.specs.Stored.{loaded}
+use Rattle.census_core.specs.Viewing.{bfile_in, json_in, plot_in, report_in}
+use Rattle.census_core.specs.declared.asking.Question as question
+use Rattle.census_core.specs.declared.fault.Fault.{Fault}
+use Rattle.census_core.specs.declared.viewing.View as view
+
+abbrev pub told : question.Question → Operations → Code → Text
+told (question.TheVariants.Value heaps) ops c = value_text c heaps.now (value_in ops c heaps.now)
+told (question.TheVariants.Move heaps) ops c = move_text heaps.now (move_in ops c heaps.now)
+told question.TheVariants.Bfile ops c = bfile_in ops c
+told question.TheVariants.Plot ops c = plot_in ops c
+
+abbrev pub answered : question.Question → Bytes → Bytes → Result Answer Fault
+answered asked state word = do
+  replica ← loaded state
+  code ← code_of word
+  Ok (said (told asked replica.ops code))
+
+abbrev pub shown_in : view.View → Operations → Text
+shown_in view.TheVariants.Catalogue ops = catalogue (listed ops)
+shown_in view.TheVariants.Json ops = json_in ops
+shown_in view.TheVariants.Report ops = report_in ops
+
+abbrev pub shown : view.View → Bytes → Result Answer Fault
+shown which state = loaded state >>= λ replica. Ok (said (shown_in which replica.ops))

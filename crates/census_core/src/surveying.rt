@@ -1,0 +1,89 @@
+//! The commands that give each of several games its turn.
+
+ghost use Rattle.std.specs.Prelude.{◌≡◌, ◌≢◌, ◌≤◌, [], Ok, Err, IfOk, IfErr, map};
+ghost use Rattle.oct_code.specs.declared.limits.TheConstants.{LIMIT};
+ghost use Rattle.census_core.specs.Extending.{in_turns};
+ghost use Rattle.census_core.specs.Finding.{turn_of};
+ghost use Rattle.census_core.specs.Replies.{answer_of};
+ghost use Rattle.census_core.specs.Turns.{in_turn};
+
+use crate::codes::read_codes;
+use crate::extending::{check_count, extend_game};
+use crate::fault::Fault;
+use crate::finding::survey_known;
+use crate::progress::Progress;
+use crate::reply::Reply;
+use crate::states::{load, save};
+use crate::texts::extended_line;
+use oct_code::Code;
+use oct_replica::Replica;
+use std::alloc::Global;
+
+/// What is done with a game whose wanted values are known.
+#[derive(Clone, Copy)]
+pub(crate) enum Aim {
+    /// It is said how many blocks were issued.
+    Extend,
+    /// The period that they prove is said and claimed.
+    Survey,
+}
+
+/// Makes so many values of each game known, by blocks of the next ones, and does with it what is aimed at.
+pub(crate) fn give_turns<P: Progress>(
+    alloc: Global,
+    state: &[u8],
+    count: u32,
+    codes: &[Vec<u8>],
+    aim: Aim,
+    progress: &mut P,
+) -> Result<Reply, Fault>
+    ensures ok { IfOk result (λ reply. in_turns (turn_of aim) state.now count (map (λ word. word.items) codes.now) ≡ Ok (answer_of reply)) }
+    ensures err { IfErr result (λ e. e ≢ Fault.OutOfMemory → in_turns (turn_of aim) state.now count (map (λ word. word.items) codes.now) ≡ Err e) }
+{
+    check_count(count)?;
+    let mut replica = load(alloc, state)?;
+    let codes = read_codes(alloc, codes)?;
+    let text = turns(alloc, &mut replica, count, &codes, aim, progress)?;
+    save(alloc, &replica, text)
+}
+
+// Gives each game its turn, and a line.
+fn turns<P: Progress>(
+    alloc: Global,
+    replica: &mut Replica<Global>,
+    count: u32,
+    codes: &[Code],
+    aim: Aim,
+    progress: &mut P,
+) -> Result<Vec<u8>, Fault>
+    requires { count ≤ LIMIT }
+    ensures ok { IfOk result (λ text. in_turn (turn_of aim count) codes.now (record { replica = replica.old; text = [] }) ≡ Ok (record { replica = replica.new; text = text.items })) }
+    ensures err { IfErr result (λ e. e ≢ Fault.OutOfMemory → in_turn (turn_of aim count) codes.now (record { replica = replica.old; text = [] }) ≡ Err e) }
+{
+    let mut text = Vec::new(alloc);
+    for code in codes {
+        let line = turn(alloc, replica, count, *code, aim, progress)?;
+        text.extend_from_slice(&line)?;
+    }
+    Ok(text)
+}
+
+// Gives a game its turn.
+fn turn<P: Progress>(
+    alloc: Global,
+    replica: &mut Replica<Global>,
+    count: u32,
+    code: Code,
+    aim: Aim,
+    progress: &mut P,
+) -> Result<Vec<u8>, Fault>
+    requires { count ≤ LIMIT }
+    ensures ok { IfOk result (λ text. turn_of aim count code replica.old ≡ Ok (record { replica = replica.new; text = text.items })) }
+    ensures err { IfErr result (λ e. e ≢ Fault.OutOfMemory → turn_of aim count code replica.old ≡ Err e) }
+{
+    let issued = extend_game(replica, code, count, progress)?;
+    match aim {
+        Aim::Extend => Ok(extended_line(alloc, code, replica.known(code), issued)?),
+        Aim::Survey => survey_known(alloc, replica, code),
+    }
+}
