@@ -94,15 +94,11 @@ fn answers_take_no_memory(rt: HostRuntime) {
 
 // Whether each author of the entries has at least that number in the others.
 fn is_below(entries: &[(u32, u32)], others: &[(u32, u32)]) -> bool {
-    let mut all = true;
-    for &(author, number) in entries {
-        let mut has = false;
-        for &(other, most) in others {
-            has |= author == other && number <= most;
-        }
-        all &= has;
-    }
-    all
+    entries.iter().all(|&(author, number)| {
+        others
+            .iter()
+            .any(|&(other, most)| author == other && number <= most)
+    })
 }
 
 // The others are joined, or gathered where they are not one alone, where each request for memory is refused in turn, with a

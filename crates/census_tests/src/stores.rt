@@ -316,12 +316,20 @@ fn removes<A: Allocator + Copy>(
     assert!(rt; !store.is_empty());
 }
 
-// These calls make no request for memory, and answer as they should for the block and the claim.
+// No operation, with the tag of no format.
+const UNKNOWN: Delta<'static> = Delta {
+    tag: b"OGD9",
+    items: &[],
+};
+
+// These calls make no request for memory, and answer as they should for the block and the claim, and for the bytes with an
+// unknown tag.
 fn makes_no_request<A: Allocator + Copy>(
     rt: &impl Abort,
     heap: &Metered<Global>,
     alloc: A,
     text: &[u8],
+    unknown: &[u8],
 ) {
     let list = read(rt, alloc, text);
     let [block, claim] = list.as_slice() else {
@@ -330,7 +338,7 @@ fn makes_no_request<A: Allocator + Copy>(
     let mut store = Store::new(alloc);
     insert_all(rt, heap, alloc, &mut store, list.as_slice(), true);
     heap.arm(1_000);
-    is_refused(rt, alloc, b"OGD9\x00\x00\x00\x00", DeltaError::Version);
+    is_refused(rt, alloc, unknown, DeltaError::Version);
     let front = text.get(..60).unwrap_or(text);
     is_refused(rt, alloc, front, DeltaError::Refused);
     assert_eq!(rt; (op_size(block), op_size(claim)), (46, 20));
@@ -346,6 +354,8 @@ fn makes_no_request<A: Allocator + Copy>(
 #[test]
 fn some_calls_make_no_request(rt: HostRuntime) -> Result<(), Fail> {
     let heap = Metered::new(rt.alloc());
-    makes_no_request(&rt, &heap, &heap, &CLAIMED.bytes(rt.alloc())?);
+    let claimed = CLAIMED.bytes(rt.alloc())?;
+    let unknown = UNKNOWN.bytes(rt.alloc())?;
+    makes_no_request(&rt, &heap, &heap, &claimed, &unknown);
     Ok(())
 }

@@ -1,9 +1,6 @@
 //! What is asked of an answer.
 
-/// Whether the lists are the same.
-pub(crate) fn are_same<T: PartialEq>(one: &[T], other: &[T]) -> bool {
-    one == other
-}
+use std::process::Abort;
 
 /// The answer without what comes back with a fault.
 pub(crate) fn plain<T, E, R: Drop>(answer: Result<T, (E, R)>) -> Result<T, E> {
@@ -11,4 +8,10 @@ pub(crate) fn plain<T, E, R: Drop>(answer: Result<T, (E, R)>) -> Result<T, E> {
         Ok(value) => Ok(value),
         Err((fault, _)) => Err(fault),
     }
+}
+
+/// The bytes are this text, of what is named.
+pub(crate) fn is_text(rt: &impl Abort, bytes: &[u8], wanted: &str, name: &str) {
+    let text = str::from_utf8(bytes).ok().expect(rt, name);
+    assert_eq!(rt; text, wanted, "{name}");
 }

@@ -1,7 +1,10 @@
 //! Commands, each on the state that another one left.
 
-use crate::answers::are_same;
-use crate::replica::{FORKED, LAST, ONE, TWO, long_block};
+use crate::answers::is_text;
+use crate::texts::{
+    EARLY, EMPTY_STATE, FIRST, FIRST_STATE, FORKED_SHOWN, LAST, LATER, ONE, REMOVAL, SECOND_PAGE,
+    TWO, bytes, long_claimed, many_blocks, many_notes,
+};
 use census_core::{Fault, ImportError, Reply, Request, number, perform, rejoin};
 use oct_code::CodeError;
 use oct_ops::{NoteError, PeriodError};
@@ -9,11 +12,12 @@ use oct_replica::{ComputeError, IssueError, LoadError, RemovalError, Replica, Ta
 use oct_sync::SyncError;
 use oct_views::BfileError;
 use std::alloc::{AllocError, Global};
+use std::process::Abort;
 use std::test::Fail;
 
-/// What is asked of a state, with the file that a command reads or should write. A claim has the period 1, and a note the
-/// name a.
-#[derive(Clone, Copy)]
+/// What is asked of a state, with the file that a command reads or should write, where a delta is a hexadecimal text. A claim
+/// has the period 1, and a note the name a.
+#[derive(Clone, Copy, Debug)]
 enum Ask<'a> {
     Init(u32),
     Import(&'a [u8]),
@@ -22,8 +26,8 @@ enum Ask<'a> {
     Period(&'a str, u32),
     Note(&'a str),
     Unnote(&'a str),
-    Merge(&'a [u8]),
-    Delta(&'a [u8]),
+    Merge(&'a str),
+    Delta(&'a str),
     Value(&'a str, &'a [u64]),
     Page(u32),
     Show,
@@ -37,45 +41,56 @@ enum Ask<'a> {
 type Step<'a> = (Ask<'a>, Result<&'a str, Fault>);
 
 /// A state, the commands that are given on it one after the other, and the state in the end, where it is told.
-type Script<'a> = (&'a [u8], &'a [Step<'a>], &'a [u8]);
+type Script<'a> = (&'a str, &'a [Step<'a>], Option<&'a str>);
 
-/// The state of author 7 without operations, and without its last byte.
-const J: &[u8] = b"OGS1\0\0\0\x07OGD1\0\0\0\0";
+/// The state of author 7 without operations but for its last byte, FIRST but for its last byte, and the state of author 8
+/// without operations.
+const CUT_STATE: &str = "\
+4f475331 00000007 4f474431 000000";
 
-const CUT_J: &[u8] = b"OGS1\0\0\0\x07OGD1\0\0\0";
+const CUT_FIRST: &str = "\
+4f474431 00000001
+00000001 00000001 01 00020707 00000000 0005 00000000 00000001 00000002 00000003 000000";
 
-/// Kayles from heap 0, by author 1; without its last byte; and the state of author 7 with it.
-const A: &[u8] =
-    b"OGD1\0\0\0\x01\0\0\0\x01\0\0\0\x01\x01\0\x02\x07\x07\0\0\0\0\0\x05\0\0\0\0\0\0\0\x01\0\0\0\x02\0\0\0\x03\0\0\0\x01";
+const OTHER_STATE: &str = "\
+4f475331 00000008 4f474431 00000000";
 
-const CUT_A: &[u8] =
-    b"OGD1\0\0\0\x01\0\0\0\x01\0\0\0\x01\x01\0\x02\x07\x07\0\0\0\0\0\x05\0\0\0\0\0\0\0\x01\0\0\0\x02\0\0\0\x03\0\0\0";
-
-const WITH_A: &[u8] =
-    b"OGS1\0\0\0\x07OGD1\0\0\0\x01\0\0\0\x01\0\0\0\x01\x01\0\x02\x07\x07\0\0\0\0\0\x05\0\0\0\0\0\0\0\x01\0\0\0\x02\0\0\0\x03\0\0\0\x01";
-
-/// Notes 1.1 and 1.2, and the removal 2.1 of 1.1.
-const F: &[u8] = b"OGD1\0\0\0\x01\0\0\0\x01\0\0\0\x01\x03\x06kayles\x05early";
-
-const G: &[u8] = b"OGD1\0\0\0\x01\0\0\0\x01\0\0\0\x02\x03\x06kayles\x05later";
-
-const H: &[u8] = b"OGD1\0\0\0\x01\0\0\0\x02\0\0\0\x01\x04\0\x01\0\0\0\x01\0\0\0\x01";
-
-/// The state of author 7 with these, and with the removal 7.1 of 1.2 alone.
-const WITH_REMOVAL: &[u8] =
-    b"OGS1\0\0\0\x07OGD1\0\0\0\x04\0\0\0\x01\0\0\0\x01\x03\x06kayles\x05early\0\0\0\x01\0\0\0\x02\x03\x06kayles\x05later\0\0\0\x02\0\0\0\x01\x04\0\x01\0\0\0\x01\0\0\0\x01\0\0\0\x07\0\0\0\x01\x04\0\x01\0\0\0\x01\0\0\0\x02";
+/// The state of author 7 with EARLY, LATER and REMOVAL, and with the removal 7.1 of the note 1.2 alone.
+const REMOVED_STATE: &str = "\
+4f475331 00000007 4f474431 00000004
+00000001 00000001 03 06 6b61796c6573 05 6561726c79
+00000001 00000002 03 06 6b61796c6573 05 6c61746572
+00000002 00000001 04 0001 00000001 00000001
+00000007 00000001 04 0001 00000001 00000002";
 
 /// A block of Dawson's Kayles.
 const DAWSON: &[u8] = br#"{"code":"0.07","start":0,"values":[0,0,1,1,2,0,3]}"#;
 
-const IMPORTED: &str =
-    "census 2\ngame 0.07 known 7\nvalues 0 0 0 1 1 2 0 3\nblock 7.1 at 0 count 7 proved\nauthor 7 through 1 last 1\nend\n";
+const IMPORTED: &str = "\
+census 2
+game 0.07 known 7
+values 0 0 0 1 1 2 0 3
+block 7.1 at 0 count 7 proved
+author 7 through 1 last 1
+end
+";
 
-pub(crate) const COMPUTED: &str =
-    "census 2\ngame 0.137 known 6\nvalues 0 0 1 1 2 0 3\nblock 7.1 at 1 count 5 proved\nauthor 7 through 1 last 1\nend\n";
+pub(crate) const COMPUTED: &str = "\
+census 2
+game 0.137 known 6
+values 0 0 1 1 2 0 3
+block 7.1 at 1 count 5 proved
+author 7 through 1 last 1
+end
+";
 
-const REMOVED: &str =
-    "census 2\nauthor 1 through 2 last 2\nauthor 2 through 1 last 1\nauthor 7 through 1 last 1\nend\n";
+const REMOVED: &str = "\
+census 2
+author 1 through 2 last 2
+author 2 through 1 last 1
+author 7 through 1 last 1
+end
+";
 
 // The command, with its words in memory.
 fn request_of(alloc: Global, ask: Ask) -> Result<Request, AllocError> {
@@ -129,8 +144,15 @@ fn request_of(alloc: Global, ask: Ask) -> Result<Request, AllocError> {
     })
 }
 
-// Whether the reply is this text, with the file that is wanted. Where it has a state, that becomes the state.
-fn is_reply(reply: Reply, state: &mut Vec<u8>, wanted: Option<&[u8]>, text: &str) -> bool {
+// The reply is this text, with the file that is wanted. Where it has a state, that becomes the state.
+fn is_reply(
+    rt: &(impl Abort + AllocGlobal),
+    reply: Reply,
+    state: &mut Vec<u8>,
+    wanted: Option<&[u8]>,
+    text: &str,
+    ask: Ask,
+) {
     let Reply {
         state: new,
         file,
@@ -139,110 +161,116 @@ fn is_reply(reply: Reply, state: &mut Vec<u8>, wanted: Option<&[u8]>, text: &str
     if let Some(new) = new {
         *state = new;
     }
-    file.as_deref() == wanted && are_same(told.as_slice(), text.as_bytes())
+    assert!(rt;
+        file.as_deref() == wanted,
+        "{ask:?} gives the file {file:?}"
+    );
+    let told = str::from_utf8(&told).ok().expect(rt, "a text");
+    assert_eq!(rt; told, text, "{ask:?}");
 }
 
-// Whether the request is answered so.
-fn is_answered(
-    alloc: Global,
+// The files of a command: the bytes that it reads, and those that it should write.
+fn files_of(rt: &(impl Abort + AllocGlobal), ask: Ask) -> (Vec<u8>, Option<Vec<u8>>) {
+    match ask {
+        Ask::Import(file) | Ask::Claim(_, file) => {
+            let read = Vec::from_slice(rt.alloc(), file).ok();
+            (read.expect(rt, "a file"), None)
+        }
+        Ask::Merge(text) => (bytes(rt, text), None),
+        Ask::Delta(text) => (bytes(rt, ""), Some(bytes(rt, text))),
+        _ => (bytes(rt, ""), None),
+    }
+}
+
+// The command is answered so. Where it writes a state, that becomes the state.
+fn answers(
+    rt: &(impl Abort + AllocGlobal),
     state: &mut Vec<u8>,
-    request: &Request,
     ask: Ask,
     answer: Result<&str, Fault>,
-) -> bool {
-    let (read, wanted) = match ask {
-        Ask::Import(file) | Ask::Claim(_, file) | Ask::Merge(file) => (file, None),
-        Ask::Delta(file) => (&b""[..], Some(file)),
-        _ => (&b""[..], None),
-    };
-    match perform(alloc, request, state, read) {
-        Ok(reply) => match answer {
-            Ok(text) => is_reply(reply, state, wanted, text),
-            Err(_) => false,
-        },
-        Err(fault) => answer == Err(fault),
+) {
+    let request = request_of(rt.alloc(), ask).ok().expect(rt, "a request");
+    let (read, wanted) = files_of(rt, ask);
+    match (perform(rt.alloc(), &request, state, &read), answer) {
+        (Ok(reply), Ok(text)) => is_reply(rt, reply, state, wanted.as_deref(), text, ask),
+        (Ok(_), Err(fault)) => panic!(rt; "{ask:?} is not refused as {fault:?}"),
+        (Err(fault), wanted) => assert_eq!(rt; Err(fault), wanted, "{ask:?}"),
     }
 }
 
-// Whether the command is answered so. Where it writes a state, that becomes the state.
-fn answers(alloc: Global, state: &mut Vec<u8>, ask: Ask, answer: Result<&str, Fault>) -> bool {
-    match request_of(alloc, ask) {
-        Ok(request) => is_answered(alloc, state, &request, ask, answer),
-        Err(_) => false,
-    }
-}
-
-// Whether each command is answered so.
-fn answer_all(alloc: Global, state: &mut Vec<u8>, steps: &[Step]) -> bool {
-    let mut all = true;
+// Each command is answered so.
+fn answer_all(rt: &(impl Abort + AllocGlobal), state: &mut Vec<u8>, steps: &[Step]) {
     for &(ask, answer) in steps {
-        all &= answers(alloc, state, ask, answer);
+        answers(rt, state, ask, answer);
     }
-    all
 }
 
-// Whether the commands of the script are answered so, and leave the state that is told.
-fn follows(alloc: Global, script: Script) -> bool {
+// The commands of the script are answered so, and leave the state that is told.
+fn follows(rt: &(impl Abort + AllocGlobal), script: Script) {
     let (start, steps, end) = script;
-    match Vec::from_slice(alloc, start) {
-        Ok(mut state) => {
-            answer_all(alloc, &mut state, steps)
-                && (end.is_empty() || are_same(state.as_slice(), end))
-        }
-        Err(_) => false,
+    let mut state = bytes(rt, start);
+    answer_all(rt, &mut state, steps);
+    if let Some(end) = end {
+        assert_eq!(rt;
+            state.as_slice(),
+            bytes(rt, end).as_slice(),
+            "the state after {steps:?}"
+        );
     }
 }
 
-// Whether that is so of each of the scripts.
-fn follow_all(alloc: Global, scripts: &[Script]) -> bool {
-    let mut all = true;
-    for &script in scripts {
-        all &= follows(alloc, script);
+// A delta is merged into the state of author 7, and the commands are answered so then.
+fn follow_delta(rt: &(impl Abort + AllocGlobal), delta: &[u8], merged: &str, steps: &[Step]) {
+    let mut state = bytes(rt, EMPTY_STATE);
+    let request = Request::Merge;
+    match perform(rt.alloc(), &request, &state, delta) {
+        Ok(reply) => is_reply(rt, reply, &mut state, None, merged, Ask::Merge("..")),
+        Err(fault) => panic!(rt; "{merged} is refused as {fault:?}"),
     }
-    all
-}
-
-// Whether a delta is merged into the state of author 7, and the commands are answered so then.
-fn follow_delta(alloc: Global, delta: &[u8], merged: &str, steps: &[Step]) -> bool {
-    match Vec::from_slice(alloc, J) {
-        Ok(mut state) => {
-            answers(alloc, &mut state, Ask::Merge(delta), Ok(merged))
-                && answer_all(alloc, &mut state, steps)
-        }
-        Err(_) => false,
-    }
+    answer_all(rt, &mut state, steps);
 }
 
 const STATES: &[Script<'static>] = &[
     // A state of author 7 is made, and none of author 0; what is no state is refused.
-    (b"", &[(Ask::Init(7), Ok("author 7\n"))], J),
-    (b"", &[(Ask::Init(0), Err(Fault::Zero))], b""),
+    ("", &[(Ask::Init(7), Ok("author 7\n"))], Some(EMPTY_STATE)),
+    ("", &[(Ask::Init(0), Err(Fault::Zero))], None),
     (
-        b"",
+        "",
         &[(Ask::Show, Err(Fault::Load(LoadError::Version)))],
-        b"",
+        None,
     ),
-    (A, &[(Ask::Show, Err(Fault::Load(LoadError::Version)))], b""),
     (
-        CUT_J,
+        FIRST,
+        &[(Ask::Show, Err(Fault::Load(LoadError::Version)))],
+        None,
+    ),
+    (
+        CUT_STATE,
         &[(Ask::Show, Err(Fault::Load(LoadError::Refused)))],
-        b"",
+        None,
     ),
-    // A is merged once, and what is no delta is refused.
-    (J, &[(Ask::Merge(A), Ok("new 1\n"))], WITH_A),
+    // FIRST is merged once, and what is no delta is refused.
     (
-        WITH_A,
+        EMPTY_STATE,
+        &[(Ask::Merge(FIRST), Ok("new 1\n"))],
+        Some(FIRST_STATE),
+    ),
+    (
+        FIRST_STATE,
         &[
-            (Ask::Merge(A), Ok("new 0\n")),
-            (Ask::Delta(A), Ok("operations 1\n")),
-            (Ask::Merge(J), Err(Fault::Merge(TakeError::Version))),
-            (Ask::Merge(CUT_A), Err(Fault::Merge(TakeError::Refused))),
+            (Ask::Merge(FIRST), Ok("new 0\n")),
+            (Ask::Delta(FIRST), Ok("operations 1\n")),
+            (
+                Ask::Merge(EMPTY_STATE),
+                Err(Fault::Merge(TakeError::Version)),
+            ),
+            (Ask::Merge(CUT_FIRST), Err(Fault::Merge(TakeError::Refused))),
         ],
-        WITH_A,
+        Some(FIRST_STATE),
     ),
-    // Positions of Kayles have the values that A tells.
+    // Positions of Kayles have the values that FIRST tells.
     (
-        WITH_A,
+        FIRST_STATE,
         &[
             (
                 Ask::Value("0.77", &[1, 2, 3]),
@@ -255,24 +283,24 @@ const STATES: &[Script<'static>] = &[
             (Ask::Value("0.77", &[5]), Ok("unknown at 0\n")),
             (Ask::Value("0.77", &[]), Ok("value 0\nnext player loses\n")),
         ],
-        b"",
+        None,
     ),
 ];
 
 const ISSUES: &[Script<'static>] = &[
     // A file that is no block is refused, and a block is imported.
-    (J, REFUSED_FILES, J),
+    (EMPTY_STATE, REFUSED_FILES, Some(EMPTY_STATE)),
     (
-        J,
+        EMPTY_STATE,
         &[
             (Ask::Import(DAWSON), Ok("issued 7.1\n")),
             (Ask::Show, Ok(IMPORTED)),
         ],
-        b"",
+        None,
     ),
     // Values are computed, neither none nor too many.
     (
-        J,
+        EMPTY_STATE,
         &[
             (
                 Ask::Compute("0.137", 0),
@@ -285,11 +313,11 @@ const ISSUES: &[Script<'static>] = &[
             (Ask::Compute("0.137", 5), Ok("issued 7.1\n")),
             (Ask::Show, Ok(COMPUTED)),
         ],
-        b"",
+        None,
     ),
     // One claim is issued, and others are refused.
     (
-        J,
+        EMPTY_STATE,
         &[
             (Ask::Period(".3", 4_097), Ok("issued 7.1\n")),
             (
@@ -299,7 +327,7 @@ const ISSUES: &[Script<'static>] = &[
             (Ask::Period("0.3", 0), Err(Fault::Period(PeriodError::Zero))),
             (Ask::Period("0.8", 0), Err(Fault::Code(CodeError::Digit))),
         ],
-        b"",
+        None,
     ),
 ];
 
@@ -312,7 +340,7 @@ const CLAIMED_JSON: &str =
 const VIEWS: &[Script<'static>] = &[
     // A b-file is claimed, and shown in other forms; so is a game of which nothing is claimed.
     (
-        J,
+        EMPTY_STATE,
         &[
             (Ask::Claim("0.77", KAYLES), Ok("issued 7.1\n")),
             (Ask::Bfile("0.77"), Ok("0 0\n1 1\n2 2\n3 3\n4 1\n")),
@@ -321,11 +349,11 @@ const VIEWS: &[Script<'static>] = &[
             (Ask::Bfile("0.8"), Err(Fault::Code(CodeError::Digit))),
             (Ask::Plot("0.8"), Err(Fault::Code(CodeError::Digit))),
         ],
-        b"",
+        None,
     ),
     // What is no b-file is refused by its line, after the state and the code.
     (
-        J,
+        EMPTY_STATE,
         &[
             (Ask::Claim("0.8", b"1"), Err(Fault::Code(CodeError::Digit))),
             (
@@ -353,27 +381,27 @@ const VIEWS: &[Script<'static>] = &[
                 Err(Fault::Bfile(BfileError::Empty)),
             ),
         ],
-        J,
+        Some(EMPTY_STATE),
     ),
     (
-        CUT_J,
+        CUT_STATE,
         &[
             (Ask::Json, Err(Fault::Load(LoadError::Refused))),
             (Ask::Report, Err(Fault::Load(LoadError::Refused))),
             (Ask::Claim("0.8", b""), Err(Fault::Load(LoadError::Refused))),
         ],
-        b"",
+        None,
     ),
 ];
 
 const NOTES: &[Script<'static>] = &[
     // The live note is removed.
     (
-        J,
+        EMPTY_STATE,
         &[
-            (Ask::Merge(F), Ok("new 1\n")),
-            (Ask::Merge(G), Ok("new 1\n")),
-            (Ask::Merge(H), Ok("new 1\n")),
+            (Ask::Merge(EARLY), Ok("new 1\n")),
+            (Ask::Merge(LATER), Ok("new 1\n")),
+            (Ask::Merge(REMOVAL), Ok("new 1\n")),
             (
                 Ask::Unnote("dawson"),
                 Err(Fault::Removal(RemovalError::NoNote)),
@@ -381,44 +409,44 @@ const NOTES: &[Script<'static>] = &[
             (Ask::Unnote("kayles"), Ok("issued 7.1\n")),
             (Ask::Show, Ok(REMOVED)),
         ],
-        WITH_REMOVAL,
+        Some(REMOVED_STATE),
     ),
     // Two notes from the same state make a fork where author 1 merges them, in both orders.
     (
-        J,
+        EMPTY_STATE,
         &[
             (Ask::Note("one"), Ok("issued 7.1\n")),
             (Ask::Delta(ONE), Ok("operations 1\n")),
         ],
-        b"",
+        None,
     ),
     (
-        J,
+        EMPTY_STATE,
         &[
             (Ask::Note("two"), Ok("issued 7.1\n")),
             (Ask::Delta(TWO), Ok("operations 1\n")),
         ],
-        b"",
+        None,
     ),
     (
-        b"",
+        "",
         &[
             (Ask::Init(1), Ok("author 1\n")),
             (Ask::Merge(ONE), Ok("new 1\n")),
             (Ask::Merge(TWO), Ok("new 1\n")),
-            (Ask::Show, Ok(FORKED)),
+            (Ask::Show, Ok(FORKED_SHOWN)),
         ],
-        b"",
+        None,
     ),
     (
-        b"",
+        "",
         &[
             (Ask::Init(1), Ok("author 1\n")),
             (Ask::Merge(TWO), Ok("new 1\n")),
             (Ask::Merge(ONE), Ok("new 1\n")),
-            (Ask::Show, Ok(FORKED)),
+            (Ask::Show, Ok(FORKED_SHOWN)),
         ],
-        b"",
+        None,
     ),
 ];
 
@@ -444,80 +472,52 @@ const REFUSED_FILES: &[Step<'static>] = &[
     (Ask::Import(b""), Err(Fault::Json)),
 ];
 
-fn states_follow(alloc: Global) -> bool {
-    follow_all(alloc, STATES)
-}
-
-fn issues_follow(alloc: Global) -> bool {
-    follow_all(alloc, ISSUES)
-}
-
-fn views_follow(alloc: Global) -> bool {
-    follow_all(alloc, VIEWS)
-}
-
-fn notes_follow(alloc: Global) -> bool {
-    follow_all(alloc, NOTES)
-}
-
 #[test]
 fn commands_follow_each_other(rt: HostRuntime) {
-    let alloc = rt.alloc();
-    assert!(rt; states_follow(alloc) && issues_follow(alloc) && notes_follow(alloc));
-    assert!(rt; views_follow(alloc));
+    for scripts in [STATES, ISSUES, NOTES, VIEWS] {
+        for &script in scripts {
+            follows(&rt, script);
+        }
+    }
 }
 
-// Whether the text that the request prints of the state begins so.
-fn begins(alloc: Global, state: &[u8], request: &Request, front: &[u8]) -> bool {
-    match perform(alloc, request, state, b"") {
-        Ok(reply) => reply.text.as_slice().starts_with(front),
-        Err(_) => false,
+// The text that the request prints of the state begins so.
+fn begins(rt: &(impl Abort + AllocGlobal), state: &[u8], request: &Request, front: &str) {
+    match perform(rt.alloc(), request, state, b"") {
+        Ok(reply) => {
+            let text = str::from_utf8(&reply.text).ok().expect(rt, front);
+            assert!(rt; text.starts_with(front), "{text} in place of {front}");
+        }
+        Err(fault) => panic!(rt; "{front} is refused as {fault:?}"),
     }
 }
 
 #[test]
 fn pictures_and_pages_are_printed(rt: HostRuntime) -> Result<(), Fail> {
-    let alloc = rt.alloc();
-    let code = Vec::from_slice(alloc, b"0.77")?;
-    assert!(rt; begins(alloc, WITH_A, &Request::Plot { code }, b"<svg "));
-    assert!(rt; begins(alloc, WITH_A, &Request::Report, b"<!DOCTYPE html>"));
+    let code = Vec::from_slice(rt.alloc(), b"0.77")?;
+    let state = bytes(&rt, FIRST_STATE);
+    begins(&rt, &state, &Request::Plot { code }, "<svg ");
+    begins(&rt, &state, &Request::Report, "<!DOCTYPE html>");
     Ok(())
 }
 
-// The delta of the notes 3.1 to 3.70 of the name n, without text.
-fn many_notes() -> [u8; 848] {
-    let mut delta = [0; 848];
-    delta[..8].copy_from_slice(b"OGD1\0\0\0\x46");
-    for number in 1..71u8 {
-        let at = 12 * usize::from(number) - 4;
-        delta[at..at + 12].copy_from_slice(b"\0\0\0\x03\0\0\0\0\x03\x01n\0");
-        delta[at + 7] = number;
-    }
-    delta
-}
+// What is shown of the second page of many blocks; of none after it, and after the one of many notes.
+const BLOCK_PAGE: &str = "\
+block 3.62 at 0 count 1 proved
+block 3.63 at 0 count 1 proved
+block 3.64 at 0 count 1 proved
+block 3.65 at 0 count 1 proved
+block 3.66 at 0 count 1 proved
+block 3.67 at 0 count 1 proved
+block 3.68 at 0 count 1 proved
+block 3.69 at 0 count 1 proved
+block 3.70 at 0 count 1 proved
+author 3 through 70 last 70
+end
+";
 
-const PAGE: &str =
-    "note n 3.64 \nnote n 3.65 \nnote n 3.66 \nnote n 3.67 \nnote n 3.68 \nnote n 3.69 \nnote n 3.70 \nauthor 3 through 70 last 70\nend\n";
-
-// The delta of the blocks 3.1 to 3.70 of 0.3 at 0 count 1.
-fn many_blocks() -> [u8; 1_548] {
-    let mut delta = [0; 1_548];
-    delta[..8].copy_from_slice(b"OGD1\0\0\0\x46");
-    for number in 1..71u8 {
-        let at = 22 * usize::from(number) - 14;
-        delta[at..at + 14].copy_from_slice(b"\0\0\0\x03\0\0\0\0\x01\0\x01\x03\0\0");
-        delta[at + 7] = number;
-        delta[at + 17] = 1;
-    }
-    delta
-}
-
-const BLOCK_PAGE: &str =
-    "block 3.62 at 0 count 1 proved\nblock 3.63 at 0 count 1 proved\nblock 3.64 at 0 count 1 proved\nblock 3.65 at 0 count 1 proved\nblock 3.66 at 0 count 1 proved\nblock 3.67 at 0 count 1 proved\nblock 3.68 at 0 count 1 proved\nblock 3.69 at 0 count 1 proved\nblock 3.70 at 0 count 1 proved\nauthor 3 through 70 last 70\nend\n";
-
-// What is shown of the second page, and of none after it.
 const NOTE_PAGES: &[Step<'static>] = &[
-    (Ask::Page(1), Ok(PAGE)),
+    (Ask::Page(1), Ok(SECOND_PAGE)),
     (Ask::Page(2), Err(Fault::NoPage)),
 ];
 
@@ -528,19 +528,8 @@ const BLOCK_PAGES: &[Step<'static>] = &[
 
 #[test]
 fn pages_are_shown(rt: HostRuntime) {
-    assert!(rt; follow_delta(rt.alloc(), &many_notes(), "new 70\n", NOTE_PAGES));
-    assert!(rt; follow_delta(rt.alloc(), &many_blocks(), "new 70\n", BLOCK_PAGES));
-}
-
-// The delta of Kayles 1.1 at 0 count 167, 1.2 from 71 by 12, and 1.3 from 70 by 12.
-fn long_kayles() -> [u8; 737] {
-    let mut delta = [0; 737];
-    delta[..695].copy_from_slice(&long_block());
-    delta[7] = 3;
-    delta[695..].copy_from_slice(
-        b"\0\0\0\x01\0\0\0\x02\x02\0\x02\x07\x07\0\0\0\x47\0\0\0\x0c\0\0\0\x01\0\0\0\x03\x02\0\x02\x07\x07\0\0\0\x46\0\0\0\x0c",
-    );
-    delta
+    follow_delta(&rt, &many_notes(&rt), "new 70\n", NOTE_PAGES);
+    follow_delta(&rt, &many_blocks(&rt), "new 70\n", BLOCK_PAGES);
 }
 
 // The claim gives values once its last value is there, and not before.
@@ -565,17 +554,16 @@ const CLAIMED: &[Step<'static>] = &[
 
 #[test]
 fn claims_give_values(rt: HostRuntime) {
-    assert!(rt; follow_delta(rt.alloc(), &long_kayles(), "new 3\n", CLAIMED));
+    follow_delta(&rt, &long_claimed(&rt), "new 3\n", CLAIMED);
 }
 
 #[test]
 fn words_are_numbers(rt: HostRuntime) {
     let most = 4_294_967_295;
-    let mut all = number("007", most) == Some(7);
+    assert_eq!(rt; number("007", most), Some(7));
     for word in ["", "+1", "4294967296", "1 ", "0x1"] {
-        all &= number(word, most).is_none();
+        assert_eq!(rt; number(word, most), None, "{word:?}");
     }
-    assert!(rt; all);
 }
 
 /// Faults, and their texts and statuses.
@@ -597,65 +585,62 @@ const FAULTS: &[(Fault, &str, u8)] = &[
     (Fault::OutOfMemory, "OutOfMemory", 4),
 ];
 
-// Whether the fault has this text and this status.
-fn is_named(alloc: Global, fault: Fault, text: &str, status: u8) -> bool {
-    match format!(in alloc; "{fault}") {
-        Ok(shown) => shown.as_str() == text && fault.status() == status,
-        Err(_) => false,
-    }
-}
-
-// Whether that is so of each of the faults.
-fn are_named(alloc: Global, faults: &[(Fault, &str, u8)]) -> bool {
-    let mut all = true;
-    for &(fault, text, status) in faults {
-        all &= is_named(alloc, fault, text, status);
-    }
-    all
-}
-
 #[test]
-fn faults_are_named(rt: HostRuntime) {
-    assert!(rt; are_named(rt.alloc(), FAULTS));
+fn faults_are_named(rt: HostRuntime) -> Result<(), Fail> {
+    for &(fault, text, status) in FAULTS {
+        let shown = format!(in rt.alloc(); "{fault}")?;
+        assert_eq!(rt; shown.as_str(), text);
+        assert_eq!(rt; fault.status(), status, "the status of {text}");
+    }
+    Ok(())
 }
-
-/// The state of author 8 without operations.
-const OTHER: &[u8] = b"OGS1\0\0\0\x08OGD1\0\0\0\0";
 
 /// A state file, the state that a session holds, and what is saved then, with its text.
-type Union<'a> = (&'a [u8], &'a [u8], Result<(&'a str, &'a [u8]), Fault>);
+type Union<'a> = (&'a str, &'a str, Result<(&'a str, &'a str), Fault>);
 
 const UNIONS: &[Union<'static>] = &[
-    (J, WITH_A, Ok(("new 1 operations 1\n", WITH_A))),
-    (WITH_A, J, Ok(("new 0 operations 1\n", WITH_A))),
-    (WITH_A, OTHER, Err(Fault::Author)),
-    (CUT_J, OTHER, Err(Fault::Load(LoadError::Refused))),
-    (b"", J, Err(Fault::Load(LoadError::Version))),
+    (
+        EMPTY_STATE,
+        FIRST_STATE,
+        Ok(("new 1 operations 1\n", FIRST_STATE)),
+    ),
+    (
+        FIRST_STATE,
+        EMPTY_STATE,
+        Ok(("new 0 operations 1\n", FIRST_STATE)),
+    ),
+    (FIRST_STATE, OTHER_STATE, Err(Fault::Author)),
+    (CUT_STATE, OTHER_STATE, Err(Fault::Load(LoadError::Refused))),
+    ("", EMPTY_STATE, Err(Fault::Load(LoadError::Version))),
 ];
 
-// Whether the reply is this state and this text.
-fn is_union(reply: Reply, text: &str, state: &[u8]) -> bool {
-    are_same(reply.text.as_slice(), text.as_bytes()) && reply.state.as_deref() == Some(state)
+// The reply is this state and this text.
+fn is_union(rt: &(impl Abort + AllocGlobal), reply: &Reply, text: &str, state: &str) {
+    is_text(rt, &reply.text, text, "the text");
+    let wanted = bytes(rt, state);
+    assert!(rt;
+        reply.state.as_deref() == Some(&wanted[..]),
+        "not {state}: {:?}",
+        reply.state
+    );
 }
 
-// Whether a session leaves what is told.
-fn leaves(alloc: Global, union: Union) -> bool {
+// A session leaves what is told.
+fn leaves(rt: &(impl Abort + AllocGlobal), union: Union) {
     let (file, held, wanted) = union;
-    let Ok(held) = Replica::load(alloc, held) else {
-        return false;
-    };
-    match (rejoin(alloc, file, &held), wanted) {
-        (Ok(reply), Ok((text, state))) => is_union(reply, text, state),
-        (Err(fault), Err(named)) => fault == named,
-        _ => false,
+    let loaded = Replica::load(rt.alloc(), &bytes(rt, held));
+    let loaded = loaded.ok().expect(rt, held);
+    match (rejoin(rt.alloc(), &bytes(rt, file), &loaded), wanted) {
+        (Ok(reply), Ok((text, state))) => is_union(rt, &reply, text, state),
+        (Ok(_), Err(fault)) => panic!(rt; "{file} with {held} is not refused as {fault:?}"),
+        (Err(fault), Ok(_)) => panic!(rt; "{file} with {held} is refused as {fault:?}"),
+        (Err(fault), Err(named)) => assert_eq!(rt; fault, named, "{file} with {held}"),
     }
 }
 
 #[test]
 fn sessions_leave_the_union(rt: HostRuntime) {
-    let mut all = true;
     for &union in UNIONS {
-        all &= leaves(rt.alloc(), union);
+        leaves(&rt, union);
     }
-    assert!(rt; all);
 }

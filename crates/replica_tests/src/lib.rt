@@ -15,3 +15,5 @@ mod replica;
 mod runs;
 #[cfg(test)]
 mod sync;
+#[cfg(test)]
+mod texts;

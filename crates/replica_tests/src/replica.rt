@@ -1,326 +1,208 @@
-use crate::answers::{are_same, plain};
+//! Replicas: what they print, compute, issue, send, refuse, save and load.
+
+use crate::answers::{is_text, plain};
+use crate::texts::{
+    BOTH_SHOWN, EARLY, EARLY_CLAIM, EMPTY_STATE, FIRST, FORKED_SHOWN, LAST, LATER, LATER_SHOWN,
+    NEXT, NEXT_SHOWN, NONE_SHOWN, ONE, REMOVAL, RIGHT_CLAIM, SECOND, THIRD, THIRD_UNTOLD,
+    THREE_SHOWN, TURNS, TURNS_SHOWN, TWO, UNTOLD, UNTOLD_SHOWN, UNTOLD_STATE, bytes, long_block,
+    put, put_number,
+};
 use metered::Metered;
 use oct_code::Code;
 use oct_delta::decode;
 use oct_join::Clock;
 use oct_ops::{Block, Body, Note};
-use oct_period::{Outcome, Unknown};
+use oct_period::Outcome;
 use oct_replica::{
     AuthorError, ComputeError, IssueError, LoadError, RemovalError, Replica, TakeError,
 };
 use std::alloc::{Allocator, Global};
+use std::process::Abort;
 
 mod refusals;
 
-/// Kayles from place 0, by author 1.
-const A: [u8; 47] = [
-    0x4f, 0x47, 0x44, 0x31, 0x00, 0x00, 0x00, 0x01, 0x00, 0x00, 0x00, 0x01, 0x00, 0x00, 0x00, 0x01,
-    0x01, 0x00, 0x02, 0x07, 0x07, 0x00, 0x00, 0x00, 0x00, 0x00, 0x05, 0x00, 0x00, 0x00, 0x00, 0x00,
-    0x00, 0x00, 0x01, 0x00, 0x00, 0x00, 0x02, 0x00, 0x00, 0x00, 0x03, 0x00, 0x00, 0x00, 0x01,
-];
+/// A new replica of the author.
+pub(crate) fn new_replica<A: Allocator + Copy>(
+    rt: &impl Abort,
+    alloc: A,
+    author: u32,
+) -> Replica<A> {
+    Replica::new(alloc, author).ok().expect(rt, "a replica")
+}
 
-/// Kayles from place 5, by author 2.
-const B: [u8; 39] = [
-    0x4f, 0x47, 0x44, 0x31, 0x00, 0x00, 0x00, 0x01, 0x00, 0x00, 0x00, 0x02, 0x00, 0x00, 0x00, 0x01,
-    0x01, 0x00, 0x02, 0x07, 0x07, 0x00, 0x00, 0x00, 0x05, 0x00, 0x03, 0x00, 0x00, 0x00, 0x04, 0x00,
-    0x00, 0x00, 0x03, 0x00, 0x00, 0x00, 0x02,
-];
-
-/// A block and a period claim of 0.3, by author 1.
-const D: [u8; 74] = [
-    0x4f, 0x47, 0x44, 0x31, 0x00, 0x00, 0x00, 0x02, 0x00, 0x00, 0x00, 0x01, 0x00, 0x00, 0x00, 0x01,
-    0x01, 0x00, 0x01, 0x03, 0x00, 0x00, 0x00, 0x00, 0x00, 0x07, 0x00, 0x00, 0x00, 0x00, 0x00, 0x00,
-    0x00, 0x01, 0x00, 0x00, 0x00, 0x00, 0x00, 0x00, 0x00, 0x01, 0x00, 0x00, 0x00, 0x00, 0x00, 0x00,
-    0x00, 0x01, 0x00, 0x00, 0x00, 0x00, 0x00, 0x00, 0x00, 0x01, 0x00, 0x00, 0x00, 0x02, 0x02, 0x00,
-    0x01, 0x03, 0x00, 0x00, 0x00, 0x01, 0x00, 0x00, 0x00, 0x02,
-];
-
-/// A note of author 1.
-const F: [u8; 30] = [
-    0x4f, 0x47, 0x44, 0x31, 0x00, 0x00, 0x00, 0x01, 0x00, 0x00, 0x00, 0x01, 0x00, 0x00, 0x00, 0x01,
-    0x03, 0x06, 0x6b, 0x61, 0x79, 0x6c, 0x65, 0x73, 0x05, 0x65, 0x61, 0x72, 0x6c, 0x79,
-];
-
-/// A second note of author 1.
-const G: [u8; 30] = [
-    0x4f, 0x47, 0x44, 0x31, 0x00, 0x00, 0x00, 0x01, 0x00, 0x00, 0x00, 0x01, 0x00, 0x00, 0x00, 0x02,
-    0x03, 0x06, 0x6b, 0x61, 0x79, 0x6c, 0x65, 0x73, 0x05, 0x6c, 0x61, 0x74, 0x65, 0x72,
-];
-
-/// The removal of the first note, by author 2.
-const H: [u8; 27] = [
-    0x4f, 0x47, 0x44, 0x31, 0x00, 0x00, 0x00, 0x01, 0x00, 0x00, 0x00, 0x02, 0x00, 0x00, 0x00, 0x01,
-    0x04, 0x00, 0x01, 0x00, 0x00, 0x00, 0x01, 0x00, 0x00, 0x00, 0x01,
-];
-
-/// Two notes of author 5 without text.
-const I: [u8; 32] = [
-    0x4f, 0x47, 0x44, 0x31, 0x00, 0x00, 0x00, 0x02, 0x00, 0x00, 0x00, 0x05, 0x00, 0x00, 0x00, 0x01,
-    0x03, 0x01, 0x61, 0x00, 0x00, 0x00, 0x00, 0x05, 0x00, 0x00, 0x00, 0x03, 0x03, 0x01, 0x61, 0x00,
-];
-
-/// The state of author 7 without operations.
-const J: [u8; 16] = [
-    0x4f, 0x47, 0x53, 0x31, 0x00, 0x00, 0x00, 0x07, 0x4f, 0x47, 0x44, 0x31, 0x00, 0x00, 0x00, 0x00,
-];
-
-/// That of author 7 with I.
-const FULL: &[u8] =
-    b"OGS1\x00\x00\x00\x07OGD1\x00\x00\x00\x02\x00\x00\x00\x05\x00\x00\x00\x01\x03\x01a\x00\x00\x00\x00\x05\x00\x00\x00\x03\x03\x01a\x00";
-
-/// What is sent of I where 5.1 is known.
-const THIRD_OF_I: &[u8] = b"OGD1\x00\x00\x00\x01\x00\x00\x00\x05\x00\x00\x00\x03\x03\x01a\x00";
-
-// The texts of A and B, and of B alone.
-pub(crate) const BOTH: &str =
-    "census 2\ngame 0.77 known 8\nvalues 0 0 1 2 3 1 4 3 2\nblock 1.1 at 0 count 5 proved\nblock 2.1 at 5 count 3 proved\nauthor 1 through 1 last 1\nauthor 2 through 1 last 1\nend\n";
-
-pub(crate) const ALONE: &str =
-    "census 2\ngame 0.77 known 1\nvalues 0 0\nblock 2.1 at 5 count 3 pending\nauthor 2 through 1 last 1\nend\n";
-
-// That of A, SECOND and THIRD.
-const OVERLAPPING: &str =
-    "census 2\ngame 0.77 known 8\nvalues 0 0 1 2 3 1 4 3 2\nblock 1.1 at 0 count 5 proved\nblock 1.2 at 2 count 2 proved\nblock 1.3 at 3 count 5 proved\nauthor 1 through 3 last 3\nend\n";
-
-// That of D.
-const TURNS: &str =
-    "census 2\ngame 0.3 known 7\nvalues 0 0 1 0 1 0 1 0\nblock 1.1 at 0 count 7 proved\nperiod 1.2 from 1 by 2 proved\nauthor 1 through 2 last 2\nend\n";
-
-// That of F, G and H.
-const LATER: &str =
-    "census 2\nnote kayles 1.2 later\nauthor 1 through 2 last 2\nauthor 2 through 1 last 1\nend\n";
-
-// That of no operation.
-const EMPTY: &str = "census 2\nend\n";
-
-// That of I.
-const UNTOLD: &str = "census 2\nnote a 5.1 \nnote a 5.3 \nauthor 5 through 1 last 3\nend\n";
-
-// Whether this is the replica's catalogue.
-pub(crate) fn shows<A: Allocator + Copy>(alloc: A, replica: &Replica<A>, wanted: &str) -> bool {
+/// This is the replica's catalogue.
+pub(crate) fn shows<A: Allocator + Copy>(
+    rt: &impl Abort,
+    alloc: A,
+    replica: &Replica<A>,
+    wanted: &str,
+    name: &str,
+) {
     let mut text = Vec::new(alloc);
-    replica.catalogue(&mut text).is_ok() && are_same(text.as_slice(), wanted.as_bytes())
+    assert!(rt;
+        replica.catalogue(&mut text).is_ok(),
+        "no catalogue of {name}"
+    );
+    is_text(rt, &text, wanted, name);
 }
 
-// Whether each of the byte strings brings in so many new operations, and then none.
-fn takes<A: Allocator + Copy>(replica: &mut Replica<A>, deltas: &[&[u8]], new: u32) -> bool {
-    let mut all = true;
-    for delta in deltas {
-        all &= replica.take(delta) == Ok(new);
-        all &= replica.take(delta) == Ok(0);
-    }
-    all
-}
-
-// Whether a replica that took a delta and is joined with another one prints the text, and holds both operations.
-fn holds_both<A: Allocator + Copy>(
-    alloc: A,
+// Each of the deltas brings in so many new operations, and then none.
+fn takes<A: Allocator + Copy>(
+    rt: &(impl Abort + AllocGlobal),
     replica: &mut Replica<A>,
-    other: &Replica<A>,
-    wanted: &str,
-) -> bool {
-    replica.join(other).is_ok()
-        && shows(alloc, replica, wanted)
-        && replica.author() == 7
-        && replica.len() == 2
-        && !replica.is_empty()
+    deltas: &[&str],
+    new: u32,
+) {
+    for text in deltas {
+        takes_bytes(rt, replica, &bytes(rt, text), new);
+    }
 }
 
-// Whether a replica of author 7 that takes a delta of one operation and is joined with one that took another does so.
-fn joins<A: Allocator + Copy>(
-    alloc: A,
+fn takes_bytes<A: Allocator + Copy>(
+    rt: &impl Abort,
     replica: &mut Replica<A>,
-    ours: &[u8],
-    theirs: &[u8],
-    wanted: &str,
-) -> bool {
-    match Replica::new(alloc, 1) {
-        Ok(mut other) => {
-            let is_joined = takes(replica, &[ours], 1)
-                && takes(&mut other, &[theirs], 1)
-                && holds_both(alloc, replica, &other, wanted);
-            drop(other);
-            is_joined
-        }
-        Err(_) => false,
-    }
+    delta: &[u8],
+    new: u32,
+) {
+    assert_eq!(rt; replica.take(delta), Ok(new), "{delta:?}");
+    assert_eq!(rt; replica.take(delta), Ok(0), "{delta:?} once more");
 }
 
-// Kayles by author 1: two values from place 2, five from place 3.
-const SECOND: &[u8] =
-    b"OGD1\x00\x00\x00\x01\x00\x00\x00\x01\x00\x00\x00\x02\x01\x00\x02\x07\x07\x00\x00\x00\x02\x00\x02\x00\x00\x00\x02\x00\x00\x00\x03";
-
-const THIRD: &[u8] =
-    b"OGD1\x00\x00\x00\x01\x00\x00\x00\x01\x00\x00\x00\x03\x01\x00\x02\x07\x07\x00\x00\x00\x03\x00\x05\x00\x00\x00\x03\x00\x00\x00\x01\x00\x00\x00\x04\x00\x00\x00\x03\x00\x00\x00\x02";
-
-// The note 7.1 that was issued twice, the second time from an old state.
-pub(crate) const ONE: &[u8] =
-    b"OGD1\x00\x00\x00\x01\x00\x00\x00\x07\x00\x00\x00\x01\x03\x01a\x03one";
-
-pub(crate) const TWO: &[u8] =
-    b"OGD1\x00\x00\x00\x01\x00\x00\x00\x07\x00\x00\x00\x01\x03\x01a\x03two";
-
-pub(crate) const FORKED: &str =
-    "census 2\nnote a 7.1 one\nnote a 7.1 two\nfork 7.1 contents 2\nauthor 7 through 1 last 1\nend\n";
-
-/// What a new replica does.
-#[derive(Clone, Copy)]
-enum Trial<'a> {
-    /// Takes these byte strings, of one operation each, and prints the text.
-    Print(&'a [&'a [u8]], &'a str),
-    PrintList,
-    /// Takes a byte string, is joined with a replica that takes the other one, and prints the text.
-    Join(&'a [u8], &'a [u8], &'a str),
-    FollowClaims,
-    IssueAfterTheLast,
-    ComputeFirst,
-    ComputeAll,
-    RemoveByName,
-    StayEmpty,
-    /// Refuses these bytes and stays empty, or takes them in and sends the other ones.
-    RefuseOrSend(&'a [u8], &'a [u8]),
+// The code of the text.
+fn code_of(rt: &impl Abort, text: &str) -> Code {
+    Code::parse(text.as_bytes()).ok().expect(rt, text)
 }
 
-// Whether the replica does so.
-fn does<A: Allocator + Copy>(alloc: A, replica: &mut Replica<A>, trial: Trial) -> bool {
-    match trial {
-        Trial::Print(deltas, wanted) => takes(replica, deltas, 1) && shows(alloc, replica, wanted),
-        Trial::PrintList => prints_list(alloc, replica),
-        Trial::Join(ours, theirs, wanted) => joins(alloc, replica, ours, theirs, wanted),
-        Trial::FollowClaims => follows_claims(alloc, replica),
-        Trial::IssueAfterTheLast => issues_after_the_last(alloc, replica),
-        Trial::ComputeFirst => computes_first(replica),
-        Trial::ComputeAll => computes_all(replica),
-        Trial::RemoveByName => removes_by_name(replica),
-        Trial::StayEmpty => stays_empty(alloc, replica),
-        Trial::RefuseOrSend(bytes, old) => is_refused_or_sent(alloc, replica, bytes, old),
-    }
-}
+/// What a replica of author 1 takes, one operation each, and what it then prints, with a name for the case.
+type Printed<'a> = (&'a str, &'a [&'a str], &'a str);
 
-// Whether a new replica of the author does so.
-fn new_one_does<A: Allocator + Copy>(alloc: A, author: u32, trial: Trial) -> bool {
-    match Replica::new(alloc, author) {
-        Ok(mut replica) => {
-            let is_done = does(alloc, &mut replica, trial);
-            drop(replica);
-            is_done
-        }
-        Err(_) => false,
-    }
-}
-
-// Whether that is so of each of these authors.
-fn new_ones_do<A: Allocator + Copy>(alloc: A, trials: &[(u32, Trial)]) -> bool {
-    let mut all = true;
-    for &(author, trial) in trials {
-        all &= new_one_does(alloc, author, trial);
-    }
-    all
-}
-
-const PRINTED: &[(u32, Trial<'static>)] = &[
-    (1, Trial::Print(&[&A, &B], BOTH)),
-    (1, Trial::Print(&[&B, &A], BOTH)),
-    (1, Trial::Print(&[&B], ALONE)),
-    (1, Trial::Print(&[&A, SECOND, THIRD], OVERLAPPING)),
-    (1, Trial::Print(&[ONE, TWO], FORKED)),
-    (1, Trial::Print(&[TWO, ONE], FORKED)),
-    (1, Trial::Print(&[&F, &G, &H], LATER)),
-    (1, Trial::Print(&[&F, &H, &G], LATER)),
-    (1, Trial::Print(&[&G, &F, &H], LATER)),
-    (1, Trial::Print(&[&G, &H, &F], LATER)),
-    (1, Trial::Print(&[&H, &F, &G], LATER)),
-    (1, Trial::Print(&[&H, &G, &F], LATER)),
-    (7, Trial::Join(&A, &B, BOTH)),
-    (7, Trial::Join(TWO, ONE, FORKED)),
-    (1, Trial::PrintList),
+const PRINTED: &[Printed<'static>] = &[
+    ("blocks", &[FIRST, NEXT], BOTH_SHOWN),
+    ("blocks turned", &[NEXT, FIRST], BOTH_SHOWN),
+    ("a far block", &[NEXT], NEXT_SHOWN),
+    ("overlapping", &[FIRST, SECOND, THIRD], THREE_SHOWN),
+    ("a fork", &[ONE, TWO], FORKED_SHOWN),
+    ("a fork turned", &[TWO, ONE], FORKED_SHOWN),
+    ("notes 123", &[EARLY, LATER, REMOVAL], LATER_SHOWN),
+    ("notes 132", &[EARLY, REMOVAL, LATER], LATER_SHOWN),
+    ("notes 213", &[LATER, EARLY, REMOVAL], LATER_SHOWN),
+    ("notes 231", &[LATER, REMOVAL, EARLY], LATER_SHOWN),
+    ("notes 312", &[REMOVAL, EARLY, LATER], LATER_SHOWN),
+    ("notes 321", &[REMOVAL, LATER, EARLY], LATER_SHOWN),
 ];
 
-// Whether a replica that takes the list of D prints its text.
-fn prints_list<A: Allocator + Copy>(alloc: A, replica: &mut Replica<A>) -> bool {
-    match decode(alloc, &D) {
-        Ok(list) => {
-            list.len() == 2 && replica.take_list(list) == Ok(2) && shows(alloc, replica, TURNS)
-        }
-        Err(_) => false,
-    }
+fn prints(rt: &(impl Abort + AllocGlobal), case: Printed) {
+    let (name, deltas, wanted) = case;
+    let mut replica = new_replica(rt, rt.alloc(), 1);
+    takes(rt, &mut replica, deltas, 1);
+    shows(rt, rt.alloc(), &replica, wanted, name);
+}
+
+/// What a replica of author 7 takes, what another takes with which it is joined, and what it then prints.
+type Joined<'a> = (&'a str, &'a str, &'a str);
+
+const JOINED: &[Joined<'static>] = &[(FIRST, NEXT, BOTH_SHOWN), (TWO, ONE, FORKED_SHOWN)];
+
+// The joined replica holds both operations.
+fn joins(rt: &(impl Abort + AllocGlobal), case: Joined) {
+    let (ours, theirs, wanted) = case;
+    let mut replica = new_replica(rt, rt.alloc(), 7);
+    let mut other = new_replica(rt, rt.alloc(), 1);
+    takes(rt, &mut replica, &[ours], 1);
+    takes(rt, &mut other, &[theirs], 1);
+    assert!(rt; replica.join(&other).is_ok(), "{ours} with {theirs}");
+    shows(rt, rt.alloc(), &replica, wanted, "a join");
+    assert_eq!(rt;
+        (replica.author(), replica.len()),
+        (7, 2),
+        "{ours} with {theirs}"
+    );
+    assert!(rt; !replica.is_empty(), "{ours} with {theirs}");
+}
+
+// The replica takes the list of TURNS.
+fn prints_list(rt: &(impl Abort + AllocGlobal)) {
+    let list = decode(rt.alloc(), &bytes(rt, TURNS)).ok().expect(rt, TURNS);
+    assert_eq!(rt; list.len(), 2, "{TURNS}");
+    let mut replica = new_replica(rt, rt.alloc(), 1);
+    assert_eq!(rt; replica.take_list(list), Ok(2), "{TURNS}");
+    shows(rt, rt.alloc(), &replica, TURNS_SHOWN, "a list");
 }
 
 #[test]
 fn operations_come_in_any_order(rt: HostRuntime) {
-    assert!(rt; new_ones_do(rt.alloc(), PRINTED));
-}
-
-/// The nim-values of Kayles for the heaps below 84, of which the last twelve repeat.
-const KAYLES: [u8; 84] = [
-    0, 1, 2, 3, 1, 4, 3, 2, 1, 4, 2, 6, 4, 1, 2, 7, 1, 4, 3, 2, 1, 4, 6, 7, 4, 1, 2, 8, 5, 4, 7, 2,
-    1, 8, 6, 7, 4, 1, 2, 3, 1, 4, 7, 2, 1, 8, 2, 7, 4, 1, 2, 8, 1, 4, 7, 2, 1, 4, 2, 7, 4, 1, 2, 8,
-    1, 4, 7, 2, 1, 8, 6, 7, 4, 1, 2, 8, 1, 4, 7, 2, 1, 8, 2, 7,
-];
-
-// The delta of Kayles from place 0, with 167 values.
-pub(crate) fn long_block() -> [u8; 695] {
-    let mut bytes = [0; 695];
-    bytes[..27].copy_from_slice(
-        b"OGD1\x00\x00\x00\x01\x00\x00\x00\x01\x00\x00\x00\x01\x01\x00\x02\x07\x07\x00\x00\x00\x00\x00\xa7",
-    );
-    for place in 0..167usize {
-        let at = if place < 84 { place } else { 72 + place % 12 };
-        bytes[4 * place + 30] = KAYLES[at];
+    for &case in PRINTED {
+        prints(&rt, case);
     }
-    bytes
+    for &case in JOINED {
+        joins(&rt, case);
+    }
+    prints_list(&rt);
 }
 
-// The claims that Kayles repeats from 71 and from 70 on, and its value of heap 167.
-const RIGHT: &[u8] =
-    b"OGD1\x00\x00\x00\x01\x00\x00\x00\x01\x00\x00\x00\x02\x02\x00\x02\x07\x07\x00\x00\x00\x47\x00\x00\x00\x0c";
+// The value of a position, or the place of the heap that is not known.
+fn value_of<A: Allocator + Copy>(
+    replica: &Replica<A>,
+    code: Code,
+    heaps: &[u64],
+) -> Result<u32, usize> {
+    match replica.value(code, heaps) {
+        Ok(value) => Ok(value),
+        Err(unknown) => Err(unknown.index),
+    }
+}
 
-const EARLY: &[u8] =
-    b"OGD1\x00\x00\x00\x01\x00\x00\x00\x01\x00\x00\x00\x03\x02\x00\x02\x07\x07\x00\x00\x00\x46\x00\x00\x00\x0c";
+// The name of an outcome.
+fn outcome_name(outcome: Outcome) -> &'static str {
+    match outcome {
+        Outcome::NextWins => "next wins",
+        Outcome::NextLoses => "next loses",
+        Outcome::Unknown { index: _ } => "unknown",
+    }
+}
 
-pub(crate) const LAST: &[u8] =
-    b"OGD1\x00\x00\x00\x01\x00\x00\x00\x01\x00\x00\x00\x04\x01\x00\x02\x07\x07\x00\x00\x00\xa7\x00\x01\x00\x00\x00\x07";
+// Who wins a position.
+fn outcome_of<A: Allocator + Copy>(
+    replica: &Replica<A>,
+    code: Code,
+    heaps: &[u64],
+) -> &'static str {
+    outcome_name(replica.outcome(code, heaps))
+}
 
 // Positions of Kayles, and the values that follow from the claim.
 const VALUES: &[(&[u64], u32)] = &[(&[1_000_000_000], 1), (&[5, 6], 7), (&[], 0), (&[0], 0)];
 
-// Whether the replica gives these values, and none of the other code.
-fn has_values<A: Allocator + Copy>(replica: &Replica<A>, code: Code, other: Code) -> bool {
-    let mut all = true;
+// The replica gives these values, and none of the other code.
+fn has_values(rt: &(impl Abort + AllocGlobal), replica: &Replica<Global>, code: Code, other: Code) {
     for &(heaps, value) in VALUES {
-        all &= replica.value(code, heaps) == Ok(value);
+        assert_eq!(rt; value_of(replica, code, heaps), Ok(value), "{heaps:?}");
     }
-    all && replica.outcome(code, &[1_000_000_000]) == Outcome::NextWins
-        && replica.value(other, &[1]) == Err(Unknown { index: 0 })
-        && replica.outcome(other, &[]) == Outcome::NextLoses
+    assert_eq!(rt; outcome_of(replica, code, &[1_000_000_000]), "next wins");
+    assert_eq!(rt; value_of(replica, other, &[1]), Err(0), "another game");
+    assert_eq!(rt; outcome_of(replica, other, &[]), "next loses");
 }
 
-// Whether the catalogue has one page.
-fn has_one_page<A: Allocator + Copy>(alloc: A, replica: &Replica<A>) -> bool {
-    let mut text = Vec::new(alloc);
-    replica.page(0, &mut text) == Ok(true)
-        && text.starts_with(b"census 2\ngame 0.77 known 168\n")
-        && replica.page(1, &mut text) == Ok(false)
+// The catalogue has one page.
+fn has_one_page(rt: &(impl Abort + AllocGlobal), replica: &Replica<Global>) {
+    let mut text = Vec::new(rt.alloc());
+    assert_eq!(rt; replica.page(0, &mut text), Ok(true), "the first page");
+    let is_begun = text.starts_with(b"census 2\ngame 0.77 known 168\n");
+    assert!(rt; is_begun, "{text:?}");
+    assert_eq!(rt; replica.page(1, &mut text), Ok(false), "a second page");
 }
 
-// Whether the claim gives values once its last value is there, and not before, and the catalogue has then one page.
-fn follows_claims<A: Allocator + Copy>(alloc: A, replica: &mut Replica<A>) -> bool {
-    let Some((code, other)) = codes() else {
-        return false;
-    };
-    takes(replica, &[&long_block(), RIGHT, EARLY], 1)
-        && replica.value(code, &[5, 1_000_000_000]) == Err(Unknown { index: 1 })
-        && takes(replica, &[LAST], 1)
-        && has_values(replica, code, other)
-        && has_one_page(alloc, replica)
-}
-
-// The codes of Kayles and of Dawson's Kayles.
-fn codes() -> Option<(Code, Code)> {
-    match (Code::parse(b"0.77"), Code::parse(b"0.07")) {
-        (Ok(code), Ok(other)) => Some((code, other)),
-        _ => None,
-    }
+// The claim gives values once its last value is there, and not before.
+fn follows_claims(rt: &(impl Abort + AllocGlobal)) {
+    let (code, other) = (code_of(rt, "0.77"), code_of(rt, "0.07"));
+    let mut replica = new_replica(rt, rt.alloc(), 1);
+    takes_bytes(rt, &mut replica, &long_block(rt), 1);
+    takes(rt, &mut replica, &[RIGHT_CLAIM, EARLY_CLAIM], 1);
+    let value = value_of(&replica, code, &[5, 1_000_000_000]);
+    assert_eq!(rt; value, Err(1), "before the last value");
+    takes(rt, &mut replica, &[LAST], 1);
+    has_values(rt, &replica, code, other);
+    has_one_page(rt, &replica);
 }
 
 // Issues a note without text, where it can, and gives the author and the number of its dot.
@@ -337,184 +219,172 @@ fn issued<A: Allocator + Copy>(
     }
 }
 
-// Whether the delta beyond the clock is this.
-fn sends_beyond<A: Allocator + Copy>(
-    alloc: A,
-    replica: &Replica<A>,
-    clock: &Clock<A>,
+// The delta beyond the clock is this.
+fn sends_beyond(
+    rt: &(impl Abort + AllocGlobal),
+    replica: &Replica<Global>,
+    clock: &Clock<Global>,
     wanted: &[u8],
-) -> bool {
-    let mut delta = Vec::new(alloc);
-    replica.delta(clock, &mut delta).is_ok() && are_same(delta.as_slice(), wanted)
+) {
+    let mut delta = Vec::new(rt.alloc());
+    assert!(rt; replica.delta(clock, &mut delta).is_ok(), "no {wanted:?}");
+    assert_eq!(rt; delta.as_slice(), wanted);
 }
 
-// Whether one operation is beyond the replica's own clock, and the delta of it is this.
-fn sends<A: Allocator + Copy>(alloc: A, replica: &Replica<A>, wanted: &[u8]) -> bool {
-    let Ok(clock) = replica.clock() else {
-        return false;
-    };
-    match replica.beyond(&clock) {
-        Ok(list) => list.len() == 1 && sends_beyond(alloc, replica, &clock, wanted),
-        Err(_) => false,
-    }
+// One operation is beyond the replica's own clock, and the delta of it is this.
+fn sends(rt: &(impl Abort + AllocGlobal), replica: &Replica<Global>, wanted: &str) {
+    let clock = replica.clock().ok().expect(rt, "the clock");
+    let list = replica.beyond(&clock).ok().expect(rt, "a list");
+    assert_eq!(rt; list.len(), 1, "operations beyond {wanted}");
+    sends_beyond(rt, replica, &clock, &bytes(rt, wanted));
 }
 
 // A note of author 5 under the greatest number.
-const LAST_OF_5: &[u8] = b"OGD1\x00\x00\x00\x01\x00\x00\x00\x05\xff\xff\xff\xff\x03\x01a\x00";
+const LAST_OF_5: &str = "\
+4f474431 00000001
+00000005 ffffffff 03 01 61 00";
 
-// Whether a replica of author 5 issues 5.4 after I, and nothing after the greatest number.
-fn issues_after_the_last<A: Allocator + Copy>(alloc: A, replica: &mut Replica<A>) -> bool {
-    takes(replica, &[&I], 2)
-        && shows(alloc, replica, UNTOLD)
-        && sends(alloc, replica, THIRD_OF_I)
-        && issued(alloc, replica) == Ok((5, 4))
-        && takes(replica, &[LAST_OF_5], 1)
-        && issued(alloc, replica) == Err(IssueError::LastNumber)
-        && replica.len() == 4
+// A replica of author 5 issues 5.4 after UNTOLD, and nothing after the greatest number.
+fn issues_after_the_last(rt: &(impl Abort + AllocGlobal)) {
+    let mut replica = new_replica(rt, rt.alloc(), 5);
+    takes(rt, &mut replica, &[UNTOLD], 2);
+    shows(rt, rt.alloc(), &replica, UNTOLD_SHOWN, "notes without text");
+    sends(rt, &replica, THIRD_UNTOLD);
+    assert_eq!(rt; issued(rt.alloc(), &mut replica), Ok((5, 4)));
+    takes(rt, &mut replica, &[LAST_OF_5], 1);
+    let refused = issued(rt.alloc(), &mut replica);
+    assert_eq!(rt; refused, Err(IssueError::LastNumber));
+    assert_eq!(rt; replica.len(), 4, "operations");
 }
 
-// Whether the next values of the game are not computed, for this reason.
-fn computes_none<A: Allocator + Copy>(
-    replica: &Replica<A>,
+// The next values of the game are not computed, for this reason.
+fn computes_none(
+    rt: &(impl Abort + AllocGlobal),
+    replica: &Replica<Global>,
     code: Code,
     count: u32,
     why: ComputeError,
-) -> bool {
-    match replica.compute(code, count) {
-        Ok(_) => false,
-        Err(refused) => refused == why,
-    }
+) {
+    let refused = replica.compute(code, count).err();
+    assert_eq!(rt; refused, Some(why), "{count} values");
 }
 
-// Whether the block of the next five values of the game is this one.
-fn computes_five<A: Allocator + Copy>(replica: &Replica<A>, code: Code, values: &[u32]) -> bool {
-    match replica.compute(code, 5) {
-        Ok(block) => block.code() == code && block.start() == 1 && are_same(block.values(), values),
-        Err(_) => false,
-    }
+// An empty replica computes five values of 0.137, neither none nor too many, and stays empty.
+fn computes_first(rt: &(impl Abort + AllocGlobal)) {
+    let code = code_of(rt, "0.137");
+    let replica = new_replica(rt, rt.alloc(), 7);
+    let block = replica.compute(code, 5).ok().expect(rt, "five values");
+    assert!(rt; block.code() == code, "another code");
+    assert_eq!(rt; block.start(), 1, "the start");
+    assert_eq!(rt; block.values(), [1, 1, 2, 0, 3].as_slice());
+    computes_none(rt, &replica, code, 0, ComputeError::Zero);
+    computes_none(rt, &replica, code, 1_025, ComputeError::TooMany);
+    assert_eq!(rt; replica.len(), 0, "operations");
 }
 
-// Whether an empty replica computes five values of 0.137, neither none nor too many, and stays empty.
-fn computes_first<A: Allocator + Copy>(replica: &Replica<A>) -> bool {
-    let Ok(code) = Code::parse(b"0.137") else {
-        return false;
-    };
-    computes_five(replica, code, &[1, 1, 2, 0, 3])
-        && computes_none(replica, code, 0, ComputeError::Zero)
-        && computes_none(replica, code, 1_025, ComputeError::TooMany)
-        && replica.len() == 0
-}
-
-// Whether the block has so many values from the start on, in turn 0 and 1.
-fn takes_turns<A: Allocator + Copy>(block: &Block<A>, start: u32, count: usize) -> bool {
-    let mut right = block.start() == start && block.values().len() == count;
+// The block has so many values from the start on, in turn 0 and 1.
+fn takes_turns(rt: &(impl Abort + AllocGlobal), block: &Block<Global>, start: u32, count: usize) {
+    let shown = (block.start(), block.values().len());
+    assert_eq!(rt; shown, (start, count), "start and count");
     let mut value = start % 2;
     for claimed in block.values() {
-        right &= *claimed == value;
+        assert_eq!(rt; *claimed, value, "a value of the block at {start}");
         value ^= 1;
     }
-    right
 }
 
-// Whether the block of the next values of 0.3 is such a one. It is issued.
-fn goes_on<A: Allocator + Copy>(
-    replica: &mut Replica<A>,
+// The block of the next values of 0.3 is such a one. It is issued.
+fn goes_on(
+    rt: &(impl Abort + AllocGlobal),
+    replica: &mut Replica<Global>,
     code: Code,
     start: u32,
     count: usize,
-) -> bool {
-    match replica.compute(code, 1_024) {
-        Ok(block) => {
-            let right = takes_turns(&block, start, count);
-            plain(replica.issue(Body::Block(block))).is_ok() && right
-        }
-        Err(_) => false,
-    }
+) {
+    let block = replica.compute(code, 1_024).ok().expect(rt, "a block");
+    takes_turns(rt, &block, start, count);
+    let dot = plain(replica.issue(Body::Block(block)));
+    assert!(rt; dot.is_ok(), "the block at {start} is not issued");
 }
 
-// Whether the values of 0.3 are computed up to the limit, and none beyond it.
-fn computes_all<A: Allocator + Copy>(replica: &mut Replica<A>) -> bool {
-    let Ok(code) = Code::parse(b"0.3") else {
-        return false;
-    };
-    let mut all = true;
+// The values of 0.3 are computed up to the limit, and none beyond it.
+fn computes_all(rt: &(impl Abort + AllocGlobal)) {
+    let code = code_of(rt, "0.3");
+    let mut replica = new_replica(rt, rt.alloc(), 7);
     for turn in 0..63u32 {
-        all &= goes_on(replica, code, 1_024 * turn + 1, 1_024);
+        goes_on(rt, &mut replica, code, 1_024 * turn + 1, 1_024);
     }
-    all && goes_on(replica, code, 64_513, 1_023)
-        && computes_none(replica, code, 1_025, ComputeError::TooMany)
-        && computes_none(replica, code, 1, ComputeError::AtLimit)
+    goes_on(rt, &mut replica, code, 64_513, 1_023);
+    computes_none(rt, &replica, code, 1_025, ComputeError::TooMany);
+    computes_none(rt, &replica, code, 1, ComputeError::AtLimit);
 }
 
-// Whether a removal of the notes with this name has the one dot; none where there is no such note.
-fn removes<A: Allocator + Copy>(
-    replica: &Replica<A>,
-    name: &[u8],
-    dot: Option<(u32, u32)>,
-) -> bool {
-    match replica.removal(name) {
-        Ok(removal) => match removal.dots() {
-            [only] => dot == Some((only.author(), only.number())),
-            _ => false,
-        },
-        Err(refused) => dot.is_none() && refused == RemovalError::NoNote,
+// The live note of EARLY, LATER and REMOVAL is removed by its name alone, and no other one.
+fn removes_by_name(rt: &(impl Abort + AllocGlobal)) {
+    let mut replica = new_replica(rt, rt.alloc(), 1);
+    takes(rt, &mut replica, &[EARLY, LATER, REMOVAL], 1);
+    let removal = replica.removal(b"kayles").ok().expect(rt, "a removal");
+    assert_eq!(rt; removal.dots().len(), 1, "dots");
+    for dot in removal.dots() {
+        assert_eq!(rt; (dot.author(), dot.number()), (1, 2));
     }
+    let refused = replica.removal(b"dawson").err();
+    assert_eq!(rt; refused, Some(RemovalError::NoNote));
+    assert_eq!(rt; replica.len(), 3, "operations");
 }
-
-// Whether the live note of F, G and H is removed by its name alone, and no other one.
-fn removes_by_name<A: Allocator + Copy>(replica: &mut Replica<A>) -> bool {
-    takes(replica, &[&F, &G, &H], 1)
-        && removes(replica, b"kayles", Some((1, 2)))
-        && removes(replica, b"dawson", None)
-        && replica.len() == 3
-}
-
-const ISSUED: &[(u32, Trial<'static>)] = &[
-    (1, Trial::FollowClaims),
-    (5, Trial::IssueAfterTheLast),
-    (7, Trial::ComputeFirst),
-    (7, Trial::ComputeAll),
-    (1, Trial::RemoveByName),
-];
 
 #[test]
 fn operations_are_issued(rt: HostRuntime) {
-    assert!(rt; new_ones_do(rt.alloc(), ISSUED));
+    follows_claims(&rt);
+    issues_after_the_last(&rt);
+    computes_first(&rt);
+    computes_all(&rt);
+    removes_by_name(&rt);
 }
 
-// Whether each proper prefix of the delta is refused.
-fn refuses_prefixes<A: Allocator + Copy>(replica: &mut Replica<A>, delta: &[u8]) -> bool {
-    let mut all = true;
+// Each proper prefix of the delta is refused.
+fn refuses_prefixes(rt: &(impl Abort + AllocGlobal), replica: &mut Replica<Global>, delta: &[u8]) {
     for end in 0..delta.len() {
         let wanted = if end < 4 {
             TakeError::Version
         } else {
             TakeError::Refused
         };
-        all &= replica.take(&delta[..end]) == Err(wanted);
+        let front = &delta[..end];
+        assert_eq!(rt; replica.take(front), Err(wanted), "{front:?}");
     }
-    all
 }
 
-// A with a byte more, with another tag, with a greater count, and with its operation twice.
-const LONGER: &[u8] =
-    b"OGD1\x00\x00\x00\x01\x00\x00\x00\x01\x00\x00\x00\x01\x01\x00\x02\x07\x07\x00\x00\x00\x00\x00\x05\x00\x00\x00\x00\x00\x00\x00\x01\x00\x00\x00\x02\x00\x00\x00\x03\x00\x00\x00\x01\x00";
+// FIRST with a byte more.
+const LONGER: &str = "\
+4f474431 00000001
+00000001 00000001 01 00020707 00000000 0005 00000000 00000001 00000002 00000003 00000001
+00";
 
-const OTHER_TAG: &[u8] =
-    b"OGD9\x00\x00\x00\x01\x00\x00\x00\x01\x00\x00\x00\x01\x01\x00\x02\x07\x07\x00\x00\x00\x00\x00\x05\x00\x00\x00\x00\x00\x00\x00\x01\x00\x00\x00\x02\x00\x00\x00\x03\x00\x00\x00\x01";
+// FIRST with another tag.
+const OTHER_TAG: &str = "\
+4f474439 00000001
+00000001 00000001 01 00020707 00000000 0005 00000000 00000001 00000002 00000003 00000001";
 
-const GREAT_COUNT: &[u8] =
-    b"OGD1\xff\xff\xff\xff\x00\x00\x00\x01\x00\x00\x00\x01\x01\x00\x02\x07\x07\x00\x00\x00\x00\x00\x05\x00\x00\x00\x00\x00\x00\x00\x01\x00\x00\x00\x02\x00\x00\x00\x03\x00\x00\x00\x01";
+// FIRST with a greater count.
+const GREAT_COUNT: &str = "\
+4f474431 ffffffff
+00000001 00000001 01 00020707 00000000 0005 00000000 00000001 00000002 00000003 00000001";
 
-const REPEATED: &[u8] =
-    b"OGD1\x00\x00\x00\x02\x00\x00\x00\x01\x00\x00\x00\x01\x01\x00\x02\x07\x07\x00\x00\x00\x00\x00\x05\x00\x00\x00\x00\x00\x00\x00\x01\x00\x00\x00\x02\x00\x00\x00\x03\x00\x00\x00\x01\x00\x00\x00\x01\x00\x00\x00\x01\x01\x00\x02\x07\x07\x00\x00\x00\x00\x00\x05\x00\x00\x00\x00\x00\x00\x00\x01\x00\x00\x00\x02\x00\x00\x00\x03\x00\x00\x00\x01";
+// FIRST with its operation twice.
+const REPEATED: &str = "\
+4f474431 00000002
+00000001 00000001 01 00020707 00000000 0005 00000000 00000001 00000002 00000003 00000001
+00000001 00000001 01 00020707 00000000 0005 00000000 00000001 00000002 00000003 00000001";
 
-// D with its operations the other way round.
-const FALLING: &[u8] =
-    b"OGD1\x00\x00\x00\x02\x00\x00\x00\x01\x00\x00\x00\x02\x02\x00\x01\x03\x00\x00\x00\x01\x00\x00\x00\x02\x00\x00\x00\x01\x00\x00\x00\x01\x01\x00\x01\x03\x00\x00\x00\x00\x00\x07\x00\x00\x00\x00\x00\x00\x00\x01\x00\x00\x00\x00\x00\x00\x00\x01\x00\x00\x00\x00\x00\x00\x00\x01\x00\x00\x00\x00";
+// TURNS with its operations the other way round.
+const FALLING: &str = "\
+4f474431 00000002
+00000001 00000002 02 000103 00000001 00000002
+00000001 00000001 01 000103 00000000 0007 00000000 00000001 00000000 00000001 00000000 00000001 00000000";
 
 // Those, and why they are refused.
-const CHANGED: &[(&[u8], TakeError)] = &[
+const CHANGED: &[(&str, TakeError)] = &[
     (LONGER, TakeError::Refused),
     (OTHER_TAG, TakeError::Version),
     (GREAT_COUNT, TakeError::Refused),
@@ -522,35 +392,44 @@ const CHANGED: &[(&[u8], TakeError)] = &[
     (REPEATED, TakeError::Refused),
 ];
 
-// Whether a replica stays empty where it refuses bytes that are no delta.
-fn stays_empty<A: Allocator + Copy>(alloc: A, replica: &mut Replica<A>) -> bool {
-    let mut all = true;
-    for delta in [&A[..], &D, &F, &H] {
-        all &= refuses_prefixes(replica, delta);
+// A replica stays empty where it refuses bytes that are no delta.
+fn stays_empty(rt: &(impl Abort + AllocGlobal)) {
+    let mut replica = new_replica(rt, rt.alloc(), 1);
+    for text in [FIRST, TURNS, EARLY, REMOVAL] {
+        refuses_prefixes(rt, &mut replica, &bytes(rt, text));
     }
-    for &(bytes, why) in CHANGED {
-        all &= replica.take(bytes) == Err(why);
+    for &(text, why) in CHANGED {
+        let taken = replica.take(&bytes(rt, text));
+        assert_eq!(rt; taken, Err(why), "{text}");
     }
-    all && shows(alloc, replica, EMPTY)
+    shows(
+        rt,
+        rt.alloc(),
+        &replica,
+        NONE_SHOWN,
+        "a replica that refused all",
+    );
 }
 
-// Whether an empty replica refuses the bytes and stays empty, or takes them in and sends them in the old format.
-fn is_refused_or_sent<A: Allocator + Copy>(
-    alloc: A,
-    replica: &mut Replica<A>,
-    bytes: &[u8],
-    old: &[u8],
-) -> bool {
+// An empty replica refuses the bytes and stays empty, or takes them in and sends them in the old format.
+fn is_refused_or_sent(rt: &(impl Abort + AllocGlobal), bytes: &[u8], old: &[u8]) {
+    let mut replica = new_replica(rt, rt.alloc(), 1);
     if replica.take(bytes).is_err() {
-        shows(alloc, replica, EMPTY)
+        shows(
+            rt,
+            rt.alloc(),
+            &replica,
+            NONE_SHOWN,
+            "a replica that refused",
+        );
     } else {
-        sends_beyond(alloc, replica, &Clock::new(alloc), old)
+        sends_beyond(rt, &replica, &Clock::new(rt.alloc()), old);
     }
 }
 
-// Whether that is so of the delta with each byte replaced by each other one.
-fn changes_are_refused_or_sent<A: Allocator + Copy>(alloc: A, delta: &[u8]) -> bool {
-    let mut all = delta.len() <= 74;
+// That is so of the delta with each byte replaced by each other one.
+fn changes_are_refused_or_sent(rt: &(impl Abort + AllocGlobal), delta: &[u8]) {
+    assert!(rt; delta.len() <= 74, "{} bytes", delta.len());
     let count = delta.len().min(74);
     for place in 0..count {
         for byte in 0..=u8::MAX {
@@ -559,62 +438,47 @@ fn changes_are_refused_or_sent<A: Allocator + Copy>(alloc: A, delta: &[u8]) -> b
             changed[place] = byte;
             let mut old = changed;
             old[3] = b'1';
-            let trial = Trial::RefuseOrSend(&changed[..count], &old[..count]);
-            all &= new_one_does(alloc, 1, trial);
+            is_refused_or_sent(rt, &changed[..count], &old[..count]);
         }
     }
-    all
-}
-
-// Whether a replica stays empty, and that is so of these deltas.
-fn other_bytes_are_refused<A: Allocator + Copy>(alloc: A) -> bool {
-    let mut all = new_one_does(alloc, 1, Trial::StayEmpty);
-    for delta in [&A[..], &D, &F, &H] {
-        all &= changes_are_refused_or_sent(alloc, delta);
-    }
-    all
 }
 
 #[test]
 fn bytes_that_are_no_delta_are_refused(rt: HostRuntime) {
-    assert!(rt; other_bytes_are_refused(rt.alloc()));
-}
-
-// Whether the replica of author 7 is saved as these bytes.
-fn saves<A: Allocator + Copy>(alloc: A, replica: &Replica<A>, bytes: &[u8]) -> bool {
-    let mut text = Vec::new(alloc);
-    replica.author() == 7 && replica.save(&mut text).is_ok() && are_same(text.as_slice(), bytes)
-}
-
-// Whether the bytes are loaded, and saved as they are.
-fn loads<A: Allocator + Copy>(alloc: A, bytes: &[u8]) -> bool {
-    match Replica::load(alloc, bytes) {
-        Ok(replica) => {
-            let is_saved = saves(alloc, &replica, bytes);
-            drop(replica);
-            is_saved
-        }
-        Err(_) => false,
+    stays_empty(&rt);
+    for text in [FIRST, TURNS, EARLY, REMOVAL] {
+        changes_are_refused_or_sent(&rt, &bytes(&rt, text));
     }
 }
 
-// Whether the bytes are no state, for this reason.
-fn refuses_state<A: Allocator + Copy>(alloc: A, bytes: &[u8], why: LoadError) -> bool {
-    Replica::load(alloc, bytes).err() == Some(why)
+// The bytes are the state of author 7 that is loaded from them.
+fn is_saved_again(rt: &(impl Abort + AllocGlobal), bytes: &[u8]) {
+    let replica = Replica::load(rt.alloc(), bytes).ok().expect(rt, "a state");
+    assert_eq!(rt; replica.author(), 7, "{bytes:?}");
+    let mut text = Vec::new(rt.alloc());
+    assert!(rt; replica.save(&mut text).is_ok(), "{bytes:?}");
+    assert_eq!(rt; text.as_slice(), bytes);
 }
 
-// Whether each proper prefix of J is refused, and a delta.
-fn refuses_states<A: Allocator + Copy>(alloc: A) -> bool {
-    let mut all = refuses_state(alloc, &A, LoadError::Version);
-    for end in 0..16usize {
+// The bytes are no state, for this reason.
+fn refuses_state(rt: &(impl Abort + AllocGlobal), bytes: &[u8], why: LoadError) {
+    let refused = Replica::load(rt.alloc(), bytes).err();
+    assert_eq!(rt; refused, Some(why), "{bytes:?}");
+}
+
+// A delta is refused, and each proper prefix of a state.
+fn refuses_states(rt: &(impl Abort + AllocGlobal)) {
+    refuses_state(rt, &bytes(rt, FIRST), LoadError::Version);
+    let state = bytes(rt, EMPTY_STATE);
+    assert_eq!(rt; state.len(), 16, "{EMPTY_STATE}");
+    for end in 0..state.len() {
         let wanted = if end < 4 {
             LoadError::Version
         } else {
             LoadError::Refused
         };
-        all &= refuses_state(alloc, &J[..end], wanted);
+        refuses_state(rt, &state[..end], wanted);
     }
-    all
 }
 
 // Whether no replica has the author 0.
@@ -622,24 +486,24 @@ fn no_author_is_zero<A: Allocator + Copy>(alloc: A) -> bool {
     Replica::new(alloc, 0).err() == Some(AuthorError::Zero)
 }
 
-fn states_are_loaded<A: Allocator + Copy>(alloc: A) -> bool {
-    loads(alloc, &J) && loads(alloc, FULL) && refuses_states(alloc) && no_author_is_zero(alloc)
-}
-
 #[test]
 fn states_are_loaded_as_they_were_saved(rt: HostRuntime) {
-    assert!(rt; states_are_loaded(rt.alloc()));
+    for text in [EMPTY_STATE, UNTOLD_STATE] {
+        is_saved_again(&rt, &bytes(&rt, text));
+    }
+    refuses_states(&rt);
+    assert!(rt; no_author_is_zero(rt.alloc()), "a replica of author 0");
 }
 
-// A block of another game for each number, at 1 with the value 0.
-fn other_block(number: u8) -> [u8; 32] {
-    let mut bytes =
-        *b"OGD1\x00\x00\x00\x01\x00\x00\x00\x01\x00\x00\x00\x01\x01\x00\x03\x00\x00\x00\x00\x00\x00\x01\x00\x01\x00\x00\x00\x00";
-    bytes[15] = number;
-    bytes[19] = number / 49 % 7;
-    bytes[20] = number / 7 % 7;
-    bytes[21] = number % 7 + 1;
-    bytes
+// The delta of the block 1.N of another game for each number N, at heap 1 with the value 0.
+fn other_block(rt: &(impl Abort + AllocGlobal), number: u8) -> Vec<u8> {
+    let mut out = bytes(rt, "4f474431 00000001 00000001");
+    put_number(rt, &mut out, u32::from(number));
+    put(rt, &mut out, "01 0003");
+    let digits = [number / 49 % 7, number / 7 % 7, number % 7 + 1];
+    assert!(rt; out.extend_from_slice(&digits).is_ok(), "{number}");
+    put(rt, &mut out, "00000001 0001 00000000");
+    out
 }
 
 // The known length and the comparisons of a game.
@@ -650,32 +514,26 @@ fn counts<A: Allocator + Copy>(replica: &Replica<A>, code: Code) -> (u32, u64) {
     }
 }
 
-// Whether a replica takes a block of Kayles with a few requests for memory, though it has a block of each of 200 other games.
-fn takes_beside_others<A: Allocator + Copy>(
+// A replica takes a block of Kayles with a few requests for memory, though it has a block of each of 200 other games.
+fn touches_its_game_alone<A: Allocator + Copy>(
+    rt: &(impl Abort + AllocGlobal),
     heap: &Metered<Global>,
-    replica: &mut Replica<A>,
-) -> bool {
-    let Ok(code) = Code::parse(b"0.77") else {
-        return false;
-    };
-    let mut all = true;
+    alloc: A,
+) {
+    let mut replica = new_replica(rt, alloc, 1);
     for number in 1..201u8 {
-        all &= replica.take(&other_block(number)) == Ok(1);
+        let taken = replica.take(&other_block(rt, number));
+        assert_eq!(rt; taken, Ok(1), "game {number}");
     }
+    let first = bytes(rt, FIRST);
     heap.arm(64);
-    all && replica.take(&A) == Ok(1) && counts(replica, code) == (5, 1)
-}
-
-// Whether a new one does so.
-fn touches_its_game_alone<A: Allocator + Copy>(heap: &Metered<Global>, alloc: A) -> bool {
-    match Replica::new(alloc, 1) {
-        Ok(mut replica) => takes_beside_others(heap, &mut replica),
-        Err(_) => false,
-    }
+    assert_eq!(rt; replica.take(&first), Ok(1), "with 64 requests");
+    let counted = counts(&replica, code_of(rt, "0.77"));
+    assert_eq!(rt; counted, (5, 1), "the known length and the comparisons");
 }
 
 #[test]
 fn a_block_touches_its_game_alone(rt: HostRuntime) {
     let heap = Metered::new(rt.alloc());
-    assert!(rt; touches_its_game_alone(&heap, &heap));
+    touches_its_game_alone(&rt, &heap, &heap);
 }

@@ -1,29 +1,52 @@
 //! The program, run on its words over files that the test makes.
 
 use census_run::run;
+use std::alloc::Global;
+use std::process::Abort;
 use std::test::Fail;
 use std::{env, fs};
 
 /// Words, the status with which they end, their output, and their errors. A text that ends with two dots is the front of one.
 type Case<'a> = (&'a [&'a str], u8, &'a str, &'a str);
 
-// Whether the text is as it should be.
-fn is_like(text: &[u8], wanted: &str) -> bool {
-    match wanted.as_bytes() {
-        [front @ .., b'.', b'.'] => text.starts_with(front),
-        whole => text == whole,
+/// How the program ended: its status, its output and its errors.
+#[derive(Drop)]
+struct End {
+    status: u8,
+    output: Vec<u8>,
+    errors: Vec<u8>,
+}
+
+impl End {
+    // The end of the words.
+    fn of(rt: &HostRuntime, words: &[&str]) -> End {
+        let mut input = &b"zz\n4f47443100000000\n"[..];
+        let mut output = Vec::new(rt.alloc());
+        let mut errors = Vec::new(rt.alloc());
+        let status = run(rt, words, &mut input, &mut output, &mut errors);
+        End {
+            status,
+            output,
+            errors,
+        }
+    }
+
+    // It is that of the case.
+    fn is_right(&self, rt: &impl Abort, case: Case) {
+        let (words, status, output, errors) = case;
+        is_like(rt, &self.errors, errors, words);
+        assert_eq!(rt; self.status, status, "the status of {words:?}");
+        is_like(rt, &self.output, output, words);
     }
 }
 
-// Whether the words end so.
-fn ends(rt: &HostRuntime, case: Case) -> bool {
-    let (words, status, output, errors) = case;
-    let mut input = &b"zz\n4f47443100000000\n"[..];
-    let mut written = Vec::new(rt.alloc());
-    let mut told = Vec::new(rt.alloc());
-    run(rt, words, &mut input, &mut written, &mut told) == status
-        && is_like(&written, output)
-        && is_like(&told, errors)
+// The text of the words is as it should be.
+fn is_like(rt: &impl Abort, text: &[u8], wanted: &str, words: &[&str]) {
+    let text = str::from_utf8(text).ok().expect(rt, "a text");
+    match wanted.strip_suffix("..") {
+        Some(front) => assert!(rt; text.starts_with(front), "{words:?}: {text}"),
+        None => assert_eq!(rt; text, wanted, "{words:?}"),
+    }
 }
 
 // The name of a folder for files of a test.
@@ -33,53 +56,51 @@ fn folder_name(rt: &HostRuntime) -> Result<String, Fail> {
     Ok(format!(in rt.alloc(); "{place}/census-does_commands_over_files")?)
 }
 
-// Whether each of the cases ends as it should.
-fn all_end(rt: &HostRuntime, cases: &[Case]) -> bool {
-    let mut all = true;
-    for &case in cases {
-        all &= ends(rt, case);
+// Commands on a state, of which one reads a file of JSON, and how they end. The words STATE and JSON stand for the files.
+const ON_FILES: &[Case<'static>] = &[
+    (&["init", "STATE", "7"], 0, "author 7\n", ""),
+    (&["init", "STATE", "7"], 3, "", "census: Exists\n"),
+    (&["sync", "STATE", "nowhere"], 3, "", "census: Net\n"),
+    (&["hub", "STATE", "nowhere"], 3, "", "census: Net\n"),
+    (
+        &["hub", "STATE", "nowhere", "--longest", "0"],
+        2,
+        "",
+        "census: Number\n",
+    ),
+    (
+        &["hub", "STATE", "127.0.0.1:0", "--peers", "0"],
+        0,
+        "listening on 127.0.0.1:..",
+        "",
+    ),
+    (
+        &["unnote", "STATE", "dawson"],
+        1,
+        "",
+        "census: Removal NoNote\n",
+    ),
+    (&["delta", "STATE", "STATE"], 3, "", "census: Same\n"),
+    (&["import", "STATE", "JSON"], 0, "issued 7.1\n", ""),
+    (&["show", "STATE"], 0, DAWSON, ""),
+];
+
+// The words over these files.
+fn words_over<'a>(
+    alloc: Global,
+    words: &[&'a str],
+    state: &'a str,
+    json: &'a str,
+) -> Result<Vec<&'a str>, Fail> {
+    let mut all = Vec::new(alloc);
+    for &word in words {
+        all.push(match word {
+            "STATE" => state,
+            "JSON" => json,
+            other => other,
+        })?;
     }
-    all
-}
-
-// Whether commands on a state, of which one reads a file of JSON, end as they should.
-fn commands_end(rt: &HostRuntime, state: &str, json: &str) -> bool {
-    let listening = "listening on 127.0.0.1:..";
-    let cases: [Case; 10] = [
-        (&["init", state, "7"], 0, "author 7\n", ""),
-        (&["init", state, "7"], 3, "", "census: Exists\n"),
-        (&["sync", state, "nowhere"], 3, "", "census: Net\n"),
-        (&["hub", state, "nowhere"], 3, "", "census: Net\n"),
-        (
-            &["hub", state, "nowhere", "--longest", "0"],
-            2,
-            "",
-            "census: Number\n",
-        ),
-        (
-            &["hub", state, "127.0.0.1:0", "--peers", "0"],
-            0,
-            listening,
-            "",
-        ),
-        (
-            &["unnote", state, "dawson"],
-            1,
-            "",
-            "census: Removal NoNote\n",
-        ),
-        (&["delta", state, state], 3, "", "census: Same\n"),
-        (&["import", state, json], 0, "issued 7.1\n", ""),
-        (&["show", state], 0, DAWSON, ""),
-    ];
-    fs::write(rt, json, BLOCK).is_ok() && all_end(rt, &cases)
-}
-
-// The same in a folder.
-fn commands_end_in(rt: &HostRuntime, folder: &str) -> Result<bool, Fail> {
-    let state = format!(in rt.alloc(); "{folder}/state")?;
-    let json = format!(in rt.alloc(); "{folder}/block.json")?;
-    Ok(commands_end(rt, state.as_str(), json.as_str()))
+    Ok(all)
 }
 
 #[test]
@@ -87,7 +108,13 @@ fn does_commands_over_files(rt: HostRuntime) -> Result<(), Fail> {
     let folder = folder_name(&rt)?;
     let _ = fs::remove_dir_all(&rt, folder.as_str());
     fs::create_dir(&rt, folder.as_str())?;
-    assert!(rt; commands_end_in(&rt, folder.as_str())?);
+    let state = format!(in rt.alloc(); "{folder}/state")?;
+    let json = format!(in rt.alloc(); "{folder}/block.json")?;
+    fs::write(&rt, json.as_str(), BLOCK)?;
+    for &case in ON_FILES {
+        let words = words_over(rt.alloc(), case.0, state.as_str(), json.as_str())?;
+        End::of(&rt, &words).is_right(&rt, case);
+    }
     fs::remove_dir_all(&rt, folder.as_str())?;
     Ok(())
 }
@@ -115,5 +142,7 @@ const CASES: &[Case<'static>] = &[
 
 #[test]
 fn folds_and_refuses_lines(rt: HostRuntime) {
-    assert!(rt; all_end(&rt, CASES));
+    for &case in CASES {
+        End::of(&rt, case.0).is_right(&rt, case);
+    }
 }

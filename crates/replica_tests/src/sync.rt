@@ -4,111 +4,196 @@
 mod deltas;
 mod driven;
 
-use crate::replica::{ALONE, BOTH, shows};
+use crate::replica::{new_replica, shows};
+use crate::texts::{
+    BOTH_SHOWN, FIRST, Frame, NEXT, NEXT_SHOWN, NONE_SHOWN, NOTHING, NOTHING_NEW, ONE, bytes,
+    frame_bytes,
+};
 use metered::Metered;
 use oct_replica::Replica;
 use oct_sync::{MAX_READS, Progress, Role, Session, SyncError, drive};
 use std::alloc::{Allocator, Global};
+use std::process::Abort;
 
-/// One side of an exchange: what it holds at first, what comes to it, what it sends, how much of that before its last
+/// One side of an exchange: what it holds at first, what comes to it, what it sends, how many bytes of that before its last
 /// answer, and its catalogue in the end.
-#[derive(Clone, Copy)]
+#[derive(Drop)]
 struct Side {
+    name: &'static str,
     role: Role,
     author: u32,
-    holds: &'static [u8],
-    comes: &'static [u8],
-    sends: &'static [u8],
+    holds: Vec<u8>,
+    comes: Vec<u8>,
+    sends: Vec<u8>,
     first: usize,
     shows: &'static str,
 }
 
-// The client with Kayles from place 5, by author 2, or the server with Kayles from place 0, by author 1.
-fn side_of(role: Role) -> Side {
-    match role {
-        Role::Client => Side {
-            role,
+impl Side {
+    // The client with Kayles from heap 5 on, by author 2.
+    fn client(rt: &(impl Abort + AllocGlobal)) -> Side {
+        Side {
+            name: "the client",
+            role: Role::Client,
             author: 2,
-            holds: b"OGD1\x00\x00\x00\x01\x00\x00\x00\x02\x00\x00\x00\x01\x01\x00\x02\x07\x07\x00\x00\x00\x05\x00\x03\x00\x00\x00\x04\x00\x00\x00\x03\x00\x00\x00\x02",
-            comes: b"\x00\x00\x00\x0d\x01\x00\x00\x00\x01\x00\x00\x00\x01\x00\x00\x00\x01\x00\x00\x00\x30\x02OGD1\x00\x00\x00\x01\x00\x00\x00\x01\x00\x00\x00\x01\x01\x00\x02\x07\x07\x00\x00\x00\x00\x00\x05\x00\x00\x00\x00\x00\x00\x00\x01\x00\x00\x00\x02\x00\x00\x00\x03\x00\x00\x00\x01\x00\x00\x00\x01\x03\x00\x00\x00\x01\x03",
-            sends: b"\x00\x00\x00\x0d\x01\x00\x00\x00\x01\x00\x00\x00\x02\x00\x00\x00\x01\x00\x00\x00\x28\x02OGD1\x00\x00\x00\x01\x00\x00\x00\x02\x00\x00\x00\x01\x01\x00\x02\x07\x07\x00\x00\x00\x05\x00\x03\x00\x00\x00\x04\x00\x00\x00\x03\x00\x00\x00\x02\x00\x00\x00\x01\x03",
+            holds: bytes(rt, NEXT),
+            comes: frame_bytes(
+                rt,
+                &[
+                    Frame::Clock(&[(1, 1)]),
+                    Frame::Delta(FIRST),
+                    Frame::End,
+                    Frame::End,
+                ],
+            ),
+            sends: frame_bytes(
+                rt,
+                &[Frame::Clock(&[(2, 1)]), Frame::Delta(NEXT), Frame::End],
+            ),
             first: 17,
-            shows: BOTH,
-        },
-        Role::Server => Side {
-            role,
+            shows: BOTH_SHOWN,
+        }
+    }
+
+    // The server with Kayles from heap 0 on, by author 1, to which comes what the client sends.
+    fn server(rt: &(impl Abort + AllocGlobal)) -> Side {
+        let client = Side::client(rt);
+        Side {
+            name: "the server",
+            role: Role::Server,
             author: 1,
-            holds: b"OGD1\x00\x00\x00\x01\x00\x00\x00\x01\x00\x00\x00\x01\x01\x00\x02\x07\x07\x00\x00\x00\x00\x00\x05\x00\x00\x00\x00\x00\x00\x00\x01\x00\x00\x00\x02\x00\x00\x00\x03\x00\x00\x00\x01",
-            comes: b"\x00\x00\x00\x0d\x01\x00\x00\x00\x01\x00\x00\x00\x02\x00\x00\x00\x01\x00\x00\x00\x28\x02OGD1\x00\x00\x00\x01\x00\x00\x00\x02\x00\x00\x00\x01\x01\x00\x02\x07\x07\x00\x00\x00\x05\x00\x03\x00\x00\x00\x04\x00\x00\x00\x03\x00\x00\x00\x02\x00\x00\x00\x01\x03",
-            sends: b"\x00\x00\x00\x0d\x01\x00\x00\x00\x01\x00\x00\x00\x01\x00\x00\x00\x01\x00\x00\x00\x30\x02OGD1\x00\x00\x00\x01\x00\x00\x00\x01\x00\x00\x00\x01\x01\x00\x02\x07\x07\x00\x00\x00\x00\x00\x05\x00\x00\x00\x00\x00\x00\x00\x01\x00\x00\x00\x02\x00\x00\x00\x03\x00\x00\x00\x01\x00\x00\x00\x01\x03\x00\x00\x00\x01\x03",
+            holds: bytes(rt, FIRST),
+            comes: client.sends,
+            sends: client.comes,
             first: 74,
-            shows: BOTH,
-        },
+            shows: BOTH_SHOWN,
+        }
+    }
+
+    fn of(rt: &(impl Abort + AllocGlobal), role: Role) -> Side {
+        match role {
+            Role::Client => Side::client(rt),
+            Role::Server => Side::server(rt),
+        }
+    }
+
+    // This side with other operations, another exchange and another catalogue.
+    fn with(
+        mut self,
+        name: &'static str,
+        holds: Vec<u8>,
+        frames: [Vec<u8>; 2],
+        shows: &'static str,
+    ) -> Side {
+        let [comes, sends] = frames;
+        self.name = name;
+        self.holds = holds;
+        self.comes = comes;
+        self.sends = sends;
+        self.shows = shows;
+        self
     }
 }
 
-// That side, where neither side holds an operation.
-fn empty_side_of(role: Role) -> Side {
-    let mut side = side_of(role);
-    side.holds = b"OGD1\x00\x00\x00\x00";
-    side.shows = "census 2\nend\n";
-    let short: &[u8] = b"\x00\x00\x00\x05\x01\x00\x00\x00\x00\x00\x00\x00\x01\x03";
-    let long: &[u8] =
-        b"\x00\x00\x00\x05\x01\x00\x00\x00\x00\x00\x00\x00\x01\x03\x00\x00\x00\x01\x03";
-    match role {
-        Role::Client => {
-            side.comes = long;
-            side.sends = short;
-        }
-        Role::Server => {
-            side.comes = short;
-            side.sends = long;
-        }
-    }
+// What a client and a server send where neither holds an operation.
+const OF_EMPTY_CLIENT: &[Frame<'static>] = &[Frame::Clock(&[]), Frame::End];
+
+const OF_EMPTY_SERVER: &[Frame<'static>] = &[Frame::Clock(&[]), Frame::End, Frame::End];
+
+// A side of that exchange.
+fn empty_side(rt: &(impl Abort + AllocGlobal), role: Role) -> Side {
+    let of_client = frame_bytes(rt, OF_EMPTY_CLIENT);
+    let of_server = frame_bytes(rt, OF_EMPTY_SERVER);
+    let (name, frames) = match role {
+        Role::Client => ("the empty client", [of_server, of_client]),
+        Role::Server => ("the empty server", [of_client, of_server]),
+    };
+    Side::of(rt, role).with(name, bytes(rt, NOTHING), frames, NONE_SHOWN)
+}
+
+// A client that gets an empty delta of the new format.
+fn given_none(rt: &(impl Abort + AllocGlobal)) -> Side {
+    let comes = [
+        Frame::Clock(&[]),
+        Frame::Delta(NOTHING_NEW),
+        Frame::End,
+        Frame::End,
+    ];
+    let sends = [Frame::Clock(&[(2, 1)]), Frame::Delta(NEXT), Frame::End];
+    let frames = [frame_bytes(rt, &comes), frame_bytes(rt, &sends)];
+    Side::client(rt).with(
+        "a client that gets none",
+        bytes(rt, NEXT),
+        frames,
+        NEXT_SHOWN,
+    )
+}
+
+// Blocks of Kayles at the old limit and past it, and each of them alone.
+const AT_LIMIT: &str = "\
+4f474432 00000002
+00000001 00000001 01 00020707 00000fff 0001 00000000
+00000001 00000002 01 00020707 00001000 0001 00000000";
+
+const OLD_LIMIT: &str = "\
+4f474431 00000001
+00000001 00000001 01 00020707 00000fff 0001 00000000";
+
+const PAST_OLD_LIMIT: &str = "\
+4f474432 00000001
+00000001 00000002 01 00020707 00001000 0001 00000000";
+
+const AT_LIMIT_SHOWN: &str =
+    "census 2\ngame 0.77 known 1\nvalues 0 0\nblock 1.1 at 4095 count 1 pending\nblock 1.2 at 4096 count 1 pending\nauthor 1 through 2 last 2\nend\n";
+
+// A server that sends both, in two frames.
+fn at_limit(rt: &(impl Abort + AllocGlobal)) -> Side {
+    let sends = [
+        Frame::Clock(&[(1, 2)]),
+        Frame::Delta(OLD_LIMIT),
+        Frame::Delta(PAST_OLD_LIMIT),
+        Frame::End,
+        Frame::End,
+    ];
+    let frames = [frame_bytes(rt, OF_EMPTY_CLIENT), frame_bytes(rt, &sends)];
+    Side::server(rt).with(
+        "a server at the limit",
+        bytes(rt, AT_LIMIT),
+        frames,
+        AT_LIMIT_SHOWN,
+    )
+}
+
+// A client of author 7, whose note has the dot of another one that the server has, so that neither is sent.
+fn forked(rt: &(impl Abort + AllocGlobal)) -> Side {
+    let comes = [Frame::Clock(&[(7, 1)]), Frame::End, Frame::End];
+    let sends = [Frame::Clock(&[(7, 1)]), Frame::End];
+    let frames = [frame_bytes(rt, &comes), frame_bytes(rt, &sends)];
+    let shows = "census 2\nnote a 7.1 one\nauthor 7 through 1 last 1\nend\n";
+    let mut side = Side::client(rt).with("a client with a fork", bytes(rt, ONE), frames, shows);
+    side.author = 7;
     side
 }
 
-const AT_THE_OLD_LIMIT: &str =
-    "census 2\ngame 0.77 known 1\nvalues 0 0\nblock 1.1 at 4095 count 1 pending\nblock 1.2 at 4096 count 1 pending\nauthor 1 through 2 last 2\nend\n";
-
-// A client that gets an empty delta of the new format; a server that sends blocks at the old limit and past it, in two
-// frames; and a client of author 7, whose note has the dot of another one that the server has, so that neither is sent.
-fn further_sides() -> [Side; 3] {
-    let mut given_none = side_of(Role::Client);
-    given_none.comes =
-        b"\x00\x00\x00\x05\x01\x00\x00\x00\x00\x00\x00\x00\x09\x02OGD2\x00\x00\x00\x00\x00\x00\x00\x01\x03\x00\x00\x00\x01\x03";
-    given_none.shows = ALONE;
-    let mut limits = side_of(Role::Server);
-    limits.holds =
-        b"OGD2\x00\x00\x00\x02\x00\x00\x00\x01\x00\x00\x00\x01\x01\x00\x02\x07\x07\x00\x00\x0f\xff\x00\x01\x00\x00\x00\x00\x00\x00\x00\x01\x00\x00\x00\x02\x01\x00\x02\x07\x07\x00\x00\x10\x00\x00\x01\x00\x00\x00\x00";
-    limits.comes = b"\x00\x00\x00\x05\x01\x00\x00\x00\x00\x00\x00\x00\x01\x03";
-    limits.sends =
-        b"\x00\x00\x00\x0d\x01\x00\x00\x00\x01\x00\x00\x00\x01\x00\x00\x00\x02\x00\x00\x00\x20\x02OGD1\x00\x00\x00\x01\x00\x00\x00\x01\x00\x00\x00\x01\x01\x00\x02\x07\x07\x00\x00\x0f\xff\x00\x01\x00\x00\x00\x00\x00\x00\x00\x20\x02OGD2\x00\x00\x00\x01\x00\x00\x00\x01\x00\x00\x00\x02\x01\x00\x02\x07\x07\x00\x00\x10\x00\x00\x01\x00\x00\x00\x00\x00\x00\x00\x01\x03\x00\x00\x00\x01\x03";
-    limits.shows = AT_THE_OLD_LIMIT;
-    let mut forked = side_of(Role::Client);
-    forked.author = 7;
-    forked.holds = b"OGD1\x00\x00\x00\x01\x00\x00\x00\x07\x00\x00\x00\x01\x03\x01a\x03one";
-    forked.comes =
-        b"\x00\x00\x00\x0d\x01\x00\x00\x00\x01\x00\x00\x00\x07\x00\x00\x00\x01\x00\x00\x00\x01\x03\x00\x00\x00\x01\x03";
-    forked.sends =
-        b"\x00\x00\x00\x0d\x01\x00\x00\x00\x01\x00\x00\x00\x07\x00\x00\x00\x01\x00\x00\x00\x01\x03";
-    forked.shows = "census 2\nnote a 7.1 one\nauthor 7 through 1 last 1\nend\n";
-    [given_none, limits, forked]
-}
-
-// A session of the role, whose first bytes are in `out`.
+// A session of the role, whose first bytes are in `out`; none where memory is refused.
 fn session_of<A: Allocator + Copy>(
     alloc: A,
     role: Role,
     replica: &Replica<A>,
     out: &mut Vec<u8, A>,
-) -> Result<Session<A>, SyncError> {
+) -> Option<Session<A>> {
     match role {
-        Role::Client => match Session::client(alloc, replica, out) {
-            Ok(session) => Ok(session),
-            Err(_) => Err(SyncError::OutOfMemory),
-        },
-        Role::Server => Ok(Session::server(alloc)),
+        Role::Client => Session::client(alloc, replica, out).ok(),
+        Role::Server => Some(Session::server(alloc)),
+    }
+}
+
+// The name of what a session answers.
+fn answer_name(answer: Result<Progress, SyncError>) -> Result<&'static str, SyncError> {
+    match answer {
+        Ok(Progress::More) => Ok("more"),
+        Ok(Progress::Done) => Ok("done"),
+        Err(fault) => Err(fault),
     }
 }
 
@@ -129,207 +214,234 @@ fn feed_pieces<A: Allocator + Copy>(
     answer
 }
 
-/// What became of a session: the answer to the last piece and to an empty one after it, how many bytes it sent, whether
-/// these are the first that it should send, how many operations are held, and whether their catalogue is the one of the end.
+// What comes to a session: the bytes, in pieces of so many, where so many requests for memory are granted.
+#[derive(Clone, Copy)]
+struct Input<'a> {
+    bytes: &'a [u8],
+    size: usize,
+    grants: u64,
+}
+
+/// What became of a session: the answer to the last piece and to an empty one after it, and how many bytes it sent.
 #[derive(Clone, Copy)]
 struct Outcome {
-    answer: Result<Progress, SyncError>,
-    after: Result<Progress, SyncError>,
+    answer: Result<&'static str, SyncError>,
+    after: Result<&'static str, SyncError>,
     sent: usize,
-    is_right: bool,
-    held: usize,
-    shows: bool,
 }
 
-impl Outcome {
-    // Whether the side is done and shows what it should.
-    fn is_done(&self, side: &Side) -> bool {
-        self.after == Ok(Progress::Done)
-            && self.sent == side.sends.len()
-            && self.is_right
-            && self.shows
-    }
-
-    // Whether the bytes were answered by the fault, and what came then by `Failed`.
-    fn is_fault(&self, fault: SyncError) -> bool {
-        self.answer == Err(fault) && self.after == Err(SyncError::Failed)
-    }
-
-    // Whether memory was refused, and the side leaves what it promises: it sent all of some answers and nothing of the
-    // next, and holds what it held or what came too.
-    fn is_short_of_memory(&self, side: &Side) -> bool {
-        self.is_fault(SyncError::OutOfMemory)
-            && self.is_right
-            && (self.sent == 0 || self.sent == side.first || self.sent == side.sends.len())
-            && self.held <= 2
-    }
-}
-
-// What becomes of the replica's session, to which these bytes come in pieces of so many.
-fn outcome_on<A: Allocator + Copy>(
+// What becomes of the session of a replica of the side; none where memory is refused before it stands. All that it sends is
+// what the side sends.
+fn outcome_of<A: Allocator + Copy>(
+    rt: &(impl Abort + AllocGlobal),
     heap: &Metered<Global>,
     alloc: A,
     replica: &mut Replica<A>,
     side: &Side,
-    bytes: &[u8],
-    size: usize,
-) -> Result<Outcome, SyncError> {
+    input: Input,
+) -> Option<Outcome> {
+    let taken = replica.take(&side.holds);
+    assert!(rt; taken.is_ok(), "{}: {taken:?}", side.name);
     let mut out = Vec::new(alloc);
-    match session_of(alloc, side.role, replica, &mut out) {
-        Ok(mut session) => {
-            let answer = feed_pieces(&mut session, replica, bytes, size, &mut out);
-            heap.arm(u64::MAX);
-            Ok(Outcome {
-                answer,
-                after: session.feed(replica, &[], &mut out),
-                sent: out.len(),
-                is_right: side.sends.starts_with(&out),
-                held: replica.len(),
-                shows: shows(alloc, replica, side.shows),
-            })
-        }
-        Err(fault) => Err(fault),
-    }
+    heap.arm(input.grants);
+    let session = session_of(alloc, side.role, replica, &mut out);
+    let Some(mut session) = session else {
+        heap.arm(u64::MAX);
+        return None;
+    };
+    let answer = feed_pieces(&mut session, replica, input.bytes, input.size, &mut out);
+    heap.arm(u64::MAX);
+    let after = session.feed(replica, &[], &mut out);
+    let front = &side.sends[..out.len().min(side.sends.len())];
+    assert_eq!(rt; out.as_slice(), front, "{} sends", side.name);
+    Some(Outcome {
+        answer: answer_name(answer),
+        after: answer_name(after),
+        sent: out.len(),
+    })
 }
 
-// What becomes of a side in the same way, where so many requests for memory are granted.
-fn outcome_of<A: Allocator + Copy>(
-    heap: &Metered<Global>,
-    alloc: A,
-    grants: u64,
-    side: &Side,
-    bytes: &[u8],
-    size: usize,
-) -> Result<Outcome, SyncError> {
-    match Replica::new(alloc, side.author) {
-        Ok(mut replica) => {
-            let is_taken = replica.take(side.holds).is_ok();
-            heap.arm(grants);
-            let outcome = outcome_on(heap, alloc, &mut replica, side, bytes, size);
-            drop(replica);
-            if is_taken {
-                outcome
-            } else {
-                Err(SyncError::Failed)
-            }
-        }
-        Err(_) => Err(SyncError::Failed),
-    }
-}
-
-// Whether the side is done where what comes to it comes in pieces of so many, for each size from the first to the last.
+// The side is done where what comes to it comes in pieces of that size: it sent all and shows what it should.
 fn is_done<A: Allocator + Copy>(
+    rt: &(impl Abort + AllocGlobal),
     heap: &Metered<Global>,
     alloc: A,
     side: &Side,
-    first: usize,
-    last: usize,
-) -> bool {
-    let mut all = true;
-    for size in first..=last {
-        all &= match outcome_of(heap, alloc, u64::MAX, side, side.comes, size) {
-            Ok(outcome) => outcome.is_done(side),
-            Err(_) => false,
-        };
-    }
-    all
+    size: usize,
+) {
+    let mut replica = new_replica(rt, alloc, side.author);
+    let input = Input {
+        bytes: &side.comes,
+        size,
+        grants: u64::MAX,
+    };
+    let outcome = outcome_of(rt, heap, alloc, &mut replica, side, input);
+    let outcome = outcome.expect(rt, side.name);
+    assert_eq!(rt;
+        outcome.after,
+        Ok("done"),
+        "{} in pieces of {size}",
+        side.name
+    );
+    assert_eq!(rt;
+        outcome.sent,
+        side.sends.len(),
+        "{} in pieces of {size}",
+        side.name
+    );
+    shows(rt, alloc, &replica, side.shows, side.name);
 }
 
 #[test]
 fn sides_exchange_what_they_lack(rt: HostRuntime) {
     let heap = Metered::new(rt.alloc());
     for role in [Role::Client, Role::Server] {
-        assert!(rt; is_done(&heap, &heap, &side_of(role), 1, 79));
-        assert!(rt; is_done(&heap, &heap, &empty_side_of(role), 1, 79));
+        for side in [Side::of(&rt, role), empty_side(&rt, role)] {
+            for size in 1..=79usize {
+                is_done(&rt, &heap, &heap, &side, size);
+            }
+        }
     }
-    for side in further_sides() {
-        assert!(rt; is_done(&heap, &heap, &side, usize::MAX, usize::MAX));
+    for side in [given_none(&rt), at_limit(&rt), forked(&rt)] {
+        is_done(&rt, &heap, &heap, &side, usize::MAX);
     }
 }
 
-// Frames that their receiver refuses, and with which fault.
-const FAULTY: &[(Role, &[u8], SyncError)] = &[
-    (Role::Server, b"\x00\x00\x00\x00", SyncError::Frame),
-    (Role::Server, b"\x00\x10\x00\x01\x01", SyncError::Frame),
-    (Role::Server, b"\x00\x00\x00\x02\x04", SyncError::Frame),
-    (Role::Server, b"\x00\x00\x00\x02\x03", SyncError::Frame),
-    (Role::Server, b"\x00\x00\x00\x01\x03", SyncError::Order),
+// Frames that their receiver refuses, as hexadecimal text, and with which fault.
+const FAULTY: &[(Role, &str, SyncError)] = &[
+    (Role::Server, "00000000", SyncError::Frame),
+    (Role::Server, "00100001 01", SyncError::Frame),
+    (Role::Server, "00000002 04", SyncError::Frame),
+    (Role::Server, "00000002 03", SyncError::Frame),
+    (Role::Server, "00000001 03", SyncError::Order),
     // A second clock, and a byte past the end.
     (
         Role::Client,
-        b"\x00\x00\x00\x05\x01\x00\x00\x00\x00\x00\x00\x00\x05\x01",
+        "00000005 01 00000000 00000005 01",
         SyncError::Order,
     ),
     (
         Role::Client,
-        b"\x00\x00\x00\x05\x01\x00\x00\x00\x00\x00\x00\x00\x01\x03\x00\x00\x00\x01\x03\x00",
+        "00000005 01 00000000 00000001 03 00000001 03 00",
         SyncError::Order,
     ),
     // The clock of author 0, and a delta of a third format.
     (
         Role::Server,
-        b"\x00\x00\x00\x0d\x01\x00\x00\x00\x01\x00\x00\x00\x00\x00\x00\x00\x01",
+        "0000000d 01 00000001 00000000 00000001",
         SyncError::Clock,
     ),
     (
         Role::Client,
-        b"\x00\x00\x00\x05\x01\x00\x00\x00\x00\x00\x00\x00\x09\x02OGD3\x00\x00\x00\x00",
+        "00000005 01 00000000 00000009 02 4f474433 00000000",
         SyncError::Delta,
     ),
 ];
 
+// The side refuses the bytes so, and what comes then as `Failed`.
+fn refuses<A: Allocator + Copy>(
+    rt: &(impl Abort + AllocGlobal),
+    heap: &Metered<Global>,
+    alloc: A,
+    side: &Side,
+    text: &str,
+    fault: SyncError,
+) {
+    let mut replica = new_replica(rt, alloc, side.author);
+    let frames = bytes(rt, text);
+    let input = Input {
+        bytes: &frames,
+        size: usize::MAX,
+        grants: u64::MAX,
+    };
+    let outcome = outcome_of(rt, heap, alloc, &mut replica, side, input);
+    let outcome = outcome.expect(rt, text);
+    assert_eq!(rt; outcome.answer, Err(fault), "{text} at {}", side.name);
+    assert_eq!(rt; outcome.after, Err(SyncError::Failed), "after {text}");
+}
+
 #[test]
 fn faulty_frames_are_refused(rt: HostRuntime) {
     let heap = Metered::new(rt.alloc());
-    for &(role, bytes, fault) in FAULTY {
-        assert!(rt;
-            match outcome_of(&heap, &heap, u64::MAX, &side_of(role), bytes, usize::MAX) {
-                Ok(outcome) => outcome.is_fault(fault),
-                Err(_) => false,
-            }
-        );
+    for &(role, text, fault) in FAULTY {
+        refuses(&rt, &heap, &heap, &Side::of(&rt, role), text, fault);
     }
 }
 
-// Whether the side leaves what it promises where each request for memory is refused in turn, and is done in the end.
-fn keeps_its_promise<A: Allocator + Copy>(heap: &Metered<Global>, alloc: A, side: &Side) -> bool {
+// Where memory was refused, the side sent all of some answers and nothing of the next, and holds what it held or what came
+// too.
+fn is_short_of_memory(
+    rt: &(impl Abort + AllocGlobal),
+    side: &Side,
+    outcome: &Outcome,
+    held: usize,
+) {
+    assert_eq!(rt;
+        outcome.answer,
+        Err(SyncError::OutOfMemory),
+        "{}",
+        side.name
+    );
+    assert_eq!(rt; outcome.after, Err(SyncError::Failed), "{}", side.name);
+    let ends = [0, side.first, side.sends.len()];
+    assert!(rt;
+        ends.contains(&outcome.sent),
+        "{} sent {} bytes",
+        side.name,
+        outcome.sent
+    );
+    assert!(rt; held <= 2, "{} holds {held} operations", side.name);
+}
+
+// The side leaves what it promises where each request for memory is refused in turn, and is done in the end.
+fn keeps_its_promise<A: Allocator + Copy>(
+    rt: &(impl Abort + AllocGlobal),
+    heap: &Metered<Global>,
+    alloc: A,
+    side: &Side,
+) {
     for grants in 0..100u64 {
         heap.arm(u64::MAX);
-        match outcome_of(heap, alloc, grants, side, side.comes, usize::MAX) {
-            Ok(outcome) => {
-                if outcome.is_done(side) {
-                    return true;
-                }
-                if !outcome.is_short_of_memory(side) {
-                    return false;
-                }
+        let mut replica = new_replica(rt, alloc, side.author);
+        let input = Input {
+            bytes: &side.comes,
+            size: usize::MAX,
+            grants,
+        };
+        if let Some(outcome) = outcome_of(rt, heap, alloc, &mut replica, side, input) {
+            if outcome.after == Ok("done") {
+                assert_eq!(rt; outcome.sent, side.sends.len(), "{}", side.name);
+                shows(rt, alloc, &replica, side.shows, side.name);
+                return;
             }
-            Err(fault) => {
-                if fault != SyncError::OutOfMemory {
-                    return false;
-                }
-            }
+            is_short_of_memory(rt, side, &outcome, replica.len());
         }
     }
-    false
+    panic!(rt; "{} is refused at a hundred requests", side.name);
 }
 
 #[test]
 fn each_request_for_memory_may_be_refused(rt: HostRuntime) {
     let heap = Metered::new(rt.alloc());
-    assert!(rt; keeps_its_promise(&heap, &heap, &side_of(Role::Client)));
-    assert!(rt; keeps_its_promise(&heap, &heap, &side_of(Role::Server)));
+    for role in [Role::Client, Role::Server] {
+        keeps_its_promise(&rt, &heap, &heap, &Side::of(&rt, role));
+    }
 }
 
-// Whether a server stands, and says how many bytes it wants, without a request for memory.
-fn stands_freely<A: Allocator + Copy>(heap: &Metered<Global>, alloc: A) -> bool {
+// A server stands, and says how many bytes it wants, without a request for memory.
+fn stands_freely<A: Allocator + Copy>(
+    rt: &(impl Abort + AllocGlobal),
+    heap: &Metered<Global>,
+    alloc: A,
+) {
     heap.arm(1_000);
     let session = Session::server(alloc);
-    session.wanted() == 5 && heap.left() == 1_000
+    assert_eq!(rt; session.wanted(), 5, "bytes that are wanted");
+    assert_eq!(rt; heap.left(), 1_000, "requests that are left");
 }
 
 #[test]
 fn answers_take_no_memory(rt: HostRuntime) {
     let heap = Metered::new(rt.alloc());
-    assert!(rt; stands_freely(&heap, &heap));
+    stands_freely(&rt, &heap, &heap);
 }

@@ -2,6 +2,7 @@
 
 use super::*;
 use crate::commands::COMPUTED;
+use crate::texts::{SECOND_PAGE, note_of_3};
 
 // The catalogue of Kayles up to heap 167, with its claims.
 const PERIODIC: &str = "\
@@ -26,15 +27,15 @@ author 1 through 4 last 4
 end
 ";
 
-// That of I with one more note, and that of F, G and H with one more removal.
+// That of UNTOLD with one more note, and that of EARLY, LATER and REMOVAL with one more removal.
 const ISSUED: &str =
     "census 2\nnote a 5.1 \nnote a 5.3 \nnote a 5.4 \nauthor 5 through 1 last 4\nend\n";
 
 const REMOVED: &str =
     "census 2\nauthor 1 through 2 last 2\nauthor 2 through 1 last 1\nauthor 3 through 1 last 1\nend\n";
 
-/// A call that adds operations.
-#[derive(Clone, Copy)]
+/// A call that adds operations: those of a delta, those of another replica, or one of its own.
+#[derive(Clone, Copy, Debug)]
 enum Change<'a> {
     Take(&'a [u8]),
     TakeList(&'a [u8]),
@@ -46,16 +47,19 @@ enum Change<'a> {
 
 // Makes the change. After a refusal this is how many operations are in.
 fn make<A: Allocator + Copy>(
+    rt: &(impl Abort + AllocGlobal),
     alloc: A,
     replica: &mut Replica<A>,
     change: Change,
     other: &Replica<A>,
 ) -> Result<(), usize> {
     match change {
-        Change::Take(delta) => taken(replica.take(delta)),
+        Change::Take(delta) => taken(rt, replica.take(delta)),
         Change::TakeList(delta) => match decode(alloc, delta) {
-            Ok(list) if list.len() <= 2 => taken(replica.take_list(list)),
-            Ok(_) => Err(usize::MAX),
+            Ok(list) => {
+                assert!(rt; list.len() <= 2, "{} operations", list.len());
+                taken(rt, replica.take_list(list))
+            }
             Err(_) => Err(0),
         },
         Change::Join => {
@@ -66,7 +70,7 @@ fn make<A: Allocator + Copy>(
             }
         }
         Change::Issue | Change::Compute | Change::Remove => {
-            if issue(alloc, replica, change) {
+            if issue(rt, alloc, replica, change) {
                 Ok(())
             } else {
                 Err(0)
@@ -75,18 +79,22 @@ fn make<A: Allocator + Copy>(
     }
 }
 
-fn taken(answer: Result<u32, TakeError>) -> Result<(), usize> {
+fn taken(rt: &(impl Abort + AllocGlobal), answer: Result<u32, TakeError>) -> Result<(), usize> {
     match answer {
         Ok(_) => Ok(()),
         Err(TakeError::OutOfMemory { done }) => Err(done as usize),
-        Err(_) => Err(usize::MAX),
+        Err(fault) => panic!(rt; "refused as {fault:?}"),
     }
 }
 
 // The body of the next five values of 0.137, or of the removal of the notes with the name kayles.
-fn body_of<A: Allocator + Copy>(replica: &Replica<A>, computes: bool) -> Option<Body<A>> {
+fn body_of<A: Allocator + Copy>(
+    rt: &(impl Abort + AllocGlobal),
+    replica: &Replica<A>,
+    computes: bool,
+) -> Option<Body<A>> {
     if computes {
-        match replica.compute(Code::parse(b"0.137").ok()?, 5) {
+        match replica.compute(code_of(rt, "0.137"), 5) {
             Ok(block) => Some(Body::Block(block)),
             Err(_) => None,
         }
@@ -98,46 +106,55 @@ fn body_of<A: Allocator + Copy>(replica: &Replica<A>, computes: bool) -> Option<
     }
 }
 
-// Issues such a body, or a note.
-fn issue<A: Allocator + Copy>(alloc: A, replica: &mut Replica<A>, change: Change) -> bool {
+// Issues such a body, or a note, and says whether it did.
+fn issue<A: Allocator + Copy>(
+    rt: &(impl Abort + AllocGlobal),
+    alloc: A,
+    replica: &mut Replica<A>,
+    change: Change,
+) -> bool {
     let computes = match change {
         Change::Compute => true,
         Change::Remove => false,
         _ => return issued(alloc, replica).is_ok(),
     };
-    match body_of(replica, computes) {
+    match body_of(rt, replica, computes) {
         Some(body) => plain(replica.issue(body)).is_ok(),
         None => false,
     }
 }
 
-// Whether the change is refused at each request in turn, each time with what it says left, and is made in the end.
+// The change is refused at each request in turn, each time with what it says left, and is made in the end. `heap` counts the
+// requests of `alloc`, here and below.
 fn changes<A: Allocator + Copy>(
+    rt: &(impl Abort + AllocGlobal),
     heap: &Metered<Global>,
     alloc: A,
     replica: &mut Replica<A>,
     change: Change,
     other: &Replica<A>,
-) -> bool {
+) {
     let held = replica.len();
     for grants in 0..200u64 {
         heap.arm(grants);
-        let made = make(alloc, replica, change, other);
+        let made = make(rt, alloc, replica, change, other);
         heap.arm(u64::MAX);
         match made {
-            Ok(()) => return grants > 0,
+            Ok(()) => {
+                assert!(rt; grants > 0, "{change:?} took no memory");
+                return;
+            }
             Err(done) => {
-                if replica.len() != held.saturating_add(done) {
-                    return false;
-                }
+                let count = held.saturating_add(done);
+                assert_eq!(rt; replica.len(), count, "{change:?} with {grants} requests");
             }
         }
     }
-    false
+    panic!(rt; "{change:?} is refused at 200 requests");
 }
 
 /// A call that writes.
-#[derive(Clone, Copy)]
+#[derive(Clone, Copy, Debug)]
 enum Writing {
     Catalogue,
     Page(u32),
@@ -174,325 +191,338 @@ fn write<A: Allocator + Copy>(
     }
 }
 
-// Whether the call is refused at each request in turn, each time with nothing written, and writes this in the end.
+// The call is refused at each request in turn, each time with nothing written, and writes this in the end.
 fn writes<A: Allocator + Copy>(
+    rt: &(impl Abort + AllocGlobal),
     heap: &Metered<Global>,
     alloc: A,
     replica: &Replica<A>,
     writing: Writing,
     wanted: &[u8],
-) -> bool {
+) {
     for grants in 0..200u64 {
         heap.arm(grants);
         let mut out = Vec::new(alloc);
         let is_written = write(alloc, replica, writing, wanted, &mut out);
         heap.arm(u64::MAX);
         if is_written {
-            return grants > 0 && are_same(out.as_slice(), wanted);
+            assert!(rt; grants > 0, "{writing:?} took no memory");
+            assert_eq!(rt;
+                out.as_slice(),
+                wanted,
+                "{writing:?} with {grants} requests"
+            );
+            return;
         }
-        if !out.is_empty() {
-            return false;
-        }
+        assert!(rt;
+            out.is_empty(),
+            "{writing:?} with {grants} requests wrote {out:?}"
+        );
     }
-    false
+    panic!(rt; "{writing:?} is refused at 200 requests");
+}
+
+/// A change of a case, where a delta is a hexadecimal text.
+#[derive(Clone, Copy)]
+enum Step<'a> {
+    Take(&'a str),
+    TakeList(&'a str),
+    Make(Change<'a>),
 }
 
 /// The author of a replica, what it holds, the changes that it makes, and what it then prints.
-type Case<'a> = (u32, &'a [&'a [u8]], &'a [Change<'a>], &'a str);
+type Case<'a> = (u32, &'a [&'a str], &'a [Step<'a>], &'a str);
 
 const CASES: &[Case<'static>] = &[
-    (1, &[], &[Change::Take(&A), Change::Take(&B)], BOTH),
-    (1, &[], &[Change::Take(&B), Change::Take(&A)], BOTH),
-    (1, &[], &[Change::TakeList(&B), Change::TakeList(&A)], BOTH),
+    (1, &[], &[Step::Take(FIRST), Step::Take(NEXT)], BOTH_SHOWN),
+    (1, &[], &[Step::Take(NEXT), Step::Take(FIRST)], BOTH_SHOWN),
     (
         1,
         &[],
-        &[Change::Take(&A), Change::Take(SECOND), Change::Take(THIRD)],
-        OVERLAPPING,
+        &[Step::TakeList(NEXT), Step::TakeList(FIRST)],
+        BOTH_SHOWN,
     ),
-    (1, &[], &[Change::Take(&D)], TURNS),
     (
         1,
         &[],
-        &[Change::Take(&H), Change::Take(&F), Change::Take(&G)],
-        LATER,
+        &[Step::Take(FIRST), Step::Take(SECOND), Step::Take(THIRD)],
+        THREE_SHOWN,
     ),
-    (1, &[], &[Change::Take(&I)], UNTOLD),
-    (1, &[], &[Change::Join], BOTH),
-    (1, &[&A], &[Change::Join], BOTH),
-    (7, &[], &[Change::Compute], COMPUTED),
-    (5, &[&I], &[Change::Issue], ISSUED),
-    (3, &[&F, &G, &H], &[Change::Remove], REMOVED),
+    (1, &[], &[Step::Take(TURNS)], TURNS_SHOWN),
+    (
+        1,
+        &[],
+        &[Step::Take(REMOVAL), Step::Take(EARLY), Step::Take(LATER)],
+        LATER_SHOWN,
+    ),
+    (1, &[], &[Step::Take(UNTOLD)], UNTOLD_SHOWN),
+    (1, &[], &[Step::Make(Change::Join)], BOTH_SHOWN),
+    (1, &[FIRST], &[Step::Make(Change::Join)], BOTH_SHOWN),
+    (7, &[], &[Step::Make(Change::Compute)], COMPUTED),
+    (5, &[UNTOLD], &[Step::Make(Change::Issue)], ISSUED),
+    (
+        3,
+        &[EARLY, LATER, REMOVAL],
+        &[Step::Make(Change::Remove)],
+        REMOVED,
+    ),
 ];
 
-// Whether the replica takes what it holds, makes each of the changes in spite of refusals, and then prints the text, whole
-// and as its first page.
-fn makes_beside<A: Allocator + Copy>(
+// The step is made in spite of refusals.
+fn steps<A: Allocator + Copy>(
+    rt: &(impl Abort + AllocGlobal),
     heap: &Metered<Global>,
     alloc: A,
     replica: &mut Replica<A>,
+    step: Step,
     other: &Replica<A>,
-    case: Case,
-) -> bool {
-    let (_, held, made, wanted) = case;
-    let mut all = true;
-    for delta in held {
-        all &= replica.take(delta).is_ok();
+) {
+    match step {
+        Step::Take(text) => {
+            let delta = bytes(rt, text);
+            changes(rt, heap, alloc, replica, Change::Take(&delta), other);
+        }
+        Step::TakeList(text) => {
+            let delta = bytes(rt, text);
+            changes(rt, heap, alloc, replica, Change::TakeList(&delta), other);
+        }
+        Step::Make(change) => changes(rt, heap, alloc, replica, change, other),
     }
-    for change in made {
-        all &= changes(heap, alloc, replica, *change, other);
-    }
+}
+
+// The replica then prints the text, whole and as its first page.
+fn prints_after_refusals<A: Allocator + Copy>(
+    rt: &(impl Abort + AllocGlobal),
+    heap: &Metered<Global>,
+    alloc: A,
+    replica: &Replica<A>,
+    wanted: &str,
+) {
     for writing in [Writing::Catalogue, Writing::Page(0)] {
-        all &= writes(heap, alloc, replica, writing, wanted.as_bytes());
+        writes(rt, heap, alloc, replica, writing, wanted.as_bytes());
     }
-    all
 }
 
-/// What a new replica does beside another new one.
-#[derive(Clone, Copy)]
-enum Deed<'a> {
-    /// It makes the changes of the case, where the other one takes A and B first.
-    Make(Case<'a>),
-    WriteStates,
-    WriteNotes,
-    AnswerFreely,
-}
-
-// Whether the replica does so.
-fn does_beside<A: Allocator + Copy>(
+// A replica takes what it holds, makes each of the changes in spite of refusals, beside one that took FIRST and NEXT, and
+// then prints the text.
+fn makes<A: Allocator + Copy>(
+    rt: &(impl Abort + AllocGlobal),
     heap: &Metered<Global>,
     alloc: A,
-    replica: &mut Replica<A>,
-    other: &mut Replica<A>,
-    deed: Deed,
-) -> bool {
-    match deed {
-        Deed::Make(case) => {
-            takes(other, &[&A, &B], 1) && makes_beside(heap, alloc, replica, other, case)
-        }
-        Deed::WriteStates => writes_states(heap, alloc, replica),
-        Deed::WriteNotes => {
-            takes_notes(heap, alloc, replica, other) && writes_pages(heap, alloc, replica)
-        }
-        Deed::AnswerFreely => answers_freely(heap, alloc, replica),
+    case: Case,
+) {
+    let (author, held, made, wanted) = case;
+    let mut other = new_replica(rt, alloc, 1);
+    takes(rt, &mut other, &[FIRST, NEXT], 1);
+    let mut replica = new_replica(rt, alloc, author);
+    for text in held {
+        let taken = replica.take(&bytes(rt, text));
+        assert!(rt; taken.is_ok(), "{text}: {taken:?}");
     }
+    for step in made {
+        steps(rt, heap, alloc, &mut replica, *step, &other);
+    }
+    prints_after_refusals(rt, heap, alloc, &replica, wanted);
 }
 
-// Whether it does so beside one of author 1.
-fn one_does<A: Allocator + Copy>(
+// That is so of the long block of Kayles with its claims.
+fn makes_long<A: Allocator + Copy>(
+    rt: &(impl Abort + AllocGlobal),
     heap: &Metered<Global>,
     alloc: A,
-    replica: &mut Replica<A>,
-    deed: Deed,
-) -> bool {
-    match Replica::new(alloc, 1) {
-        Ok(mut other) => {
-            let is_done = does_beside(heap, alloc, replica, &mut other, deed);
-            drop(other);
-            is_done
-        }
-        Err(_) => false,
+) {
+    let other = new_replica(rt, alloc, 1);
+    let mut replica = new_replica(rt, alloc, 1);
+    let long = long_block(rt);
+    changes(rt, heap, alloc, &mut replica, Change::Take(&long), &other);
+    for text in [RIGHT_CLAIM, EARLY_CLAIM, LAST] {
+        steps(rt, heap, alloc, &mut replica, Step::Take(text), &other);
     }
-}
-
-// Whether a new replica of the author does so.
-fn two_do<A: Allocator + Copy>(heap: &Metered<Global>, alloc: A, author: u32, deed: Deed) -> bool {
-    match Replica::new(alloc, author) {
-        Ok(mut replica) => {
-            let is_done = one_does(heap, alloc, &mut replica, deed);
-            drop(replica);
-            is_done
-        }
-        Err(_) => false,
-    }
-}
-
-// Whether that is so of each of the cases, and of the long block of Kayles with its claims.
-fn makes_all<A: Allocator + Copy>(heap: &Metered<Global>, alloc: A) -> bool {
-    let long = long_block();
-    let claims = [
-        Change::Take(&long),
-        Change::Take(RIGHT),
-        Change::Take(EARLY),
-        Change::Take(LAST),
-    ];
-    let mut all = two_do(heap, alloc, 1, Deed::Make((1, &[], &claims, PERIODIC)));
-    for &case in CASES {
-        all &= two_do(heap, alloc, case.0, Deed::Make(case));
-    }
-    all
+    prints_after_refusals(rt, heap, alloc, &replica, PERIODIC);
 }
 
 #[test]
 fn refused_changes_are_made_again(rt: HostRuntime) {
     let heap = Metered::new(rt.alloc());
-    assert!(rt; makes_all(&heap, &heap));
+    makes_long(&rt, &heap, &heap);
+    for &case in CASES {
+        makes(&rt, &heap, &heap, case);
+    }
 }
 
-// What is written of a replica of author 7 with I.
-const WRITTEN: &[(Writing, &[u8])] = &[
-    (Writing::Save, FULL),
-    (Writing::Load, FULL),
-    (Writing::Delta, THIRD_OF_I),
+// What is written of a replica of author 7 with UNTOLD.
+const WRITTEN: &[(Writing, &str)] = &[
+    (Writing::Save, UNTOLD_STATE),
+    (Writing::Load, UNTOLD_STATE),
+    (Writing::Delta, THIRD_UNTOLD),
 ];
 
-// Whether the state without operations is written, and then, with I, the state and the delta, and the state is loaded.
+// The state without operations is written, and then, with UNTOLD, the state and the delta, and the state is loaded.
 fn writes_states<A: Allocator + Copy>(
+    rt: &(impl Abort + AllocGlobal),
     heap: &Metered<Global>,
     alloc: A,
-    replica: &mut Replica<A>,
-) -> bool {
-    let mut all = writes(heap, alloc, replica, Writing::Save, &J);
-    all &= replica.take(&I) == Ok(2);
+) {
+    let mut replica = new_replica(rt, alloc, 7);
+    let empty = bytes(rt, EMPTY_STATE);
+    writes(rt, heap, alloc, &replica, Writing::Save, &empty);
+    takes(rt, &mut replica, &[UNTOLD], 2);
     for &(writing, wanted) in WRITTEN {
-        all &= writes(heap, alloc, replica, writing, wanted);
+        let wanted = bytes(rt, wanted);
+        writes(rt, heap, alloc, &replica, writing, &wanted);
     }
-    all
 }
 
-// The second page of the catalogue of 70 notes of author 3.
-const SECOND_PAGE: &[u8] = b"\
-note n 3.64 \n\
-note n 3.65 \n\
-note n 3.66 \n\
-note n 3.67 \n\
-note n 3.68 \n\
-note n 3.69 \n\
-note n 3.70 \n\
-author 3 through 70 last 70\n\
-end\n";
-
-// Whether the text has 73 lines, of which the second page is the end, and is written after refusals, whole and by pages.
+// The text has 73 lines, of which the second page is the end, and is written after refusals, whole and by pages.
 fn writes_text<A: Allocator + Copy>(
+    rt: &(impl Abort + AllocGlobal),
     heap: &Metered<Global>,
     alloc: A,
     replica: &Replica<A>,
     text: &[u8],
-) -> bool {
+) {
     let mut lines = 0u32;
     for byte in text {
         lines = lines.saturating_add(u32::from(*byte == b'\n'));
     }
-    let end = text.len().saturating_sub(SECOND_PAGE.len());
-    let mut all = lines == 73 && text.ends_with(SECOND_PAGE);
-    for (writing, wanted) in [
-        (Writing::Catalogue, text),
-        (Writing::Page(0), &text[..end]),
-        (Writing::Page(1), SECOND_PAGE),
-    ] {
-        all &= writes(heap, alloc, replica, writing, wanted);
-    }
-    all
+    assert_eq!(rt; lines, 73, "lines");
+    let front = text.strip_suffix(SECOND_PAGE.as_bytes());
+    let front = front.expect(rt, "another second page");
+    writes(rt, heap, alloc, replica, Writing::Catalogue, text);
+    writes(rt, heap, alloc, replica, Writing::Page(0), front);
+    writes(
+        rt,
+        heap,
+        alloc,
+        replica,
+        Writing::Page(1),
+        SECOND_PAGE.as_bytes(),
+    );
 }
 
-// Whether that is so of the replica's catalogue, and there is no third page.
+// That is so of the replica's catalogue, and there is no third page.
 fn writes_pages<A: Allocator + Copy>(
+    rt: &(impl Abort + AllocGlobal),
     heap: &Metered<Global>,
     alloc: A,
     replica: &Replica<A>,
-) -> bool {
+) {
     let mut text = Vec::new(alloc);
-    replica.catalogue(&mut text).is_ok()
-        && writes_text(heap, alloc, replica, &text)
-        && replica.page(2, &mut text) == Ok(false)
+    assert!(rt; replica.catalogue(&mut text).is_ok(), "no catalogue");
+    writes_text(rt, heap, alloc, replica, &text);
+    assert_eq!(rt; replica.page(2, &mut text), Ok(false), "a third page");
 }
 
-// Whether the replica takes 70 notes of author 3, each in spite of refusals.
-fn takes_notes<A: Allocator + Copy>(
+// A replica takes 70 notes of author 3, each in spite of refusals, and writes its pages.
+fn writes_notes<A: Allocator + Copy>(
+    rt: &(impl Abort + AllocGlobal),
     heap: &Metered<Global>,
     alloc: A,
-    replica: &mut Replica<A>,
-    other: &Replica<A>,
-) -> bool {
-    let mut all = true;
-    for number in 1..71u8 {
-        let mut note = *b"OGD1\x00\x00\x00\x01\x00\x00\x00\x03\x00\x00\x00\x00\x03\x01n\x00";
-        note[15] = number;
-        all &= changes(heap, alloc, replica, Change::Take(&note), other);
+) {
+    let other = new_replica(rt, alloc, 1);
+    let mut replica = new_replica(rt, alloc, 1);
+    for number in 1..71u32 {
+        let note = note_of_3(rt, number);
+        changes(rt, heap, alloc, &mut replica, Change::Take(&note), &other);
     }
-    all && replica.len() == 70
+    assert_eq!(rt; replica.len(), 70, "notes");
+    writes_pages(rt, heap, alloc, &replica);
 }
 
 #[test]
 fn refused_texts_are_written_again(rt: HostRuntime) {
     let heap = Metered::new(rt.alloc());
-    assert!(rt; two_do(&heap, &heap, 7, Deed::WriteStates));
-    assert!(rt; two_do(&heap, &heap, 1, Deed::WriteNotes));
+    writes_states(&rt, &heap, &heap);
+    writes_notes(&rt, &heap, &heap);
 }
 
-// Whether the replica answers as it should, where it holds the first block of Kayles.
-fn answers<A: Allocator + Copy>(replica: &Replica<A>, code: Code, other: Code) -> bool {
-    replica.value(code, &[1, 2]) == Ok(3)
-        && replica.value(other, &[1]) == Err(Unknown { index: 0 })
-        && replica.outcome(code, &[1, 2, 3]) == Outcome::NextLoses
-        && replica.outcome(other, &[]) == Outcome::NextLoses
-        && counts(replica, code) == (5, 1)
-        && replica.game(other).is_none()
-        && replica.author() == 7
-        && replica.len() == 1
-        && !replica.is_empty()
+// The replica answers as it should, where it holds the first block of Kayles.
+fn answers<A: Allocator + Copy>(
+    rt: &(impl Abort + AllocGlobal),
+    replica: &Replica<A>,
+    code: Code,
+    other: Code,
+) {
+    assert_eq!(rt; value_of(replica, code, &[1, 2]), Ok(3), "0.77 at 1, 2");
+    assert_eq!(rt; value_of(replica, other, &[1]), Err(0), "0.07 at 1");
+    let outcome = outcome_of(replica, code, &[1, 2, 3]);
+    assert_eq!(rt; outcome, "next loses", "0.77 at 1, 2, 3");
+    assert_eq!(rt;
+        outcome_of(replica, other, &[]),
+        "next loses",
+        "0.07 at none"
+    );
+    assert_eq!(rt;
+        counts(replica, code),
+        (5, 1),
+        "the known length and the comparisons"
+    );
+    assert!(rt; replica.game(other).is_none(), "a game 0.07");
+    assert_eq!(rt;
+        (replica.author(), replica.len()),
+        (7, 1),
+        "author and operations"
+    );
+    assert!(rt; !replica.is_empty(), "it is empty");
 }
 
-const LAST_NUMBER: &[u8] = b"OGD1\x00\x00\x00\x01\x00\x00\x00\x07\xff\xff\xff\xff\x03\x01a\x00";
+const LAST_NUMBER: &str = "\
+4f474431 00000001
+00000007 ffffffff 03 01 61 00";
 
-// Whether the last number of its author is behind it, and it refuses each proper prefix of A.
-fn refuses<A: Allocator + Copy>(replica: &mut Replica<A>, note: Note<A>) -> bool {
-    let mut all = match plain(replica.issue(Body::Note(note))) {
-        Ok(_) => false,
-        Err(fault) => fault == IssueError::LastNumber,
-    };
-    for end in 0..47usize {
-        all &= replica.take(&A[..end]).is_err();
-    }
-    all
-}
-
-// Whether the answers and the refusals of a replica of author 7 take no memory.
-fn replica_answers_freely<A: Allocator + Copy>(
-    heap: &Metered<Global>,
+// The last number of its author is behind it, and it refuses each proper prefix of the delta.
+fn refuses<A: Allocator + Copy>(
+    rt: &(impl Abort + AllocGlobal),
     replica: &mut Replica<A>,
     note: Note<A>,
-) -> bool {
-    let Some((code, other)) = codes() else {
-        return false;
-    };
-    let holds_one = replica.take(&A) == Ok(1);
-    heap.arm(1_000);
-    let is_answered = answers(replica, code, other) && heap.left() == 1_000;
-    let holds_last = replica.take(LAST_NUMBER) == Ok(1);
-    heap.arm(1_000);
-    let is_refused = refuses(replica, note) && heap.left() == 1_000;
-    holds_one && is_answered && holds_last && is_refused
-}
-
-// Whether that is so with a note that was made before.
-fn answers_freely<A: Allocator + Copy>(
-    heap: &Metered<Global>,
-    alloc: A,
-    replica: &mut Replica<A>,
-) -> bool {
-    match Note::new(alloc, b"a", b"") {
-        Ok(note) => replica_answers_freely(heap, replica, note),
-        Err(_) => false,
+    delta: &[u8],
+) {
+    match plain(replica.issue(Body::Note(note))) {
+        Ok(_) => panic!(rt; "a note after the last number"),
+        Err(fault) => assert_eq!(rt; fault, IssueError::LastNumber),
+    }
+    for end in 0..delta.len() {
+        let taken = replica.take(&delta[..end]);
+        assert!(rt; taken.is_err(), "the first {end} bytes of {delta:?}");
     }
 }
 
-// Whether replicas are made and refused in the same way.
-fn is_made_freely<A: Allocator + Copy>(heap: &Metered<Global>, alloc: A) -> bool {
+// The answers and the refusals of a replica of author 7 take no memory.
+fn answers_freely<A: Allocator + Copy>(
+    rt: &(impl Abort + AllocGlobal),
+    heap: &Metered<Global>,
+    alloc: A,
+) {
+    let (code, other) = (code_of(rt, "0.77"), code_of(rt, "0.07"));
+    let (first, last) = (bytes(rt, FIRST), bytes(rt, LAST_NUMBER));
+    let note = Note::new(alloc, b"a", b"").ok().expect(rt, "a note");
+    let mut replica = new_replica(rt, alloc, 7);
+    assert_eq!(rt; replica.take(&first), Ok(1), "{FIRST}");
     heap.arm(1_000);
-    let is_made = match Replica::new(alloc, 1) {
-        Ok(replica) => replica.is_empty(),
-        Err(_) => false,
-    };
-    is_made && no_author_is_zero(alloc) && heap.left() == 1_000
+    answers(rt, &replica, code, other);
+    assert_eq!(rt; heap.left(), 1_000, "requests left by the answers");
+    assert_eq!(rt; replica.take(&last), Ok(1), "{LAST_NUMBER}");
+    heap.arm(1_000);
+    refuses(rt, &mut replica, note, &first);
+    assert_eq!(rt; heap.left(), 1_000, "requests left by the refusals");
 }
 
-fn are_free<A: Allocator + Copy>(heap: &Metered<Global>, alloc: A) -> bool {
-    two_do(heap, alloc, 7, Deed::AnswerFreely) && is_made_freely(heap, alloc)
+// Replicas are made and refused in the same way.
+fn is_made_freely<A: Allocator + Copy>(
+    rt: &(impl Abort + AllocGlobal),
+    heap: &Metered<Global>,
+    alloc: A,
+) {
+    heap.arm(1_000);
+    let replica = new_replica(rt, alloc, 1);
+    assert!(rt; replica.is_empty(), "a new replica");
+    assert!(rt; no_author_is_zero(alloc), "a replica of author 0");
+    assert_eq!(rt; heap.left(), 1_000, "requests left by new replicas");
 }
 
 #[test]
 fn answers_take_no_memory(rt: HostRuntime) {
     let heap = Metered::new(rt.alloc());
-    assert!(rt; are_free(&heap, &heap));
+    answers_freely(&rt, &heap, &heap);
+    is_made_freely(&rt, &heap, &heap);
 }

@@ -6,39 +6,18 @@ use std::io::{self, ErrorKind, Read, Write};
 use std::net::{TcpListener, TcpStream};
 use std::test::Fail;
 
-/// The answer of a session, and whether its replica then shows what the side should.
-type Answer = (Result<(), SyncError>, bool);
-
-// The answer of the replica's session over the reader and the writer.
-fn drives_on<A: Allocator + Copy, R: Read, W: Write>(
-    alloc: A,
-    side: &Side,
-    replica: &mut Replica<A>,
-    reader: &mut R,
-    writer: &mut W,
-) -> Answer {
-    if replica.take(side.holds).is_err() {
-        return (Err(SyncError::Failed), false);
-    }
-    let answer = drive(alloc, side.role, replica, reader, writer);
-    (answer, shows(alloc, replica, side.shows))
-}
-
-// That of a replica of the side.
-fn drives<A: Allocator + Copy, R: Read, W: Write>(
-    alloc: A,
+// The answer of the session of a new replica of the side over the reader and the writer, and the replica after it.
+fn drives<R: Read, W: Write>(
+    rt: &(impl Abort + AllocGlobal),
     side: &Side,
     reader: &mut R,
     writer: &mut W,
-) -> Answer {
-    match Replica::new(alloc, side.author) {
-        Ok(mut replica) => {
-            let answer = drives_on(alloc, side, &mut replica, reader, writer);
-            drop(replica);
-            answer
-        }
-        Err(_) => (Err(SyncError::Failed), false),
-    }
+) -> (Result<(), SyncError>, Replica<Global>) {
+    let mut replica = new_replica(rt, rt.alloc(), side.author);
+    let taken = replica.take(&side.holds);
+    assert!(rt; taken.is_ok(), "{}: {taken:?}", side.name);
+    let answer = drive(rt.alloc(), side.role, &mut replica, reader, writer);
+    (answer, replica)
 }
 
 /// Gives bytes, at most so many a read, and fails at the read after so many others.
@@ -100,18 +79,18 @@ impl Write for Sink<'_> {
 }
 
 // All that comes to the side.
-fn source_of(side: &Side) -> Source<'static> {
+fn source_of(side: &Side) -> Source<'_> {
     Source {
-        bytes: side.comes,
+        bytes: &side.comes,
         most: usize::MAX,
         left: u32::MAX,
     }
 }
 
 // All that the side sends.
-fn sink_of(side: &Side) -> Sink<'static> {
+fn sink_of(side: &Side) -> Sink<'_> {
     Sink {
-        expected: side.sends,
+        expected: &side.sends,
         most: usize::MAX,
         left: u32::MAX,
         fails: false,
@@ -120,11 +99,11 @@ fn sink_of(side: &Side) -> Sink<'static> {
 }
 
 /// A source, a sink, and what a side is answered over them.
-type Case = (Source<'static>, Sink<'static>, Result<(), SyncError>);
+type Case<'a> = (Source<'a>, Sink<'a>, Result<(), SyncError>);
 
 // The case of this number: slow devices, reads and writes that fail or take no byte, and inputs that end early. A client
 // reads six heads and payloads and a server five, since an end has no payload; both write twice.
-fn case_of(side: &Side, number: u32) -> Case {
+fn case_of(side: &Side, number: u32) -> Case<'_> {
     let mut source = source_of(side);
     let mut sink = sink_of(side);
     let reads = match side.role {
@@ -160,64 +139,64 @@ fn case_of(side: &Side, number: u32) -> Case {
     (source, sink, answer)
 }
 
-// Whether the side is answered as it should be over each of the cases, and where it is done, it shows what it should and
-// all is read and written.
-fn is_answered<A: Allocator + Copy>(alloc: A, side: &Side) -> bool {
-    let mut all = true;
-    for number in 0..92u32 {
-        let (mut source, mut sink, answer) = case_of(side, number);
-        let (given, is_shown) = drives(alloc, side, &mut source, &mut sink);
-        let is_all = is_shown && source.bytes.is_empty() && sink.expected.is_empty();
-        all &= given == answer && (answer.is_err() || is_all);
+// The side is answered as it should be over the case, and where it is done, it shows what it should and all is read and
+// written.
+fn is_answered(rt: &(impl Abort + AllocGlobal), side: &Side, number: u32) {
+    let (mut source, mut sink, wanted) = case_of(side, number);
+    let (answer, replica) = drives(rt, side, &mut source, &mut sink);
+    assert_eq!(rt; answer, wanted, "{} in case {number}", side.name);
+    if answer.is_ok() {
+        let left = (source.bytes.len(), sink.expected.len());
+        assert_eq!(rt;
+            left,
+            (0, 0),
+            "bytes left in case {number} of {}",
+            side.name
+        );
+        shows(rt, rt.alloc(), &replica, side.shows, side.name);
     }
-    all
 }
 
-// Whether a client whose reader fails after the server's delta has taken it in, and sent its clock alone.
-fn keeps_what_came<A: Allocator + Copy>(alloc: A, side: &Side) -> bool {
+// A client whose reader fails after the server's delta has taken it in, and sent its clock alone.
+fn keeps_what_came(rt: &(impl Abort + AllocGlobal), side: &Side) {
     let mut source = source_of(side);
     let mut sink = sink_of(side);
     source.left = 4;
-    drives(alloc, side, &mut source, &mut sink) == (Err(SyncError::Read), true)
-        && sink.expected.len() == side.sends.len().saturating_sub(side.first)
+    let (answer, replica) = drives(rt, side, &mut source, &mut sink);
+    assert_eq!(rt; answer, Err(SyncError::Read), "{}", side.name);
+    shows(rt, rt.alloc(), &replica, side.shows, side.name);
+    let sent = side.sends.len().saturating_sub(sink.expected.len());
+    assert_eq!(rt; sent, side.first, "bytes that {} sent", side.name);
 }
 
 #[test]
 fn devices_may_be_slow_or_end_or_fail(rt: HostRuntime) {
     for role in [Role::Client, Role::Server] {
-        assert!(rt; is_answered(rt.alloc(), &side_of(role)));
+        let side = Side::of(&rt, role);
+        for number in 0..92u32 {
+            is_answered(&rt, &side, number);
+        }
     }
-    assert!(rt; keeps_what_came(rt.alloc(), &side_of(Role::Client)));
+    keeps_what_came(&rt, &Side::client(&rt));
 }
 
 // What the side's session answers where so many requests for memory are granted, and how many operations are then held.
 fn drives_short<A: Allocator + Copy>(
+    rt: &(impl Abort + AllocGlobal),
     heap: &Metered<Global>,
     alloc: A,
     grants: u64,
     side: &Side,
-    source: &mut Source<'static>,
-    sink: &mut Sink<'static>,
+    devices: (&mut Source, &mut Sink),
 ) -> (Result<(), SyncError>, usize) {
-    match Replica::new(alloc, side.author) {
-        Ok(mut replica) => {
-            let is_taken = replica.take(side.holds).is_ok();
-            heap.arm(grants);
-            let answer = drive(alloc, side.role, &mut replica, source, sink);
-            heap.arm(u64::MAX);
-            let held = replica.len();
-            drop(replica);
-            (
-                if is_taken {
-                    answer
-                } else {
-                    Err(SyncError::Failed)
-                },
-                held,
-            )
-        }
-        Err(_) => (Err(SyncError::Failed), 0),
-    }
+    let (source, sink) = devices;
+    let mut replica = new_replica(rt, alloc, side.author);
+    let taken = replica.take(&side.holds);
+    assert!(rt; taken.is_ok(), "{}: {taken:?}", side.name);
+    heap.arm(grants);
+    let answer = drive(alloc, side.role, &mut replica, source, sink);
+    heap.arm(u64::MAX);
+    (answer, replica.len())
 }
 
 // Whether so many bytes of the exchange may have been read and written, and so many operations be held, where memory ends:
@@ -239,29 +218,45 @@ fn is_cut_short(side: &Side, read: usize, written: usize, held: usize) -> bool {
     is_held && written == owed
 }
 
-// Whether the driven side leaves what it promises where each request for memory is refused in turn, and is done in the end.
-fn keeps_its_promise<A: Allocator + Copy>(heap: &Metered<Global>, alloc: A, side: &Side) -> bool {
+// The driven side leaves what it promises where each request for memory is refused in turn, and is done in the end.
+fn keeps_its_promise<A: Allocator + Copy>(
+    rt: &(impl Abort + AllocGlobal),
+    heap: &Metered<Global>,
+    alloc: A,
+    side: &Side,
+) {
     for grants in 0..200u64 {
         let (mut source, mut sink) = (source_of(side), sink_of(side));
-        let (answer, held) = drives_short(heap, alloc, grants, side, &mut source, &mut sink);
-        if answer == Ok(()) {
-            return grants > 0 && held == 2 && sink.is_right && sink.expected.is_empty();
-        }
+        let devices = (&mut source, &mut sink);
+        let (answer, held) = drives_short(rt, heap, alloc, grants, side, devices);
+        assert!(rt;
+            sink.is_right,
+            "{} wrote other bytes with {grants} requests",
+            side.name
+        );
         let read = side.comes.len().saturating_sub(source.bytes.len());
         let written = side.sends.len().saturating_sub(sink.expected.len());
-        let is_kept = sink.is_right && is_cut_short(side, read, written, held);
-        if answer != Err(SyncError::OutOfMemory) || !is_kept {
-            return false;
+        if answer == Ok(()) {
+            assert!(rt; grants > 0, "{} took no memory", side.name);
+            assert_eq!(rt; (written, held), (side.sends.len(), 2), "{}", side.name);
+            return;
         }
+        assert_eq!(rt; answer, Err(SyncError::OutOfMemory), "{}", side.name);
+        assert!(rt;
+            is_cut_short(side, read, written, held),
+            "{} read {read} bytes, wrote {written} and holds {held} with {grants} requests",
+            side.name
+        );
     }
-    false
+    panic!(rt; "{} is refused at 200 requests", side.name);
 }
 
 #[test]
 fn a_driver_writes_nothing_more_where_memory_ends(rt: HostRuntime) {
     let heap = Metered::new(rt.alloc());
-    assert!(rt; keeps_its_promise(&heap, &heap, &side_of(Role::Client)));
-    assert!(rt; keeps_its_promise(&heap, &heap, &side_of(Role::Server)));
+    for role in [Role::Client, Role::Server] {
+        keeps_its_promise(&rt, &heap, &heap, &Side::of(&rt, role));
+    }
 }
 
 /// Gives one byte a read: the first bytes of a clock frame of the greatest length, and then zeros without end.
@@ -287,11 +282,12 @@ impl Read for Trickle {
 
 #[test]
 fn too_many_reads_are_refused(rt: HostRuntime) {
-    let side = side_of(Role::Server);
+    let side = Side::server(&rt);
     let mut reader = Trickle { given: 0 };
     let mut sink = sink_of(&side);
-    let (answer, _) = drives(rt.alloc(), &side, &mut reader, &mut sink);
-    assert!(rt; answer == Err(SyncError::Turns) && reader.given == u64::from(MAX_READS));
+    let (answer, _) = drives(&rt, &side, &mut reader, &mut sink);
+    assert_eq!(rt; answer, Err(SyncError::Turns));
+    assert_eq!(rt; reader.given, u64::from(MAX_READS), "reads");
 }
 
 /// The two ends of a connection.
@@ -309,17 +305,24 @@ fn connect(rt: &HostRuntime) -> io::Result<Ends> {
     Ok(Ends { near, far })
 }
 
-// Whether the side, driven over the near end, takes what comes from the far one, where all that it sends is read.
-fn is_driven_between<A: Allocator + Copy>(alloc: A, ends: &Ends, side: &Side) -> bool {
+// The side, driven over the near end, takes what comes from the far one, where all that it sends is read.
+fn is_driven_between(
+    rt: &(impl Abort + AllocGlobal),
+    ends: &Ends,
+    side: &Side,
+) -> Result<(), Fail> {
     let mut far = &ends.far;
     let mut reader = &ends.near;
     let mut writer = &ends.near;
+    far.write_all(&side.comes)?;
+    let (answer, replica) = drives(rt, side, &mut reader, &mut writer);
+    assert_eq!(rt; answer, Ok(()), "{}", side.name);
+    shows(rt, rt.alloc(), &replica, side.shows, side.name);
     let mut came = [0; 128];
     let came = &mut came[..side.sends.len().min(128)];
-    far.write_all(side.comes).is_ok()
-        && drives(alloc, side, &mut reader, &mut writer) == (Ok(()), true)
-        && far.read_exact(came).is_ok()
-        && &*came == side.sends
+    far.read_exact(came)?;
+    assert_eq!(rt; &*came, side.sends.as_slice(), "{} sends", side.name);
+    Ok(())
 }
 
 // Both sides over one connection.
@@ -327,7 +330,7 @@ fn is_driven_between<A: Allocator + Copy>(alloc: A, ends: &Ends, side: &Side) ->
 fn sides_are_driven_over_the_loopback(rt: HostRuntime) -> Result<(), Fail> {
     let ends = connect(&rt)?;
     for role in [Role::Client, Role::Server] {
-        assert!(rt; is_driven_between(rt.alloc(), &ends, &side_of(role)));
+        is_driven_between(&rt, &ends, &Side::of(&rt, role))?;
     }
     Ok(())
 }
