@@ -64,15 +64,20 @@ impl Rows<Author> for Authors {
         out: &mut Vec<u8, A>,
         row: &Author,
     ) -> Result<(), AllocError> {
+        let Author {
+            author,
+            through,
+            last,
+        } = *row;
         append_pieces(
             out,
             &[
                 Text(b"<tr><th scope=\"row\">"),
-                Number(row.author as u64),
+                Number(author as u64),
                 Text(b"</th><td>"),
-                Number(row.through as u64),
+                Number(through as u64),
                 Text(b"</td><td>"),
-                Number(row.last as u64),
+                Number(last as u64),
                 Text(b"</td></tr>\n"),
             ],
         )
