@@ -114,6 +114,23 @@ impl<T: Drop, A: Allocator + Copy> Chunks<T, A> {
         }
     }
 
+    /// The place of the item before a place; none where no item is.
+    pub fn before(&self, place: Place) -> Option<Place>
+        requires chunked { IsChunked self.now }
+        requires near { IsNear self.now place }
+        ensures { MatchOption result (index_of self.now place ≡ 0) (λ p. IsInside self.now p × (index_of self.now p + 1 ≡ index_of self.now place)) }
+    {
+        if place.at > 0 {
+            return Some(Place {
+                chunk: place.chunk,
+                at: place.at - 1,
+            });
+        }
+        let chunk = place.chunk.checked_sub(1)?;
+        let at = self.chunks[chunk].len().checked_sub(1)?;
+        Some(Place { chunk, at })
+    }
+
     /// The item at a place.
     pub fn item_at(&self, place: Place) -> &T
         requires inside { IsInside self.now place }

@@ -2,4 +2,5 @@ pub mod Merging
 pub mod SetMerging
 mod Bounds
 mod Places
+mod Lasts
 mod Searching

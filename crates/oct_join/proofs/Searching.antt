@@ -46,7 +46,7 @@ module _ {E K : Type 0} (f : E → K) where
   map-remove es at = map-append f (take at es) (drop (suc at) es) ∙ (λ i. sym (take-map f at es) i ++ sym (drop-map f (suc at) es) i)
 
   module _ {R : K → K → Ordering} (total : IsTotalOrder R) (exact : IsAntisymmetric R) where
-    less_at : (es : List E) → rises R (map f es) ≡ true → (i j : ℕ) (d : E) → i < j → j < length es → R (f (get_or es i d)) (f (get_or es j d)) ≡ Less
+    pub less_at : (es : List E) → rises R (map f es) ≡ true → (i j : ℕ) (d : E) → i < j → j < length es → R (f (get_or es i d)) (f (get_or es j d)) ≡ Less
     less_at [] h i j d lt hi = absurd (omega arith)
     less_at (e ∷ es) h i zero d lt hi = absurd (omega arith)
     less_at (e ∷ es) h zero (suc j) d lt hi = less_from_lt _ (all_at (λ k. is_lt (R (f e) k)) es j d (first_so _ _ h) (omega arith))

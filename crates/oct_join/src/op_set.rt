@@ -1,6 +1,7 @@
 //! A finite set of operations.
 
-ghost use Rattle.std.specs.Prelude.{◌≡◌, ◌↔◌, MatchOption, not, false, true, length, IsTrue, IfOk, IfErr, OnOk, OnErr};
+ghost use Rattle.std.specs.Prelude.{◌≡◌, ◌↔◌, ◌⊎◌, ◌≤◌, MatchOption, nat_le, not, false, true, length, IsTrue, IfOk, IfErr, OnOk, OnErr};
+ghost use Rattle.std.specs.List.{All, Any};
 ghost use Rattle.oct_join.specs.SetBounds.{subset_order, union_bound};
 ghost use Rattle.oct_ops.specs.Operations.{empty, insert, remove, contains, listed, union, IsSubset};
 ghost use Rattle.oct_ops.specs.Order.{op_cmp};
@@ -8,7 +9,7 @@ ghost use Rattle.oct_ops.specs.OrderLaws.{op_cmp_total, op_cmp_exact};
 
 use crate::join::Join;
 use crate::ops::Ops;
-use chunked::{Chunks, Place, Probe};
+use chunked::{Chunks, Place, Probe, Test};
 use oct_ops::Op;
 use std::alloc::{AllocError, Allocator};
 use std::cmp::Ordering;
@@ -23,6 +24,7 @@ use std::rc::Rc;
 ///     ops.add(&copy)?;                      // nothing changes, since it is there already
 ///     ops.join(&other)?;                    // the union; a refusal leaves a set between the old one and the union
 ///     ops.iter()                            // all, in the operation order
+///     ops.last(1)                           // the greatest number of author 1
 ///
 /// A look-up, an insertion and a removal compare a number of operations that grows with the logarithm of the set's size, and
 /// an insertion at the end two. An insertion moves the references of one chunk at most, and at times the list of the chunks.
@@ -60,6 +62,20 @@ impl<A: Allocator> Probe<Rc<Op<A>, A>> for Sought<'_, A> {
 
     fn compare(&self, op: &Rc<Op<A>, A>) -> Ordering {
         op.as_ref().cmp(self.op)
+    }
+}
+
+/// That the author of an operation is at most this one.
+#[derive(Clone, Copy)]
+struct UpTo {
+    author: u32,
+}
+
+impl<A: Allocator> Test<Rc<Op<A>, A>> for UpTo {
+    ghost passes = { λ t op. nat_le op.value.dot.author t.author };
+
+    fn passes(&self, op: &Rc<Op<A>, A>) -> bool {
+        op.as_ref().dot().author() <= self.author
     }
 }
 
@@ -184,6 +200,23 @@ impl<A: Allocator + Copy> OpSet<A> {
                 true
             }
             Err(_) => false,
+        }
+    }
+
+    /// The author's greatest number, or 0 where it has no operation here.
+    pub fn last(&self, author: u32) -> u32
+        ensures above { All (λ o. o.dot.author ≡ author → o.dot.number ≤ result) (listed self.now) }
+        ensures is { (result ≡ 0) ⊎ Any (λ o. (o.dot.author ≡ author) × (o.dot.number ≡ result)) (listed self.now) }
+    {
+        let place = self.ops.partition_point(&UpTo { author });
+        let Some(last) = self.ops.before(place) else {
+            return 0;
+        };
+        let dot = self.ops.item_at(last).as_ref().dot();
+        if dot.author() == author {
+            dot.number()
+        } else {
+            0
         }
     }
 

@@ -175,7 +175,7 @@ impl<A: Allocator + Copy> Replica<A> {
 
     /// Issues an operation of this body under the author's next number, the one after its greatest, and answers its dot.
     /// The first refusal is `LastNumber`, exactly where the greatest number is 4,294,967,295. After a refusal nothing
-    /// changes, and the body comes back. This is one pass over the set.
+    /// changes, and the body comes back.
     pub fn issue(&mut self, body: Body<A>) -> Result<Dot, (IssueError, Body<A>)>
         ensures dot { IfOk result (λ dot. dot ≡ (next_op self.old.ops self.old.author (content body)).dot) }
         ensures ok { OnOk result (self.new ≡ record self.old { ops = insert self.old.ops (next_op self.old.ops self.old.author (content body)) }) }

@@ -22,7 +22,6 @@ use Rattle.oct_store.specs.Rows.{author_rows, fork_rows, fork_or_none, unseen, w
 use Rattle.oct_store.specs.declared.author.Author.{Author}
 use Rattle.oct_store.specs.declared.fork.Fork.{Fork}
 use Rattle.oct_store.proofs.Groups.{collect, Ordered, groups_are, shown_all, shows, goes_on, ends, starts, last_shown, none_open}
-use Rattle.oct_store.proofs.Lasts.{numbers_of-next}
 use Rattle.oct_store.proofs.Throughs.{run, step, run_is_clock, known_here, known_there, none_known, clash}
 
 -- ---- operations in order are in the order of their dots, and of their authors
@@ -48,6 +47,10 @@ by_dot : (o p : Operation) → is_lt (op_cmp o p) ≡ true → is_gt (dot_cmp o.
 by_dot o p h = not_above (dot_cmp o.dot p.dot) _ h
 
 -- ---- authors
+
+numbers_of-next : (o : Operation) (rest : List Operation) (author : ℕ) (b : Bool) → (o.dot.author == author) ≡ b → numbers_of (o ∷ rest) author ≡ cond b (o.dot.number ∷ numbers_of rest author) (numbers_of rest author)
+numbers_of-next o rest author true is = ap (λ b. map (λ p. p.dot.number) (cond b (o ∷ filter (λ p. p.dot.author == author) rest) (filter (λ p. p.dot.author == author) rest))) is
+numbers_of-next o rest author false is = ap (λ b. map (λ p. p.dot.number) (cond b (o ∷ filter (λ p. p.dot.author == author) rest) (filter (λ p. p.dot.author == author) rest))) is
 
 abbrev author_of : Operation → ℕ
 author_of o = o.dot.author

@@ -1,12 +1,13 @@
 -- An author's last number is its greatest, and the clock of a list of operations gives each author its number.
-use Rattle.std.proofs.Common.{arith, ◌≡◌, ◌⊎◌, inl, inr, ℕ, zero, suc, ◌==◌, max, Bool, true, false, ◌&&◌, ◌||◌, cond, List, [], ◌∷◌, map, Some, None, refl, sym, ap, ◌∙◌, eq-eqb}
+use Rattle.std.proofs.Common.{arith, ◌≡◌, ◌≤◌, ◌⊎◌, inl, inr, ℕ, zero, suc, ◌==◌, max, Bool, true, false, ◌&&◌, ◌||◌, cond, List, [], ◌∷◌, map, Some, None, get_or, refl, sym, ap, ◌∙◌, eq-eqb}
 use Rattle.std.specs.Prelude.{nat_le}
-use Rattle.std.specs.List.{fold, filter, list_any}
+use Rattle.std.specs.List.{All, Any, fold, filter, list_any}
 use Rattle.std.specs.Ordering.{nat_cmp, eq_by_cmp}
 use Rattle.std.specs.Cmp.{nat_cmp_total, unsigned_tied, Equal-is}
 use Rattle.std.specs.FinMap as finmap
 use Rattle.std.specs.FinMap.{nat_cmp-IsAntisymmetric}
 use Rattle.std.proofs.lemmas.Bool.{eqb-true, and_from, and_parts, or_left, or_right}
+use Rattle.std.proofs.lemmas.List.Folds.{Any-from_list_any, list_any-from_Any}
 use Rattle.std.proofs.lemmas.Bool.Decides.{nat_tests}
 use Rattle.oct_ops.specs.Arranged.{arranged}
 use Rattle.oct_ops.specs.Body.{Operation}
@@ -35,6 +36,25 @@ among (o ∷ ops) author start =
 
 pub is_last : (ops : List Operation) (author : ℕ) → IsLast ops author (last ops author)
 is_last ops author = record { above = λ i here. at_most_last ops author i 0 here; is = among ops author 0 }
+
+-- a number that none of the author's is greater than, and that is one of them or 0
+pub last_is : (ops : List Operation) (author n : ℕ) → All (λ o. o.dot.author ≡ author → o.dot.number ≤ n) ops → (n ≡ 0) ⊎ Any (λ o. (o.dot.author ≡ author) × (o.dot.number ≡ n)) ops → n ≡ last ops author
+last_is ops author n above is =
+    let greatest = is_last ops author in
+    let test : ℕ → Operation → Bool = λ m o. (o.dot.author == author) && (o.dot.number == m) in
+    let high : n ≤ last ops author = elim is [
+      | inl none ↦ omega (arith, none)
+      | inr found ↦ greatest.above n (list_any-from_Any (test n) ops (found.0, found.1, found.2, found.3, and_from _ _ (eq-eqb _ _ found.4.0) (eq-eqb _ _ found.4.1)))
+    ] in
+    let low : last ops author ≤ n = elim greatest.is [
+      | inl none ↦ omega (arith, none)
+      | inr here ↦
+          let (k, o, lt, at, passes) = Any-from_list_any (test (last ops author)) ops here in
+          let parts = and_parts (o.dot.author == author) (o.dot.number == last ops author) passes in
+          let own : (get_or ops k o).dot.author ≡ author = ap (λ p. p.dot.author) at ∙ eqb-true _ _ parts.0 in
+          omega (arith, above k o lt own, ap (λ p. p.dot.number) at, eqb-true _ _ parts.1)
+    ] in
+    omega (arith, high, low)
 
 -- a test that tied keys pass alike
 any-filter : (p : ℕ → Bool) (q : ℕ) (ks : List ℕ) → list_any (eq_by_cmp nat_cmp q) (filter p ks) ≡ (p q && list_any (eq_by_cmp nat_cmp q) ks)

@@ -1,6 +1,5 @@
 mod Counts
 mod Groups
 mod Kept
-mod Lasts
 pub mod Greatest
 pub mod Throughs

@@ -123,17 +123,11 @@ impl<A: Allocator + Copy> Store<A> {
         Ok(OpList::of_rising(list))
     }
 
-    /// The author's greatest number, or 0 where it has no operation here. This is one pass over the set.
+    /// The author's greatest number, or 0 where it has no operation here. It takes what a look-up takes.
     pub fn last(&self, author: u32) -> u32
         ensures { result ≡ summary.last (listed self.now) author }
     {
-        let mut last = 0u32;
-        for op in self.iter() {
-            if op.dot().author() == author {
-                last = last.max(op.dot().number());
-            }
-        }
-        last
+        self.ops.last(author)
     }
 
     /// For each author the number through which all of its operations are here, from the first on. An author whose first
