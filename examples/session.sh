@@ -82,7 +82,7 @@ back=$(sed '1,/^\.\.$/d' "$room/short.txt" | wc -l)
 test "$front" -gt 0 && test "$back" -gt 0
 { head -n "$front" "$room/played"; echo ..; tail -n "$back" "$room/played"; } | diff "$room/short.txt" -
 
-shown "$top/README.md" 'bfile anna' >"$room/published.txt"
-(played "$room/published.txt" "$room/short") | diff "$room/published.txt" -
-cmp "$room/short/kayles.svg" "$top/docs/kayles.svg"
+shown "$top/docs/TUTORIAL.md" 'bfile anna' >"$room/published.txt"
+(played "$room/published.txt" "$room/long") | diff "$room/published.txt" -
+cmp "$room/long/kayles.svg" "$top/docs/kayles.svg"
 echo "the example sessions are as they stand, and so is the picture of the README"
