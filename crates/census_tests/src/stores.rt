@@ -260,8 +260,13 @@ fn stores_show_what_they_hold(rt: HostRuntime) -> Result<(), Fail> {
 }
 
 // A store with the first of the operations is joined with one that has the others, after each request for memory was refused
-// in turn and left a set between.
-fn joins_again<A: Allocator + Copy>(rt: &impl Abort, heap: &Metered<Global>, alloc: A, all: &[u8]) {
+// in turn and left a set between. The answer is how many requests the join makes.
+fn joins_again<A: Allocator + Copy>(
+    rt: &impl Abort,
+    heap: &Metered<Global>,
+    alloc: A,
+    all: &[u8],
+) -> u64 {
     let list = read(rt, alloc, all);
     let (first, others) = list.as_slice().split_at(list.len().min(1));
     let mut other = Store::new(alloc);
@@ -273,9 +278,8 @@ fn joins_again<A: Allocator + Copy>(rt: &impl Abort, heap: &Metered<Global>, all
         let joined = store.join(&other);
         heap.arm(u64::MAX);
         if joined.is_ok() {
-            assert!(rt; grants > 0, "the join took no memory");
             has_all(rt, &store, list.as_slice());
-            return;
+            return grants;
         }
         has_some(rt, &store, list.as_slice());
     }
@@ -296,6 +300,8 @@ fn refused_insertions_and_joins_are_made_again(rt: HostRuntime) -> Result<(), Fa
     let alloc = rt.alloc();
     holds(&rt, &heap, &heap, &many_notes(alloc)?);
     joins_again(&rt, &heap, &heap, &FIVE.bytes(alloc)?);
+    let requests = joins_again(&rt, &heap, &heap, &many_notes(alloc)?);
+    assert!(rt; requests > 0, "the join took no memory");
     Ok(())
 }
 

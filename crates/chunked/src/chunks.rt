@@ -1,6 +1,6 @@
 //! A list that lies in short chunks, so that one more item moves few of them.
 
-ghost use Rattle.std.specs.Prelude.{Vec, slice_index_or, ◌≡◌, ◌+◌, ◌-◌, ◌<◌, ◌≤◌, ◌^◌, true, false, length, set, vec_len, [], OnOk, IfOk, MatchOption, MatchResult};
+ghost use Rattle.std.specs.Prelude.{Vec, slice_index_or, ◌≡◌, ◌+◌, ◌-◌, ◌<◌, ◌≤◌, ◌^◌, true, false, length, set, take, drop, vec_len, [], OnOk, OnErr, IfOk, MatchOption, MatchResult};
 ghost use Rattle.std.specs.Vec.{vec_capacity};
 ghost use Rattle.std.specs.List.{insert, remove};
 ghost use Rattle.std.specs.List.Sorted.{IsPartitionedBy, IsPartitionPoint};
@@ -15,6 +15,14 @@ use std::cmp::Ordering;
 // From this length on a chunk is split before it grows. At 512 the list of chunks of 10,000,000 items is short enough to be
 // moved when a chunk is split, and a chunk of references to be moved when it grows.
 const LONGEST: usize = 512;
+
+// The most items that the first part of a chunk keeps when the chunk is split where an item goes. What grows in rising order at
+// some place leaves chunks of this length behind, and a part that is cut off has at least an eighth of a chunk.
+const MOST_KEPT: usize = LONGEST / 8 * 7;
+
+// The least items that a chunk which is full grows by. A longer one grows by an eighth: it is moved more often than if it
+// were doubled, but a chunk is short, and in a long list most chunks have nearly no room that is not used.
+const LEAST_ROOM: usize = 8;
 
 /// A place in a list: that of an item, or one where an item may go. It holds until the list changes.
 #[derive(Clone, Copy)]
@@ -194,7 +202,7 @@ impl<T: Drop, A: Allocator + Copy> Chunks<T, A> {
         ensures beside { IsBeside self.new place }
         ensures ok { OnOk result (HasRoom self.new place) }
     {
-        self.chunks[place.chunk].reserve(1)?;
+        make_room(&mut self.chunks[place.chunk])?;
         Ok(())
     }
 
@@ -211,8 +219,9 @@ impl<T: Drop, A: Allocator + Copy> Chunks<T, A> {
         if len < LONGEST {
             return Ok(place);
         }
-        let is_end = place.at == len && place.chunk + 1 == self.chunks.len();
-        self.split(place, if is_end { len - 1 } else { LONGEST / 2 })
+        let is_last = place.chunk + 1 == self.chunks.len();
+        let most = if is_last { len - 1 } else { MOST_KEPT };
+        self.split(place, place.at.clamp(LONGEST / 2, most))
     }
 
     // Splits a chunk in two, of which the first one keeps `cut` items, and says where the place is then.
@@ -251,7 +260,7 @@ impl<T: Drop, A: Allocator + Copy> Chunks<T, A> {
         ensures upper { OnOk result (cut < place.at → StandsAt self.old place self.new (record { chunk = place.chunk + 1; at = place.at - cut })) }
     {
         self.chunks.reserve(1)?;
-        let upper = self.chunks[place.chunk].split_off(cut)?;
+        let upper = cut_off(&mut self.chunks[place.chunk], cut)?;
         insert_at(&mut self.chunks, place.chunk + 1, upper);
         Ok(())
     }
@@ -294,4 +303,33 @@ fn insert_at<T: Drop, A: Allocator>(items: &mut Vec<T, A>, at: usize, item: T)
     if items.insert(at, item).is_err() {
         unreachable!()
     }
+}
+
+// Makes room for an item in a chunk.
+fn make_room<T, A: Allocator>(chunk: &mut Vec<T, A>) -> Result<(), AllocError>
+    ensures items { chunk.new.items ≡ chunk.old.items }
+    ensures ok { OnOk result (vec_len chunk.new < vec_capacity chunk.new) }
+{
+    let len = chunk.len();
+    if len == chunk.capacity() {
+        chunk.reserve_exact(LEAST_ROOM.max(len / 8))?;
+    }
+    Ok(())
+}
+
+// Cuts the items from a place on off a chunk, which then has no room left.
+fn cut_off<T, A: Allocator + Copy>(
+    chunk: &mut Vec<T, A>,
+    at: usize,
+) -> Result<Vec<T, A>, AllocError>
+    requires { at ≤ vec_len chunk.old }
+    ensures items { OnOk result (chunk.new.items ≡ take at chunk.old.items) }
+    ensures len { OnOk result (vec_len chunk.new ≡ at) }
+    ensures tail { IfOk result (λ upper. upper.items ≡ drop at chunk.old.items) }
+    ensures tail_len { IfOk result (λ upper. vec_len upper + at ≡ vec_len chunk.old) }
+    ensures err { OnErr result (chunk.new ≡ chunk.old) }
+{
+    let upper = chunk.split_off(at)?;
+    chunk.shrink_to_fit();
+    Ok(upper)
 }
