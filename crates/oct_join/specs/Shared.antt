@@ -1,10 +1,10 @@
--- Operations that are shared.
+-- Operations that are shared, each of which is seen as the operation that it is.
 use Rattle.std.specs.Prelude.{List, map}
-use Rattle.std.specs.declared.rc.Rc.{Rc}
+use Rattle.oct_ops.specs.Body.{Operation}
 
--- what is shared
-abbrev pub content : {X A : Type 0} → Rc X A → X
-content shared = shared.value
+-- by what it is searched
+abbrev pub content : Operation → Operation
+content shared = shared
 
-abbrev pub contents : {X A : Type 0} → List (Rc X A) → List X
+abbrev pub contents : List Operation → List Operation
 contents = map content

@@ -19,6 +19,7 @@ mod clock;
 mod join;
 mod op_set;
 mod ops;
+mod shared;
 
 pub use clock::Clock;
 pub use join::{Join, gather};

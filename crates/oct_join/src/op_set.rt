@@ -9,6 +9,7 @@ ghost use Rattle.oct_ops.specs.OrderLaws.{op_cmp_total, op_cmp_exact};
 
 use crate::join::Join;
 use crate::ops::Ops;
+use crate::shared::Shared;
 use chunked::{Chunks, Place, Probe, Test};
 use oct_ops::Op;
 use std::alloc::{AllocError, Allocator};
@@ -30,7 +31,7 @@ use std::rc::Rc;
 /// an insertion at the end two. An insertion moves the references of one chunk at most, and at times the list of the chunks.
 #[derive(Drop)]
 pub struct OpSet<A: Allocator + Copy> {
-    ops: Chunks<Rc<Op<A>, A>, A>,
+    ops: Chunks<Shared<A>, A>,
     alloc: A,
 }
 
@@ -57,11 +58,11 @@ struct Sought<'a, A: Allocator> {
     op: &'a Op<A>,
 }
 
-impl<A: Allocator> Probe<Rc<Op<A>, A>> for Sought<'_, A> {
-    ghost order = { λ s op. op_cmp op.value s.op.now };
+impl<A: Allocator> Probe<Shared<A>> for Sought<'_, A> {
+    ghost order = { λ s shared. op_cmp shared s.op.now };
 
-    fn compare(&self, op: &Rc<Op<A>, A>) -> Ordering {
-        op.as_ref().cmp(self.op)
+    fn compare(&self, shared: &Shared<A>) -> Ordering {
+        shared.compare(self.op)
     }
 }
 
@@ -71,11 +72,11 @@ struct UpTo {
     author: u32,
 }
 
-impl<A: Allocator> Test<Rc<Op<A>, A>> for UpTo {
-    ghost passes = { λ t op. nat_le op.value.dot.author t.author };
+impl<A: Allocator> Test<Shared<A>> for UpTo {
+    ghost passes = { λ t shared. nat_le shared.dot.author t.author };
 
-    fn passes(&self, op: &Rc<Op<A>, A>) -> bool {
-        op.as_ref().dot().author() <= self.author
+    fn passes(&self, shared: &Shared<A>) -> bool {
+        shared.dot().author() <= self.author
     }
 }
 
@@ -128,7 +129,10 @@ impl<A: Allocator + Copy> OpSet<A> {
             Err(refused) => return Err((refused, op)),
         };
         match Rc::new(self.alloc, op) {
-            Ok(shared) => self.ops.insert(place, shared),
+            Ok(shared) => {
+                let entry = Shared::new(shared);
+                self.ops.insert(place, entry);
+            }
             Err(refused) => return Err((AllocError, refused.value)),
         }
         Ok(true)
@@ -147,7 +151,8 @@ impl<A: Allocator + Copy> OpSet<A> {
         };
         let place = self.ops.room_at(place)?;
         let shared = op.clone()?;
-        self.ops.insert(place, shared);
+        let entry = Shared::new(shared);
+        self.ops.insert(place, entry);
         Ok(true)
     }
 
@@ -168,7 +173,8 @@ impl<A: Allocator + Copy> OpSet<A> {
             return Err(AllocError);
         };
         let kept = shared.clone()?;
-        self.ops.insert(place, kept);
+        let entry = Shared::new(kept);
+        self.ops.insert(place, entry);
         Ok(Some(shared))
     }
 
@@ -212,7 +218,7 @@ impl<A: Allocator + Copy> OpSet<A> {
         let Some(last) = self.ops.before(place) else {
             return 0;
         };
-        let dot = self.ops.item_at(last).as_ref().dot();
+        let dot = self.ops.item_at(last).dot();
         if dot.author() == author {
             dot.number()
         } else {
@@ -235,7 +241,7 @@ impl<A: Allocator + Copy> Join for OpSet<A> {
 
     fn join(&mut self, other: &OpSet<A>) -> Result<(), AllocError> {
         for op in other.ops.iter() {
-            self.share(op)?;
+            self.share(op.reference())?;
         }
         Ok(())
     }

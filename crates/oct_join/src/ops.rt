@@ -5,17 +5,17 @@ ghost use Rattle.std.specs.Iterator.{at_most};
 ghost use Rattle.std.specs.Map.Iter.{TakesFirst, deref};
 ghost use Rattle.oct_join.specs.Shared.{contents};
 
+use crate::shared::Shared;
 use chunked::Iter;
 use oct_ops::Op;
 use std::alloc::{AllocError, Allocator};
 use std::iter::FusedIterator;
 use std::marker::Model;
-use std::rc::Rc;
 
 /// An iterator over the operations of a set, in their order. It is seen as the list of those that are left.
 #[derive(Drop)]
 pub struct Ops<'a, A: Allocator> {
-    shared: Iter<'a, Rc<Op<A>, A>, A>,
+    shared: Iter<'a, Shared<A>, A>,
 }
 
 impl<'a, A: Allocator> Model for Ops<'a, A> {
@@ -30,7 +30,7 @@ impl<'a, A: Allocator> Model for Ops<'a, A> {
 
 impl<'a, A: Allocator> Ops<'a, A> {
     /// The operations that are shared.
-    pub(crate) fn new(shared: Iter<'a, Rc<Op<A>, A>, A>) -> Ops<'a, A>
+    pub(crate) fn new(shared: Iter<'a, Shared<A>, A>) -> Ops<'a, A>
         ensures { result ≡ contents shared.entry }
     {
         Ops { shared }
@@ -46,7 +46,7 @@ impl<'a, A: Allocator> Iterator for Ops<'a, A> {
 
     fn next(&mut self) -> Option<&'a Op<A>> {
         match self.shared.next() {
-            Some(op) => Some(op.as_ref()),
+            Some(shared) => Some(shared.op()),
             None => None,
         }
     }

@@ -210,6 +210,8 @@ impl<A: Allocator> Ord for Body<A> {
 
     ghost matches_eq = { λ a b. refl };
 
+    // Most operations that are compared differ in their dots: without the bodies a search is a short loop.
+    #[inline(never)]
     fn cmp(&self, other: &Body<A>) -> Ordering {
         match (self, other) {
             (Body::Block(mine), Body::Block(others)) => mine.cmp(others),

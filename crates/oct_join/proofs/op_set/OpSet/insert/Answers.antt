@@ -46,14 +46,14 @@ pub invariant_of-self-in-Ok-new : goal.invariant_of-self-in-Ok-new
 invariant_of-self-in-Ok-new g c =
     let ops = c.self.inside.ops in
     let x = c.args.op in
-    let more : chunked c.insert.new.self ≡ insert (chunked ops) (index_of ops c.in-Err.place) c.in-Ok-new.shared =
-    c.insert.ensures.items ∙ (λ i. insert (c.in-Ok.ensures.same i) (c.in-Ok.ensures.ok.2 i) c.in-Ok-new.shared) in
-    (c.insert.ensures.chunked, rises_grown content op_cmp_total op_cmp_exact (chunked ops) _ (index_of ops c.in-Err.place) c.in-Ok-new.shared x c.in-Ok-new.ensures.ok c.self.invariant.1 c.in-Err.ensures.1 more)
+    let more : chunked c.insert.new.self ≡ insert (chunked ops) (index_of ops c.in-Err.place) c.new-entry.result =
+    c.insert.ensures.items ∙ (λ i. insert (c.in-Ok.ensures.same i) (c.in-Ok.ensures.ok.2 i) c.new-entry.result) in
+    (c.insert.ensures.chunked, rises_grown content op_cmp_total op_cmp_exact (chunked ops) _ (index_of ops c.in-Err.place) c.new-entry.result x (c.new-entry.ensures ∙ c.in-Ok-new.ensures.ok) c.self.invariant.1 c.in-Err.ensures.1 more)
 
 pub returns-clause-ok : goal.returns-clause-ok
 returns-clause-ok g c =
     let ops = c.self.inside.ops in
     let x = c.args.op in
-    let more : chunked c.insert.new.self ≡ insert (chunked ops) (index_of ops c.in-Err.place) c.in-Ok-new.shared =
-    c.insert.ensures.items ∙ (λ i. insert (c.in-Ok.ensures.same i) (c.in-Ok.ensures.ok.2 i) c.in-Ok-new.shared) in
-    set_grown content op_cmp_total op_cmp_exact (chunked ops) _ (index_of ops c.in-Err.place) c.in-Ok-new.shared x c.in-Ok-new.ensures.ok c.self.invariant.1 c.in-Err.ensures.1 more ∙ ap (λ s. set.insert s x) c.self.view_is
+    let more : chunked c.insert.new.self ≡ insert (chunked ops) (index_of ops c.in-Err.place) c.new-entry.result =
+    c.insert.ensures.items ∙ (λ i. insert (c.in-Ok.ensures.same i) (c.in-Ok.ensures.ok.2 i) c.new-entry.result) in
+    set_grown content op_cmp_total op_cmp_exact (chunked ops) _ (index_of ops c.in-Err.place) c.new-entry.result x (c.new-entry.ensures ∙ c.in-Ok-new.ensures.ok) c.self.invariant.1 c.in-Err.ensures.1 more ∙ ap (λ s. set.insert s x) c.self.view_is

@@ -53,14 +53,14 @@ pub invariant_of-self-2 : goal.invariant_of-self-2
 invariant_of-self-2 g c =
     let ops = c.self.inside.ops in
     let x = c.args.op in
-    let more : chunked c.insert.new.self ≡ insert (chunked ops) (index_of ops c.in-Err.place) c.in_ok-kept.kept =
-    c.insert.ensures.items ∙ (λ i. insert (c.in_ok-place.ensures.same i) (c.in_ok-place.ensures.ok.2 i) c.in_ok-kept.kept) in
-    (c.insert.ensures.chunked, rises_grown content op_cmp_total op_cmp_exact (chunked ops) _ (index_of ops c.in-Err.place) c.in_ok-kept.kept x (c.in_ok-kept.ensures.cases ∙ c.in-Ok.ensures.ok) c.self.invariant.1 c.in-Err.ensures.1 more)
+    let more : chunked c.insert.new.self ≡ insert (chunked ops) (index_of ops c.in-Err.place) c.new-entry.result =
+    c.insert.ensures.items ∙ (λ i. insert (c.in_ok-place.ensures.same i) (c.in_ok-place.ensures.ok.2 i) c.new-entry.result) in
+    (c.insert.ensures.chunked, rises_grown content op_cmp_total op_cmp_exact (chunked ops) _ (index_of ops c.in-Err.place) c.new-entry.result x (c.new-entry.ensures ∙ c.in_ok-kept.ensures.cases ∙ c.in-Ok.ensures.ok) c.self.invariant.1 c.in-Err.ensures.1 more)
 
 pub returns-clause-ok : goal.returns-clause-ok
 returns-clause-ok g c =
     let ops = c.self.inside.ops in
     let x = c.args.op in
-    let more : chunked c.insert.new.self ≡ insert (chunked ops) (index_of ops c.in-Err.place) c.in_ok-kept.kept =
-    c.insert.ensures.items ∙ (λ i. insert (c.in_ok-place.ensures.same i) (c.in_ok-place.ensures.ok.2 i) c.in_ok-kept.kept) in
-    set_grown content op_cmp_total op_cmp_exact (chunked ops) _ (index_of ops c.in-Err.place) c.in_ok-kept.kept x (c.in_ok-kept.ensures.cases ∙ c.in-Ok.ensures.ok) c.self.invariant.1 c.in-Err.ensures.1 more ∙ ap (λ s. set.insert s x) c.self.view_is
+    let more : chunked c.insert.new.self ≡ insert (chunked ops) (index_of ops c.in-Err.place) c.new-entry.result =
+    c.insert.ensures.items ∙ (λ i. insert (c.in_ok-place.ensures.same i) (c.in_ok-place.ensures.ok.2 i) c.new-entry.result) in
+    set_grown content op_cmp_total op_cmp_exact (chunked ops) _ (index_of ops c.in-Err.place) c.new-entry.result x (c.new-entry.ensures ∙ c.in_ok-kept.ensures.cases ∙ c.in-Ok.ensures.ok) c.self.invariant.1 c.in-Err.ensures.1 more ∙ ap (λ s. set.insert s x) c.self.view_is

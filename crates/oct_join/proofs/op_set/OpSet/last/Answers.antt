@@ -20,7 +20,7 @@ returns-then-author-clause-above g c =
     let ops = c.self.inside.ops in
     let all = listed_is content c.args.author (chunked ops) c.self.invariant.1 c.args.self.now c.self.view_is in
     let last = c.item_at.result.now in
-    let number : (content last).dot.number ≡ c.number.result = sym (c.number.ensures.value ∙ ap (λ d. d.number) c.dot-dot.ensures.value ∙ ap (λ o. o.dot.number) c.as_ref.ensures) in
+    let number : (content last).dot.number ≡ c.number.result = sym (c.number.ensures.value ∙ ap (λ d. d.number) c.dot-dot.ensures) in
     let in_list : index_of ops c.in-Some.last < length (chunked ops) = omega (arith, c.in-Some.ensures.1, c.partition_point-place.ensures.within) in
     subst (λ l. All (λ o. o.dot.author ≡ c.args.author → o.dot.number ≤ c.number.result) l) all
     (subst (λ n. All (λ o. o.dot.author ≡ c.args.author → o.dot.number ≤ n) (contents (chunked ops))) number
@@ -31,7 +31,7 @@ returns-then-author-clause-is g c =
     let ops = c.self.inside.ops in
     let all = listed_is content c.args.author (chunked ops) c.self.invariant.1 c.args.self.now c.self.view_is in
     let last = c.item_at.result.now in
-    let dot : c.dot-dot.result ≡ (content last).dot = c.dot-dot.ensures.value ∙ ap (λ o. o.dot) c.as_ref.ensures in
+    let dot : c.dot-dot.result ≡ (content last).dot = c.dot-dot.ensures in
     let number : (content last).dot.number ≡ c.number.result = sym (c.number.ensures.value ∙ ap (λ d. d.number) dot) in
     let own : (content last).dot.author ≡ c.args.author = sym (c.author.ensures.value ∙ ap (λ d. d.author) dot) ∙ c.if-author.true in
     let in_list : index_of ops c.in-Some.last < length (chunked ops) = omega (arith, c.in-Some.ensures.1, c.partition_point-place.ensures.within) in
@@ -44,7 +44,7 @@ returns-else-author-clause-above g c =
     let ops = c.self.inside.ops in
     let all = listed_is content c.args.author (chunked ops) c.self.invariant.1 c.args.self.now c.self.view_is in
     let last = c.item_at.result.now in
-    let dot : c.dot-dot.result ≡ (content last).dot = c.dot-dot.ensures.value ∙ ap (λ o. o.dot) c.as_ref.ensures in
+    let dot : c.dot-dot.result ≡ (content last).dot = c.dot-dot.ensures in
     let in_list : index_of ops c.in-Some.last < length (chunked ops) = omega (arith, c.in-Some.ensures.1, c.partition_point-place.ensures.within) in
     subst (All (λ o. o.dot.author ≡ c.args.author → o.dot.number ≤ 0)) all
     (other_last content c.args.author (chunked ops) c.self.invariant.1 (index_of ops c.partition_point-place.result) c.partition_point-place.ensures.point last (index_of ops c.in-Some.last) c.in-Some.ensures.1 in_list c.item_at.ensures

@@ -1,7 +1,7 @@
 use Rattle.std.proofs.Common.{sym, ap, ◌∙◌}
 use Rattle.std.proofs.lemmas.Result.{err_from_is_err_and}
 use Rattle.chunked.specs.Chunked.{chunked}
-use Rattle.oct_ops.specs.Operations.{listed}
+use Rattle.oct_ops.specs.Operations.{insert, listed}
 use Rattle.oct_ops.specs.OrderLaws.{op_cmp_total, op_cmp_exact}
 use Rattle.oct_ops.specs.SetLaws.{listed-set_of}
 use Rattle.oct_join.specs.Shared.{contents}
@@ -15,7 +15,7 @@ loop-op-init g c =
     ∙ sym (listed-set_of op_cmp_total op_cmp_exact (contents (chunked c.other.inside.ops)) c.other.invariant.1) ∙ ap listed c.other.view_is)
 
 pub loop-op-preserved : goal.loop-op-preserved
-loop-op-preserved g c = joins_next op_cmp_total op_cmp_exact _ _ _ _ _ _ _ (ap contents c.in-Some.ensures.steps) c.in_ok-share.ensures.ok c.loop-op.invariant
+loop-op-preserved g c = joins_next op_cmp_total op_cmp_exact _ _ _ _ _ _ _ (ap contents c.in-Some.ensures.steps) (c.in_ok-share.ensures.ok ∙ ap (insert c.loop-op.self) c.reference.ensures) c.loop-op.invariant
 
 pub returns-in_err-share-clause-err : goal.returns-in_err-share-clause-err
 returns-in_err-share-clause-err g c =
