@@ -1,5 +1,6 @@
 -- What reading a delta answers.
-use Rattle.std.proofs.Common.{◌≡◌, ◌↔◌, List, ◌++◌, Some, None, Result, Ok, Err, refl, sym, subst}
+use Rattle.std.proofs.Common.{◌≡◌, ◌↔◌, ℕ, true, false, List, ◌++◌, Some, None, Result, Ok, Err, OnOk, OnErr, refl, sym, subst}
+use Rattle.std.specs.Result.{is_err}
 use Rattle.std.specs.Prelude.{IfOk, IsErrOf, IsSome}
 use Rattle.std.proofs.lemmas.Bool.{false≢true}
 use Rattle.oct_ops.specs.Body.{Operation}
@@ -74,3 +75,16 @@ module _ (e : Edition) (bytes list : Bytes) (is : bytes ≡ (format e).tag ++ li
     memory = λ w. absurd cc;
     failed = λ w. cc;
   }
+
+-- ---- what a check of the list says
+
+pub on_err : {T E : Type 0} {P : Type 0} (r : Result T E) → is_err r ≡ true → OnErr r P → P
+on_err (Ok x) e h = absurd cc
+on_err (Err x) e h = h
+
+pub on_ok : {T E : Type 0} {P : Type 0} (r : Result T E) → is_err r ≡ false → OnOk r P → P
+on_ok (Ok x) e h = h
+on_ok (Err x) e h = absurd cc
+
+pub none_along : (limit other : ℕ) (bytes : List ℕ) → limit ≡ other → ((ops : List Operation) → IsList limit bytes ops → ⊥) → (ops : List Operation) → IsList other bytes ops → ⊥
+none_along limit other bytes e none ops is = none ops (rw e is)

@@ -12,6 +12,7 @@ pub mod Written
 pub mod Sizes
 pub mod ClockTexts
 mod Streams
+mod OneByOne
 mod Wholes
 mod Pieces
 mod Numbers

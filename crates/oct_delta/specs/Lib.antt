@@ -13,3 +13,4 @@ pub mod Writing
 pub mod Streaming
 pub mod State
 pub mod Spelling
+pub mod OneByOne

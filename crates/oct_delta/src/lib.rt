@@ -12,8 +12,8 @@
 //! There are two formats with the same grammar: `OGD1` for games of `OLD_LIMIT` places, and `OGD2` for games of `LIMIT`
 //! places. Both are read; a list is written as `OGD1` where that can spell it.
 //!
-//! - `decode` reads a delta, `encode` writes one, `encode_each` that of a set without a list of its operations, and
-//!   `op_size` says how long an operation's text is.
+//! - `decode` reads a delta, `read_ops` reads one operation by operation, without a list of them, `encode` writes one,
+//!   `encode_each` that of a set without a list, and `op_size` says how long an operation's text is.
 //! - `Reader` reads a delta that comes in pieces, and gives the operations as they come whole; `decode_pieces` feeds one.
 //! - `decode_clock` and `encode_clock` do the same for clocks: a count, and then so many authors with their numbers.
 //! - `put_bytes`, `put_u32` and `put_entries` write what other texts are made of beside deltas.
@@ -36,6 +36,7 @@ mod output;
 mod reader;
 mod state;
 mod streaming;
+mod text_ops;
 
 pub use clock::{decode_clock, encode_clock, put_entries};
 pub use decoding::decode;
@@ -45,3 +46,4 @@ pub use error::{ClockError, DeltaError, EncodeError};
 pub use oct_ops::OpList;
 pub use output::{put_bytes, put_u32};
 pub use reader::{Reader, decode_pieces};
+pub use text_ops::{TextOps, read_ops};

@@ -1,22 +1,8 @@
-use Rattle.std.proofs.Common.{◌≡◌, ℕ, true, false, List, is_some, Result, Ok, Err, OnOk, OnErr, refl, sym, ap, ◌∙◌, arith}
-use Rattle.std.specs.Result.{is_err}
-use Rattle.oct_ops.specs.Body.{Operation}
-use Rattle.oct_delta.specs.Delta.{IsList}
+use Rattle.std.proofs.Common.{is_some, refl, sym, ap, ◌∙◌, arith}
 use Rattle.oct_delta.specs.Formats.{format}
-use Rattle.oct_delta.proofs.Decoded.{no_tag, no_list, no_room, whole}
+use Rattle.oct_delta.proofs.Decoded.{no_tag, no_list, no_room, none_along, on_err, on_ok, whole}
 use Rattle.oct_delta.proofs.Deltas.{list_along}
 use Rattle.oct_delta.proofs.decoding.decode.Goals as goal
-
-on_err : {T E : Type 0} {P : Type 0} (r : Result T E) → is_err r ≡ true → OnErr r P → P
-on_err (Ok x) e h = absurd cc
-on_err (Err x) e h = h
-
-on_ok : {T E : Type 0} {P : Type 0} (r : Result T E) → is_err r ≡ false → OnOk r P → P
-on_ok (Ok x) e h = h
-on_ok (Err x) e h = absurd cc
-
-none_along : (limit other : ℕ) (bytes : List ℕ) → limit ≡ other → ((ops : List Operation) → IsList limit bytes ops → ⊥) → (ops : List Operation) → IsList other bytes ops → ⊥
-none_along limit other bytes e none ops is = none ops (rw e is)
 
 pub returns-in_default : goal.returns-in_default
 returns-in_default g c =
