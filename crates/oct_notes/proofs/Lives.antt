@@ -1,7 +1,7 @@
 -- The live notes of a set, as the loops gather them.
-use Rattle.std.proofs.Common.{arith, ◌≡◌, ℕ, ◌+◌, ◌≤◌, ◌<◌, ◌==◌, Bool, true, false, not, ◌&&◌, ◌||◌, cond, List, [], ◌∷◌, ◌++◌, map, length, get_or, sym, ap, ◌∙◌, subst, append_assoc}
+use Rattle.std.proofs.Common.{◌≡◌, ℕ, ◌==◌, Bool, true, false, not, ◌&&◌, ◌||◌, cond, List, [], ◌∷◌, ◌++◌, map, sym, ap, ◌∙◌, subst, append_assoc}
 use Rattle.std.proofs.lemmas.Cmp.{nat_list_cmp_total}
-use Rattle.std.proofs.lemmas.List.{append-nil, get_or-map, length-map}
+use Rattle.std.proofs.lemmas.List.{append-nil}
 use Rattle.std.proofs.lemmas.List.Folds.{list_any-append}
 use Rattle.std.specs.List.{filter, list_any, list_all, dedup, AllByRecursion}
 use Rattle.std.specs.List.Sorted.{IsSorted, IsPermutation}
@@ -51,19 +51,14 @@ live_left ops dots are o = ap (λ b. is_note o.body && not b) (are o.dot)
 filter_rises : (p : Operation → Bool) (ops : Operations) → rises op_cmp (filter p (listed ops)) ≡ true
 filter_rises p ops = ap (rises op_cmp) (sym (listed-keep op_cmp_total op_cmp_exact p ops)) ∙ listed-rises op_cmp (keep p ops)
 
-pub sorted_are_live : (ops : Operations) (dots : List Dot) (done notes rest : List Operation) → AreRemoved (listed ops) dots → rest ≡ [] → done ++ filter (leaves dots) rest ≡ filter (leaves dots) (listed ops) → IsPermutation done notes → IsSorted note_order notes → notes ≡ live_notes (listed ops)
-sorted_are_live ops dots done notes rest are none before permuted sorted =
-    let is : done ≡ filter (is_live (listed ops)) (listed ops) =
+pub left_are_live : (ops : Operations) (dots : List Dot) (done rest : List Operation) → AreRemoved (listed ops) dots → rest ≡ [] → done ++ filter (leaves dots) rest ≡ filter (leaves dots) (listed ops) → done ≡ filter (is_live (listed ops)) (listed ops)
+left_are_live ops dots done rest are none before =
     sym (append-nil done) ∙ sym (ap (λ l. done ++ filter (leaves dots) l) none) ∙ before
-    ∙ same_test (leaves dots) (is_live (listed ops)) (live_left (listed ops) dots are) (listed ops) in
-    sorted_is_arranged op_cmp note_order op_cmp_total op_cmp_exact note_order_total note_order_exact (filter (is_live (listed ops)) (listed ops)) notes (filter_rises (is_live (listed ops)) ops) (subst (λ l. IsPermutation l notes) is permuted) sorted
+    ∙ same_test (leaves dots) (is_live (listed ops)) (live_left (listed ops) dots are) (listed ops)
 
--- what is sorted by what is seen of each item is seen sorted
-pub sorted_values : {X : Type 0} (see : X → Operation) (xs : List X) → ((k : ℕ) (d : X) → 0 ≤ k → k + 1 < length xs → is_lt (note_order (see (get_or xs (k + 1) d)) (see (get_or xs k d))) ≡ false) → IsSorted note_order (map see xs)
-sorted_values see [] sorted k d low high = absurd (omega (arith, high))
-sorted_values see (x ∷ xs) sorted k d low high =
-    let within : k + 1 < length (x ∷ xs) = subst (λ n. k + 1 < n) (length-map (x ∷ xs) see) high in
-    rw (get_or-map see (x ∷ xs) (k + 1) x d within, get_or-map see (x ∷ xs) k x d (omega (arith, within))) (sorted k x low within)
+pub sorted_are_live : (ops : Operations) (left notes : List Operation) → left ≡ filter (is_live (listed ops)) (listed ops) → IsPermutation left notes → IsSorted note_order notes → notes ≡ live_notes (listed ops)
+sorted_are_live ops left notes is permuted sorted =
+    sorted_is_arranged op_cmp note_order op_cmp_total op_cmp_exact note_order_total note_order_exact (filter (is_live (listed ops)) (listed ops)) notes (filter_rises (is_live (listed ops)) ops) (subst (λ l. IsPermutation l notes) is permuted) sorted
 
 -- ---- the dots of the live notes of a name
 

@@ -16,7 +16,9 @@
 #![tactic(auto)]
 
 pub mod laws;
+mod name;
 mod notes;
 mod removed;
+mod row;
 
 pub use notes::Notes;

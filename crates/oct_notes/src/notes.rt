@@ -1,17 +1,18 @@
 //! A set of notes and their removals.
 
 ghost use Rattle.std.specs.Prelude.{◌≡◌, ◌↔◌, length, map, false, IsTrue, IfOk, IfErr, OnOk, OnErr};
+ghost use Rattle.std.specs.List.{filter};
 ghost use Rattle.oct_ops.specs.Operations.{empty, insert, remove, contains, listed, union, IsSubset};
 ghost use Rattle.oct_ops.specs.OrderLaws.{op_cmp_total, op_cmp_exact};
-ghost use Rattle.oct_ops.specs.Views.{content};
 ghost use Rattle.oct_join.specs.SetBounds.{subset_order, union_bound};
 ghost use Rattle.oct_notes.specs.Notes as spec;
 
+use crate::name::is_named;
 use crate::removed::Removed;
+use crate::row::Row;
 use oct_join::{Join, OpSet, Ops};
 use oct_ops::{Body, Dot, Op};
 use std::alloc::{AllocError, Allocator};
-use std::cmp::Ordering;
 use std::marker::Model;
 use std::rc::Rc;
 
@@ -133,15 +134,12 @@ impl<A: Allocator + Copy> Notes<A> {
     pub fn live_refs(&self) -> Result<Vec<&Op<A>, A>, AllocError>
         ensures { IfOk result (λ live. map (λ op. op.now) live.items ≡ spec.live_notes (listed self.now)) }
     {
-        let removed = self.removed()?;
-        let mut live = Vec::new(self.alloc);
-        for op in self.iter() {
-            if !removed.leaves(op) {
-                continue;
-            }
-            live.push(op)?;
+        let mut rows = self.rows()?;
+        rows.sort_unstable_by(|row, other| row.order(other));
+        let mut live = Vec::with_capacity(self.alloc, rows.len())?;
+        for row in &rows {
+            live.push(row.note())?;
         }
-        live.sort_unstable_by(|note, other| by_name(note, other));
         Ok(live)
     }
 
@@ -180,6 +178,21 @@ impl<A: Allocator + Copy> Notes<A> {
         self.ops.iter()
     }
 
+    // The live notes, in the order of operations.
+    fn rows(&self) -> Result<Vec<Row<'_, A>, A>, AllocError>
+        ensures { IfOk result (λ rows. rows.items ≡ filter (spec.is_live (listed self.now)) (listed self.now)) }
+    {
+        let removed = self.removed()?;
+        let mut rows = Vec::new(self.alloc);
+        for op in self.iter() {
+            if !removed.leaves(op) {
+                continue;
+            }
+            rows.push(Row::new(op))?;
+        }
+        Ok(rows)
+    }
+
     // The dots that the removals name.
     fn removed(&self) -> Result<Removed<A>, AllocError>
         ensures { IfOk result (spec.AreRemoved (listed self.now)) }
@@ -191,33 +204,6 @@ impl<A: Allocator + Copy> Notes<A> {
             }
         }
         Ok(Removed::new(dots))
-    }
-}
-
-// The name of a note; other bodies have none.
-fn name_of<A: Allocator>(body: &Body<A>) -> &[u8]
-    ensures { result.now ≡ spec.name_of (content body.now) }
-{
-    match body {
-        Body::Note(note) => note.name(),
-        Body::Block(_) | Body::Period(_) | Body::Removal(_) => &[],
-    }
-}
-
-// Whether this is the name of the note.
-fn is_named<A: Allocator>(op: &Op<A>, name: &[u8]) -> bool
-    ensures { result ≡ spec.is_named name.now op.now }
-{
-    name_of(op.body()) == name
-}
-
-// By name, byte by byte, and then as operations.
-fn by_name<A: Allocator>(note: &Op<A>, other: &Op<A>) -> Ordering
-    ensures { result ≡ spec.note_order note.now other.now }
-{
-    match name_of(note.body()).cmp(name_of(other.body())) {
-        Ordering::Equal => note.cmp(other),
-        names => names,
     }
 }
 
