@@ -1,5 +1,5 @@
 -- Operations of a list, taken in one after the other.
-use Rattle.std.proofs.Common.{arith, ◌≡◌, ◌↔◌, ℕ, zero, suc, ◌+◌, ◌^◌, ◌<◌, ◌≤◌, inl, inr, Some, Result, Ok, Err, IfErr, IsErrOf, Bool, true, false, not, ◌||◌, cond, List, [], ◌∷◌, ◌++◌, length, take, drop, refl, sym, ap, ◌∙◌, subst}
+use Rattle.std.proofs.Common.{Fits, w32, arith, ◌≡◌, ◌↔◌, ℕ, zero, suc, ◌+◌, ◌^◌, ◌<◌, ◌≤◌, inl, inr, Some, Result, Ok, Err, IfErr, IsErrOf, Bool, true, false, not, ◌||◌, cond, List, [], ◌∷◌, ◌++◌, length, take, drop, refl, sym, ap, ◌∙◌, subst}
 use Rattle.std.specs.Prelude.{get_or}
 use Rattle.std.specs.List.{list_all, list_any}
 use Rattle.std.specs.declared.cmp.Ordering.{Ordering}
@@ -67,6 +67,7 @@ pub record TakesAlong (old now : ReplicaContent) (list rest : List Operation) (p
   pub left : rest ≡ drop passed list
   pub count : new ≡ count_new old.ops (take passed list)
   pub few : new ≤ passed
+  pub most : passed ≤ length list
 
 pub takes_start : (old : ReplicaContent) (list rest : List Operation) → rest ≡ list → TakesAlong old old list rest 0 0
 takes_start old list rest all = record {
@@ -74,6 +75,7 @@ takes_start old list rest all = record {
   left = all;
   count = refl;
   few = omega arith;
+  most = omega arith;
 }
 
 module _ (old now : ReplicaContent) (list rest next : List Operation) (i count : ℕ) (x : Operation) (along : TakesAlong old now list rest i count) (step : rest ≡ x ∷ next) where
@@ -137,12 +139,12 @@ module _ (old now new : ReplicaContent) (list rest next : List Operation) (i cou
   pub takes_new : true ≡ not (contains now.ops x) → TakesAlong old new list next (i + 1) (count + 1)
   takes_new e =
       let more = counted true (ap not (sym seen) ∙ sym e) in
-      record { held = held_next; left = left_next old now list rest next i count x along step; count = omega (arith, along.count, more); few = omega (arith, along.few) }
+      record { held = held_next; left = left_next old now list rest next i count x along step; count = omega (arith, along.count, more); few = omega (arith, along.few); most = omega (arith, lt) }
 
   pub takes_held : false ≡ not (contains now.ops x) → TakesAlong old new list next (i + 1) count
   takes_held e =
       let more = counted false (ap not (sym seen) ∙ sym e) in
-      record { held = held_next; left = left_next old now list rest next i count x along step; count = omega (arith, along.count, more); few = omega (arith, along.few) }
+      record { held = held_next; left = left_next old now list rest next i count x along step; count = omega (arith, along.count, more); few = omega (arith, along.few); most = omega (arith, lt) }
 
 take_whole : (xs : List Operation) (i : ℕ) → length xs ≤ i → take i xs ≡ xs
 take_whole [] zero le = refl
@@ -207,3 +209,7 @@ read_set bytes ops read = ap set_of_read read
 
 pub read_list : (bytes : Bytes) (ops : List Operation) → IsDeltaText bytes ops → read_delta bytes ≡ Some ops → listed (operations_of bytes) ≡ ops
 read_list bytes ops text read = ap listed (read_set bytes ops read) ∙ listed-set_of op_cmp_total op_cmp_exact ops (text_rising bytes ops text)
+
+-- what is counted along a list of few operations fits
+pub one_more_fits : (n i k : ℕ) → n ≤ i → i < k → k < 2 ^ 32 → Fits w32 (n + 1)
+one_more_fits n i k le lt few = omega (arith, le, lt, few)

@@ -7,7 +7,7 @@ ghost use Rattle.oct_mex.specs.NimValues.{position_value as nim_sum};
 ghost use Rattle.oct_mex.specs.Periods.{IsPeriodicFrom};
 ghost use Rattle.oct_ops.specs.Body.{Operation};
 ghost use Rattle.oct_ops.specs.Operation.{dot_of, removing};
-ghost use Rattle.oct_ops.specs.Operations.{empty, insert, contains, listed, set_of, union, IsSubset};
+ghost use Rattle.oct_ops.specs.Operations.{empty, insert, contains, listed, set_of, union, IsRising, IsSubset};
 ghost use Rattle.oct_ops.specs.Valid.{IsU32};
 ghost use Rattle.oct_ops.specs.Views.{content};
 ghost use Rattle.oct_join.specs.Order.{IsBetween};
@@ -36,10 +36,10 @@ ghost use Rattle.oct_replica.specs.World.{has_number, next_op};
 use crate::computing::next_block;
 use crate::error::{AuthorError, ComputeError, IssueError, LoadError, RemovalError, TakeError};
 use crate::games::file;
-use crate::state::{decode_list, put_state, restored, split_state};
+use crate::state::{put_state, read_list, restored, split_state};
 use crate::valid::are_valid;
 use oct_code::Code;
-use oct_delta::{DeltaError, EncodeError, decode, encode};
+use oct_delta::{DeltaError, EncodeError, TextOps, encode, read_ops};
 use oct_join::Clock;
 use oct_notes::Notes;
 use oct_ops::{Block, Body, Dot, Op, OpList, Period, Removal};
@@ -130,11 +130,11 @@ impl<A: Allocator + Copy> Replica<A> {
         ensures refused { IsErrOf result TakeError.Refused ↔ (IsSome (format_at bytes.now) × ((ops : List Operation) → ¬ IsDeltaText bytes.now ops)) }
         ensures err { IfErr result (LeavesAt self.old self.new (listed (operations_of bytes.now))) }
     {
-        match decode(self.alloc, bytes) {
-            Ok(list) => self.take_list(list),
+        match read_ops(bytes) {
+            Ok(ops) => self.take_each(ops),
             Err(DeltaError::Version) => Err(TakeError::Version),
-            Err(DeltaError::Refused | DeltaError::Failed) => Err(TakeError::Refused),
-            Err(DeltaError::OutOfMemory) => Err(TakeError::OutOfMemory { done: 0 }),
+            Err(DeltaError::Refused) => Err(TakeError::Refused),
+            Err(DeltaError::Failed | DeltaError::OutOfMemory) => unreachable!(),
         }
     }
 
@@ -158,6 +158,34 @@ impl<A: Allocator + Copy> Replica<A> {
             done += 1;
         }
         Ok(new)
+    }
+
+    /// Takes in the operations of a text, each as it is made, and says how many of them are new. Where memory is refused, the
+    /// answer says how many operations, from the first on, are in, held before or not; no other was added.
+    pub(crate) fn take_each(&mut self, mut ops: TextOps<'_>) -> Result<u32, TakeError>
+        requires few { length ops < 2 ^ 32 }
+        requires rising { IsRising ops }
+        ensures ok { OnOk result (self.new ≡ with_all self.old (set_of ops.entry)) }
+        ensures new { IfOk result (λ new. new ≡ count_new self.old.ops ops.entry) }
+        ensures err { IfErr result (IsCutBy self.old self.new ops.entry) }
+    {
+        let mut done = 0;
+        let mut new = 0;
+        loop {
+            let Ok(next) = ops.next(self.alloc) else {
+                return Err(TakeError::OutOfMemory { done });
+            };
+            let Some(op) = next else {
+                return Ok(new);
+            };
+            let Ok(is_new) = self.insert(op) else {
+                return Err(TakeError::OutOfMemory { done });
+            };
+            if is_new {
+                new += 1;
+            }
+            done += 1;
+        }
     }
 
     /// Takes in the operations of another replica; the author stays. After a refusal the set is one between the old set and
@@ -414,10 +442,8 @@ impl<A: Allocator + Copy> Replica<A> {
         ensures err { IfErr result (RefusesState bytes.now) }
     {
         let (author, delta) = split_state(bytes)?;
-        match decode_list(alloc, delta) {
-            Ok(list) => restored(alloc, author, list),
-            Err(refused) => Err(refused),
-        }
+        let ops = read_list(delta)?;
+        restored(alloc, author, ops)
     }
 
     // The dot of what the author issues next, under the number after its greatest; none after the last number.

@@ -1,7 +1,7 @@
 //! An author and a set of operations as bytes.
 
 ghost use Rattle.std.specs.Prelude.{◌≡◌, ◌↔◌, ◌≤◌, ◌<◌, ◌^◌, ◌++◌, ℕ, List, length, true, false, IfSome, IsNone, IfOk, IfErr, OnOk};
-ghost use Rattle.oct_ops.specs.Operations.{set_of};
+ghost use Rattle.oct_ops.specs.Operations.{set_of, IsRising};
 ghost use Rattle.oct_delta.specs.Delta.{IsDeltaText};
 ghost use Rattle.oct_delta.specs.State.{state_tag};
 ghost use Rattle.oct_delta.specs.Text.{Bytes};
@@ -11,9 +11,8 @@ ghost use Rattle.oct_replica.specs.States.{has_tag, state_text, IsAuthored, IsHe
 use crate::error::LoadError;
 use crate::replica::Replica;
 use byteorder::{BigEndian, ByteOrder};
-use oct_delta::{DeltaError, EncodeError, decode, encode_each, put_bytes, put_u32};
+use oct_delta::{DeltaError, EncodeError, TextOps, encode_each, put_bytes, put_u32, read_ops};
 use oct_join::Ops;
-use oct_ops::{Op, OpList};
 use std::alloc::Allocator;
 
 /// Appends the text of an author and the operations of its set. After a refusal what was there before is at the front.
@@ -70,36 +69,33 @@ fn split_author(bytes: &[u8]) -> Option<(u32, &[u8])>
 }
 
 /// The operations of a state's text.
-pub(crate) fn decode_list<A: Allocator + Copy>(
-    alloc: A,
-    bytes: &[u8],
-) -> Result<OpList<A>, LoadError>
-    ensures ok { IfOk result (λ list. IsDeltaText bytes.now list) }
+pub(crate) fn read_list(bytes: &[u8]) -> Result<TextOps<'_>, LoadError>
+    ensures ok { IfOk result (λ ops. IsDeltaText bytes.now ops) }
     ensures err { IfErr result (RefusesList bytes.now) }
 {
-    match decode(alloc, bytes) {
-        Ok(list) => Ok(list),
+    match read_ops(bytes) {
+        Ok(ops) => Ok(ops),
         Err(DeltaError::Version | DeltaError::Refused) => Err(LoadError::Refused),
-        Err(DeltaError::OutOfMemory) => Err(LoadError::OutOfMemory),
-        Err(DeltaError::Failed) => unreachable!(),
+        Err(DeltaError::OutOfMemory | DeltaError::Failed) => unreachable!(),
     }
 }
 
-/// The replica of an author and its list.
+/// The replica of an author and its operations.
 pub(crate) fn restored<A: Allocator + Copy>(
     alloc: A,
     author: u32,
-    list: OpList<A>,
+    ops: TextOps<'_>,
 ) -> Result<Replica<A>, LoadError>
     requires author { 1 ≤ author }
-    requires few { length list < 2 ^ 32 }
-    ensures ok { IfOk result (λ replica. replica ≡ record { author = author; ops = set_of list }) }
+    requires few { length ops < 2 ^ 32 }
+    requires rising { IsRising ops }
+    ensures ok { IfOk result (λ replica. replica ≡ record { author = author; ops = set_of ops.entry }) }
     ensures err { IfErr result (λ e. e ≡ LoadError.OutOfMemory) }
 {
     let Ok(mut replica) = Replica::new(alloc, author) else {
         unreachable!();
     };
-    match replica.take_list(list) {
+    match replica.take_each(ops) {
         Ok(_) => Ok(replica),
         Err(_) => Err(LoadError::OutOfMemory),
     }

@@ -6,9 +6,9 @@ use Rattle.oct_replica.specs.Content.{ReplicaContent}
 use Rattle.oct_replica.specs.Taking.{with_all}
 use Rattle.oct_replica.proofs.state.restored.Goals as goal
 
-pub returns-in-Ok-take_list-clause-ok : goal.returns-in-Ok-take_list-clause-ok
-returns-in-Ok-take_list-clause-ok g c =
-    let all = set_of c.args.list in
-    c.in-Ok-take_list.ensures.ok
+pub returns-in-Ok-take_each-clause-ok : goal.returns-in-Ok-take_each-clause-ok
+returns-in-Ok-take_each-clause-ok g c =
+    let all = set_of c.args.ops in
+    c.in-Ok-take_each.ensures.ok
     ∙ ap (λ (r : ReplicaContent). with_all r all) c.in-Ok.ensures.ok
     ∙ ap (λ s. record { author = c.args.author; ops = s }) (union_comm op_cmp_total op_cmp_exact empty all ∙ union-empty op_cmp_total op_cmp_exact all)

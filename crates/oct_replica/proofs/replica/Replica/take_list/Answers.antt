@@ -1,13 +1,9 @@
-use Rattle.std.proofs.Common.{◌≡◌, ℕ, suc, ◌+◌, ◌^◌, ◌<◌, ◌≤◌, Fits, w32, arith, length, sym, ap, subst, ◌∙◌}
+use Rattle.std.proofs.Common.{◌≡◌, ℕ, suc, ◌+◌, arith, length, sym, ap, subst, ◌∙◌}
 use Rattle.std.proofs.lemmas.List.{nil_from_length}
 use Rattle.std.specs.Vec.Iter.{into_iter_items}
-use Rattle.oct_replica.proofs.Taking.{TakesAlong, takes_start, takes_new, takes_held, takes_cut, takes_done, within}
+use Rattle.oct_replica.proofs.Taking.{TakesAlong, one_more_fits, takes_start, takes_new, takes_held, takes_cut, takes_done, within}
 use Rattle.oct_replica.proofs.replica.Replica.take_list.Goals as goal
 use Rattle.oct_replica.proofs.replica.Replica.take_list.Goals.{then-is_new, else-is_new}
-
--- what is counted along a list of few operations fits
-one_more_fits : (n i k : ℕ) → n ≤ i → i < k → k < 2 ^ 32 → Fits w32 (n + 1)
-one_more_fits n i k le lt few = omega (arith, le, lt, few)
 
 pub loop-op-init : goal.loop-op-init
 loop-op-init g c = record {
