@@ -30,7 +30,7 @@ pub(crate) fn claim(alloc: Global, state: &[u8], code: &[u8], file: &[u8]) -> Re
     let file = read_bfile(alloc, file)?;
     let dots = claim_values(alloc, &mut replica, code, &file)?;
     let text = claimed_line(alloc, dots.first, dots.last)?;
-    save(alloc, &replica, text)
+    save(alloc, &replica, state.len(), text)
 }
 
 // The first and the last dot of what was issued.

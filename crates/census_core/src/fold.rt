@@ -34,11 +34,30 @@ pub fn fold_lines<A: Allocator + Copy, R: Read, W: Write>(
     ensures too_long { IsErrOf result Fault.TooLong → IfSome (R.remaining reader.old) (λ input. INPUT_LIMIT < length input) }
     ensures faults { IfErr result IsFoldFault }
 {
+    let intake = fold_intake(alloc, reader, writer)?;
+    Ok(intake.refused)
+}
+
+/// Does what `fold_lines` does, and gives what the lines came to, so that its memory is given back when the caller likes.
+pub fn fold_intake<A: Allocator + Copy, R: Read, W: Write>(
+    alloc: A,
+    reader: &mut R,
+    writer: &mut W,
+) -> Result<Intake<A>, Fault>
+    ensures text { OnOk result (IfSome (R.remaining reader.old) (λ input. Appends (W.contents writer.old) (W.contents writer.new) (folded input))) }
+    ensures taken { IfOk result (λ intake. IfSome (R.remaining reader.old) (λ input. intake.replica.ops ≡ taken input)) }
+    ensures refused { IfOk result (λ intake. IfSome (R.remaining reader.old) (λ input. intake.refused ≡ refused input)) }
+    ensures fits { OnOk result (IfSome (R.remaining reader.old) (λ input. length input ≤ INPUT_LIMIT)) }
+    ensures prefix { IsErrOf result Fault.Write → IfSome (R.remaining reader.old) (λ input. AppendsPrefix (W.contents writer.old) (W.contents writer.new) (folded input)) }
+    ensures unwritten { IfErr result (λ e. e ≢ Fault.Write → Keeps (W.contents writer.old) (W.contents writer.new)) }
+    ensures too_long { IsErrOf result Fault.TooLong → IfSome (R.remaining reader.old) (λ input. INPUT_LIMIT < length input) }
+    ensures faults { IfErr result IsFoldFault }
+{
     let intake = read_lines(alloc, reader)?;
     let mut text = Vec::new(alloc);
     intake.replica.catalogue(&mut text)?;
     write_out(writer, &text)?;
-    Ok(intake.refused)
+    Ok(intake)
 }
 
 // Goes over the lines of the whole input.

@@ -17,15 +17,20 @@ use oct_replica::Replica;
 use serde_json::Value;
 use std::alloc::Global;
 
-// Issues an operation of this body, and writes the state.
-fn issue(alloc: Global, mut replica: Replica<Global>, body: Body<Global>) -> Result<Reply, Fault>
+// Issues an operation of this body, and writes the state, whose text was so long when it was read.
+fn issue(
+    alloc: Global,
+    mut replica: Replica<Global>,
+    read: usize,
+    body: Body<Global>,
+) -> Result<Reply, Fault>
     ensures ok { IfOk result (λ reply. issued replica (content body) ≡ Ok (answer_of reply)) }
     ensures err { IfErr result (λ e. e ≢ Fault.OutOfMemory → issued replica (content body) ≡ Err e) }
 {
     match replica.issue(body) {
         Ok(dot) => {
             let text = issued_line(alloc, dot)?;
-            save(alloc, &replica, text)
+            save(alloc, &replica, read, text)
         }
         Err((refused, _)) => Err(Fault::from(refused)),
     }
@@ -38,7 +43,7 @@ pub(crate) fn import(alloc: Global, state: &[u8], file: &[u8]) -> Result<Reply, 
 {
     let replica = load(alloc, state)?;
     let block = read_block(alloc, file)?;
-    issue(alloc, replica, Body::Block(block))
+    issue(alloc, replica, state.len(), Body::Block(block))
 }
 
 // The block of a JSON file.
@@ -63,7 +68,7 @@ pub(crate) fn compute(alloc: Global, state: &[u8], code: &[u8], count: u32) -> R
     let replica = load(alloc, state)?;
     let code = read_code(code)?;
     let block = replica.compute(code, count)?;
-    issue(alloc, replica, Body::Block(block))
+    issue(alloc, replica, state.len(), Body::Block(block))
 }
 
 /// Issues a period claim.
@@ -80,7 +85,7 @@ pub(crate) fn period(
     let replica = load(alloc, state)?;
     let code = read_code(code)?;
     let claim = Period::new(code, start, period)?;
-    issue(alloc, replica, Body::Period(claim))
+    issue(alloc, replica, state.len(), Body::Period(claim))
 }
 
 /// Issues a note.
@@ -90,7 +95,7 @@ pub(crate) fn note(alloc: Global, state: &[u8], name: &[u8], text: &[u8]) -> Res
 {
     let replica = load(alloc, state)?;
     let note = Note::new(alloc, name, text)?;
-    issue(alloc, replica, Body::Note(note))
+    issue(alloc, replica, state.len(), Body::Note(note))
 }
 
 /// Issues the removal of the live notes of a name.
@@ -100,5 +105,5 @@ pub(crate) fn unnote(alloc: Global, state: &[u8], name: &[u8]) -> Result<Reply, 
 {
     let replica = load(alloc, state)?;
     let removal = replica.removal(name)?;
-    issue(alloc, replica, Body::Removal(removal))
+    issue(alloc, replica, state.len(), Body::Removal(removal))
 }

@@ -1,6 +1,6 @@
 //! What the program does between its input and its output.
 //!
-//! - `fold_lines` reads lines of deltas, and writes the catalogue of what they say.
+//! - `fold_lines` reads lines of deltas, and writes the catalogue of what they say; `fold_intake` also gives what they came to.
 //! - `perform` does a `Request`, from the bytes of the state file and of another file to the `Reply` that is to be written;
 //!   `perform_watched` tells a `Progress` how far it is.
 //! - `unite` makes one delta of several files.
@@ -39,7 +39,7 @@ mod words;
 
 pub use command::{perform, perform_watched};
 pub use fault::Fault;
-pub use fold::fold_lines;
+pub use fold::{fold_intake, fold_lines};
 pub use import::import_block;
 pub use import_error::ImportError;
 pub use input::{INPUT_LIMIT, read_whole};
@@ -47,5 +47,6 @@ pub use progress::Progress;
 pub use reply::Reply;
 pub use request::Request;
 pub use states::rejoin;
+pub use taken::Intake;
 pub use unions::unite;
 pub use words::number;

@@ -26,12 +26,21 @@ pub(crate) fn load(alloc: Global, state: &[u8]) -> Result<Replica<Global>, Fault
     Ok(replica)
 }
 
-/// The reply that writes the replica's state, and this text.
-pub(crate) fn save(alloc: Global, replica: &Replica<Global>, text: Vec<u8>) -> Result<Reply, Fault>
+// How much a state's text may grow by what a command issues, before more memory is asked for.
+const GROWTH: usize = 65_536;
+
+/// The reply that writes the replica's state, and this text. The state's text was so long when it was read: as much memory
+/// and a little more is asked for at once.
+pub(crate) fn save(
+    alloc: Global,
+    replica: &Replica<Global>,
+    read: usize,
+    text: Vec<u8>,
+) -> Result<Reply, Fault>
     ensures ok { IfOk result (λ reply. saved replica.now text.items ≡ Ok (answer_of reply)) }
     ensures err { IfErr result (λ e. e ≢ Fault.OutOfMemory → saved replica.now text.items ≡ Err e) }
 {
-    let mut state = Vec::new(alloc);
+    let mut state = Vec::with_capacity(alloc, read.saturating_add(GROWTH))?;
     replica.save(&mut state)?;
     Ok(Reply {
         state: Some(state),
@@ -49,7 +58,7 @@ pub(crate) fn init(alloc: Global, id: u32) -> Result<Reply, Fault>
         return Err(Fault::Zero);
     };
     let text = number_line(alloc, b"author ", u64::from(id))?;
-    save(alloc, &replica, text)
+    save(alloc, &replica, 0, text)
 }
 
 /// Takes the file's delta in.
@@ -61,7 +70,12 @@ pub(crate) fn merge(alloc: Global, state: &[u8], file: &[u8]) -> Result<Reply, F
     let mut replica = load(alloc, state)?;
     let new = replica.take(file)?;
     let text = number_line(alloc, b"new ", u64::from(new))?;
-    save(alloc, &replica, text)
+    save(
+        alloc,
+        &replica,
+        state.len().saturating_add(file.len()),
+        text,
+    )
 }
 
 /// What is to be written after a session: the union of what the state file holds now, for another command may have changed
@@ -80,5 +94,5 @@ pub fn rejoin(alloc: Global, state: &[u8], held: &Replica<Global>) -> Result<Rep
     kept.join(held)?;
     let all = kept.len();
     let text = union_line(alloc, all - before, all)?;
-    save(alloc, &kept, text)
+    save(alloc, &kept, state.len(), text)
 }

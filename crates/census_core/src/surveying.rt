@@ -44,7 +44,7 @@ pub(crate) fn give_turns<P: Progress>(
     let mut replica = load(alloc, state)?;
     let codes = read_codes(alloc, codes)?;
     let text = turns(alloc, &mut replica, count, &codes, aim, progress)?;
-    save(alloc, &replica, text)
+    save(alloc, &replica, state.len(), text)
 }
 
 // Gives each game its turn, and a line.

@@ -21,11 +21,11 @@ use std::io::{BufRead, ErrorKind};
 
 /// What the lines of an input come to.
 #[derive(Drop)]
-pub(crate) struct Intake<A: Allocator + Copy> {
+pub struct Intake<A: Allocator + Copy> {
     /// The replica that took them.
-    pub(crate) replica: Replica<A>,
+    pub replica: Replica<A>,
     /// How many filled lines it did not take.
-    pub(crate) refused: u64,
+    pub refused: u64,
 }
 
 /// Goes over the lines of an input, which may have so many bytes.

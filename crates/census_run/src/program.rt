@@ -6,13 +6,14 @@ use crate::network::{hub, serve, sync};
 use crate::progress_line::ProgressLine;
 use crate::state_file::StateFile;
 use crate::task::{Task, read_task};
-use census_core::{Fault, Progress, Reply, Request, fold_lines, perform, perform_watched, unite};
+use census_core::{Fault, Progress, Reply, Request, fold_intake, perform, perform_watched, unite};
 use clap::error::ErrorKind;
 use oct_sync::write_out;
 use std::alloc::Global;
 use std::convert::AsStr;
 use std::fs::File;
 use std::io::{Read, Write};
+use std::mem;
 use std::net::{Net, TcpListener, TcpStream};
 use std::rt::Files;
 use std::time::Clock;
@@ -143,8 +144,10 @@ fn fold<I: Read, O: Write, E: Write>(
     output: &mut O,
     errors: &mut E,
 ) -> Result<(), Fault> {
-    let refused = fold_lines(alloc, input, output)?;
-    let _ = writeln!(errors, "refused {refused}");
+    let intake = fold_intake(alloc, input, output)?;
+    let _ = writeln!(errors, "refused {}", intake.refused);
+    // The program ends here: to give back each operation first would take a fifth of the time.
+    mem::forget(intake);
     Ok(())
 }
 

@@ -5,7 +5,7 @@ use Rattle.oct_ops.specs.Operations.{Operations, listed}
 use Rattle.oct_pages.specs.Catalogue.{catalogue}
 use Rattle.oct_sync.specs.Output.{AppendsPrefix}
 use Rattle.census_core.specs.Folded.{folded, taken}
-use Rattle.census_core.proofs.fold.fold_lines.Goals as goal
+use Rattle.census_core.proofs.fold.fold_intake.Goals as goal
 
 -- what holds of the text holds of the input's, where the input is known
 told : (Holds : Bytes → Type 0) (input : Option Bytes) (ops : Operations) (text : Bytes) → IfSome input (λ x. ops ≡ taken x) → text ≡ catalogue (listed ops) → Holds text
