@@ -47,11 +47,34 @@ out_of_date() {
 
 # Whether dist/check, after a build of these sources, says that dist/ is out of date, and what mends it.
 checked_as_different() {
-  mkdir -p crates/census/out
-  cp -p executable crates/census/out/census
+  build
   refused dist/check
   grep -q 'make dist' said
   rm -rf crates/*/out
+}
+
+# Whether dist/check passes after a build of these sources, and says with which kit the same bytes were released and which is here.
+checked_as_the_same() {
+  build
+  dist/check >said
+  grep -q 'byte for byte' said
+  grep -q "released with the kit 'a kit', and the kit here is 'a kit of another day'" said
+  rm -rf crates/*/out
+}
+
+# Whether dist/check passes after a build of these sources into other bytes, and says that this kit does not vouch for those.
+checked_as_vouched_for_elsewhere() {
+  build
+  dist/check >said 2>&1
+  grep -q "'a kit of another day', makes another executable of these sources than 'a kit'" said
+  grep -q 'not vouched for here' said
+  rm -rf crates/*/out
+}
+
+# Puts what the kit makes of these sources where a build stands.
+build() {
+  mkdir -p crates/census/out
+  cp -p executable crates/census/out/census
 }
 
 # Whether ./census runs the released executable and asks no kit.
@@ -106,14 +129,25 @@ out_of_date
 sed -i '$d' crates.txt
 up_to_date
 
-# One byte of the released executable is another; the kit is another one; the machine is another one.
+# One byte of the released executable is another, and the kit is that of the release: refused. Nothing is built: refused.
 sed -i 's/built/boilt/' dist/census-x86_64-linux
 checked_as_different
+refused dist/check
+grep -q 'no build of these sources' said
+
+# The kit is of another day. The same bytes pass, and both kits are named; other bytes pass as not vouched for; sources that are
+# not those of the release are refused.
+echo 'a kit of another day' >kit
+checked_as_vouched_for_elsewhere
 cp -p executable dist/census-x86_64-linux
 up_to_date
-echo 'another kit' >kit
+checked_as_the_same
+echo >>crates.txt
 checked_as_different
+sed -i '$d' crates.txt
 echo 'a kit' >kit
+
+# The machine is another one.
 printf '#!/bin/sh\necho Linux aarch64\n' >bin/uname
 chmod +x bin/uname
 refused ./census show
