@@ -97,6 +97,17 @@ impl<A: Allocator + Copy> Store<A> {
         self.ops.insert_shared(op)
     }
 
+    /// Puts in an operation that is shared, and says whether it is new. Memory can be refused only for one that is not there;
+    /// then the set stays as it is.
+    pub fn share(&mut self, op: &Rc<Op<A>, A>) -> Result<bool, AllocError>
+        ensures added { IfOk result (λ added. added ≡ not (contains self.old op.now.value)) }
+        ensures ok { OnOk result (self.new ≡ insert self.old op.now.value) }
+        ensures err { OnErr result (self.new ≡ self.old) }
+        ensures absent { OnErr result (contains self.old op.now.value ≡ false) }
+    {
+        self.ops.share(op)
+    }
+
     /// Takes the operation out, and says whether it was there.
     pub fn remove(&mut self, op: &Op<A>) -> bool
         ensures was { result ≡ contains self.old op.now }

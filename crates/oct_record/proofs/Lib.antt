@@ -1,0 +1,4 @@
+pub mod Along
+mod Beside
+mod Removing
+pub mod StateTexts

@@ -1,0 +1,9 @@
+pub use Rattle.oct_ops.specs.Operations
+pub use Rattle.oct_store.specs.Summary
+pub mod Content
+pub mod Index
+pub mod Kept
+pub mod Removals
+pub mod States
+pub mod Taking
+pub mod Valid
