@@ -25,3 +25,4 @@ mod valid;
 pub use error::{AuthorError, IssueError, LoadError, RemovalError, TakeError};
 pub use holder::Holder;
 pub use record::Record;
+pub use state::read_state;

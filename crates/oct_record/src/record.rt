@@ -4,7 +4,7 @@ ghost use Rattle.std.specs.Prelude.{◌≡◌, ◌↔◌, ◌+◌, ◌≤◌, �
 ghost use Rattle.std.specs.Option.{is_some, option_copied, unwrap_or};
 ghost use Rattle.oct_ops.specs.Body.{Operation};
 ghost use Rattle.oct_ops.specs.Operation.{dot_of, removing};
-ghost use Rattle.oct_ops.specs.Operations.{empty, insert, remove, contains, listed, set_of, union, IsRising, IsSubset};
+ghost use Rattle.oct_ops.specs.Operations.{empty, insert, remove, contains, listed, set_of, union, IsSubset};
 ghost use Rattle.oct_ops.specs.Valid.{IsU32};
 ghost use Rattle.oct_ops.specs.Views.{content};
 ghost use Rattle.oct_join.specs.Order.{IsBetween};
@@ -23,11 +23,11 @@ ghost use Rattle.oct_record.specs.Valid.{AreValid};
 use crate::error::{AuthorError, IssueError, LoadError, RemovalError, TakeError};
 use crate::holder::Holder;
 use crate::index::{file, unfile};
-use crate::state::{put_state, read_list, split_state};
+use crate::state::{put_state, read_state};
 use crate::taking::{issue, join, take, take_each, take_list};
 use crate::valid::are_valid;
 use oct_code::Code;
-use oct_delta::{EncodeError, TextOps, encode};
+use oct_delta::{EncodeError, encode};
 use oct_join::{Clock, OpSet};
 use oct_notes::Notes;
 use oct_ops::{Body, Dot, Op, OpList, Removal};
@@ -280,9 +280,14 @@ impl<A: Allocator + Copy> Record<A> {
         ensures ok { IfOk result (λ said. IsState bytes.now said.author said.ops) }
         ensures err { IfErr result (RefusesState bytes.now) }
     {
-        let (author, delta) = split_state(bytes)?;
-        let ops = read_list(delta)?;
-        restored(alloc, author, ops)
+        let (author, ops) = read_state(bytes)?;
+        let Ok(mut said) = Record::new(alloc, author) else {
+            unreachable!();
+        };
+        match take_each(&mut said, ops) {
+            Ok(_) => Ok(said),
+            Err(_) => Err(LoadError::OutOfMemory),
+        }
     }
 
     /// The dot of what the author issues next, under the number after its greatest; none after the last number.
@@ -309,27 +314,6 @@ impl<A: Allocator + Copy> Holder<A> for Record<A> {
 
     fn share(&mut self, op: &Rc<Op<A>, A>) -> Result<bool, AllocError> {
         Record::share(self, op)
-    }
-}
-
-// The record of an author and its operations.
-fn restored<A: Allocator + Copy>(
-    alloc: A,
-    author: u32,
-    ops: TextOps<'_>,
-) -> Result<Record<A>, LoadError>
-    requires author { 1 ≤ author }
-    requires few { length ops < 2 ^ 32 }
-    requires rising { IsRising ops }
-    ensures ok { IfOk result (λ said. said ≡ record { author = author; ops = set_of ops.entry }) }
-    ensures err { IfErr result (λ e. e ≡ LoadError.OutOfMemory) }
-{
-    let Ok(mut said) = Record::new(alloc, author) else {
-        unreachable!();
-    };
-    match take_each(&mut said, ops) {
-        Ok(_) => Ok(said),
-        Err(_) => Err(LoadError::OutOfMemory),
     }
 }
 

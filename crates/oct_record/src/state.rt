@@ -1,8 +1,9 @@
 //! An author and a set of operations as bytes.
 
-ghost use Rattle.std.specs.Prelude.{◌≡◌, ◌++◌, ℕ, false, IfSome, IsNone, IfOk, IfErr, OnOk};
+ghost use Rattle.std.specs.Prelude.{◌≡◌, ◌≢◌, ◌≤◌, ◌<◌, ◌^◌, ◌++◌, ℕ, false, length, IfSome, IsNone, IfOk, IfErr, OnOk};
+ghost use Rattle.oct_ops.specs.Operations.{set_of, IsRising};
 ghost use Rattle.oct_delta.specs.Delta.{IsDeltaText};
-ghost use Rattle.oct_delta.specs.State.{state_tag};
+ghost use Rattle.oct_delta.specs.State.{state_tag, IsState};
 ghost use Rattle.oct_delta.specs.Text.{Bytes};
 ghost use Rattle.oct_delta.specs.Writing.{Keeps};
 ghost use Rattle.oct_record.specs.States.{has_tag, state_text, IsAuthored, IsHeaded, RefusesList, RefusesState};
@@ -28,10 +29,27 @@ pub(crate) fn put_state<A: Allocator>(
     encode_each(ops, out)
 }
 
-/// The author of a state's text, and what follows it.
-pub(crate) fn split_state(bytes: &[u8]) -> Result<(u32, &[u8]), LoadError>
+/// The author of a state's text, which is at least 1, and its operations, in order. The answer is `Version` exactly where the
+/// first four bytes are not `OGS1` or are missing, and `Refused` exactly for any other bytes that are no text of a state. Takes
+/// no memory.
+pub fn read_state(bytes: &[u8]) -> Result<(u32, TextOps<'_>), LoadError>
+    ensures ok { IfOk result (λ x. IsState bytes.now x.0 (set_of x.1)) }
+    ensures author { IfOk result (λ x. 1 ≤ x.0) }
+    ensures few { IfOk result (λ x. length x.1 < 2 ^ 32) }
+    ensures rising { IfOk result (λ x. IsRising x.1) }
+    ensures err { IfErr result (RefusesState bytes.now) }
+    ensures memory { IfErr result (λ e. e ≢ LoadError.OutOfMemory) }
+{
+    let (author, delta) = split_state(bytes)?;
+    let ops = read_list(delta)?;
+    Ok((author, ops))
+}
+
+// The author of a state's text, and what follows it.
+fn split_state(bytes: &[u8]) -> Result<(u32, &[u8]), LoadError>
     ensures ok { IfOk result (λ x. IsHeaded bytes.now x.0 x.1.now) }
     ensures err { IfErr result (RefusesState bytes.now) }
+    ensures memory { IfErr result (λ e. e ≢ LoadError.OutOfMemory) }
 {
     let Some(state) = split_tag(bytes) else {
         return Err(LoadError::Version);
@@ -66,10 +84,11 @@ fn split_author(bytes: &[u8]) -> Option<(u32, &[u8])>
     Some((author, rest))
 }
 
-/// The operations of a state's text.
-pub(crate) fn read_list(bytes: &[u8]) -> Result<TextOps<'_>, LoadError>
+// The operations of a state's text.
+fn read_list(bytes: &[u8]) -> Result<TextOps<'_>, LoadError>
     ensures ok { IfOk result (λ ops. IsDeltaText bytes.now ops) }
     ensures err { IfErr result (RefusesList bytes.now) }
+    ensures memory { IfErr result (λ e. e ≢ LoadError.OutOfMemory) }
 {
     match read_ops(bytes) {
         Ok(ops) => Ok(ops),
