@@ -1,4 +1,4 @@
 pub mod Along
-mod Beside
+pub mod Beside
 mod Removing
 pub mod StateTexts

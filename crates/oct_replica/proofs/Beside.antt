@@ -1,4 +1,4 @@
--- Games and notes beside a set, after an insertion.
+-- Games beside a set, after an insertion.
 use Rattle.std.proofs.Common.{◌≡◌, Bool, true, false, not, ◌&&◌, ◌||◌, cond, List, [], ◌∷◌, Option, Some, None, IsSome, refl, sym, ap, ◌∙◌, subst}
 use Rattle.std.specs.Prelude.{IfSome}
 use Rattle.std.specs.List.{list_any, filter, filter_map, cons_option}
@@ -23,7 +23,7 @@ use Rattle.oct_period.specs.Claims.{claim_cmp}
 use Rattle.oct_period.specs.ClaimLaws.{claim_cmp_total, claim_cmp_exact}
 use Rattle.oct_period.specs.GameContent.{GameContent}
 use Rattle.oct_pages.specs.Catalogue.{blocks_of, block_in, claims_of, claim_in, if_some, under}
-use Rattle.oct_replica.specs.Beside.{Games, content_in, has_game, game_in, AreBeside, HasOwnCode, new_game, game_at, after, with_block, with_period, filed, noted}
+use Rattle.oct_replica.specs.Beside.{Games, content_in, has_game, game_in, AreBeside, HasOwnCode, new_game, game_at, after, with_block, with_period, filed}
 use Rattle.oct_replica.proofs.Inserting.{insert_option, filter_map-insert, if_true, filter-map, any-insert}
 
 -- ---- the empty set
@@ -31,11 +31,8 @@ use Rattle.oct_replica.proofs.Inserting.{insert_option, filter_map-insert, if_tr
 no_blocks : (c : Code) → has_game empty c ≡ false
 no_blocks c = ap (list_any (of_code c)) (listed-empty op_cmp_total op_cmp_exact)
 
-pub beside_nothing : (found : Games) (held : Operations) → ((c : Code) → found c ≡ None) → held ≡ empty → AreBeside empty found held
-beside_nothing found held none no_notes = record {
-  games = λ c. none c ∙ ap (λ b. cond b (Some (content_in empty c)) None) (sym (no_blocks c));
-  notes = no_notes ∙ sym (ap (λ ops. sets.set_of (filter (λ (o : Operation). concerns_notes o.body) ops)) (listed-empty op_cmp_total op_cmp_exact));
-}
+pub beside_nothing : (found : Games) → ((c : Code) → found c ≡ None) → AreBeside empty found
+beside_nothing found none c = none c ∙ ap (λ b. cond b (Some (content_in empty c)) None) (sym (no_blocks c))
 
 -- ---- the code of a game
 
@@ -43,8 +40,8 @@ own_code : (ops : Operations) (c : Code) (b : Bool) → IfSome (cond b (Some (co
 own_code ops c true = refl
 own_code ops c false = tt
 
-pub own_codes : (ops : Operations) (found : Games) (held : Operations) → AreBeside ops found held → HasOwnCode found
-own_codes ops found held beside c = subst (λ o. IfSome o (λ (game : GameContent). game.code ≡ c)) (sym (beside.games c)) (own_code ops c (has_game ops c))
+pub own_codes : (ops : Operations) (found : Games) → AreBeside ops found → HasOwnCode found
+own_codes ops found beside c = subst (λ o. IfSome o (λ (game : GameContent). game.code ≡ c)) (sym (beside c)) (own_code ops c (has_game ops c))
 
 pub own_code_at : (found : Games) (code : Code) (held : GameContent) → HasOwnCode found → Some held ≡ found code → held.code ≡ code
 own_code_at found code held own is = subst (λ o. IfSome o (λ (game : GameContent). game.code ≡ code)) (sym is) (own code)
@@ -203,44 +200,11 @@ filed_next ops d (kind.Period p) q = claim_next ops d p q (code_eq p.code q) ref
 filed_next ops d (kind.Note n) q = refl
 filed_next ops d (kind.Removal r) q = refl
 
-notes-insert : (ops : Operations) (o : Operation) → notes_of (insert ops o) ≡ noted (notes_of ops) o
-notes-insert ops o =
-    let p : Operation → Bool = λ (x : Operation). concerns_notes x.body in
-    ap (λ xs. sets.set_of (filter p xs)) (listed-insert op_cmp_total op_cmp_exact ops o)
-    ∙ ap sets.set_of (filter-map p (insert_key op_cmp (listed ops) o))
-    ∙ filter_map-insert op_cmp_exact op_cmp_total op_cmp_exact (λ x. if_true (p x) x) (listed ops) o
-    ∙ ap (λ xs. insert_option (sets.set_of xs) (if_true (p o) o)) (sym (filter-map p (listed ops)))
-    ∙ by (p o)
-  where
-    by : (b : Bool) → insert_option (notes_of ops) (if_true b o) ≡ cond b (insert (notes_of ops) o) (notes_of ops)
-    by true = refl
-    by false = refl
-
--- games and notes after an operation was put into each of the three
-pub beside_more : (ops : Operations) (old new : Games) (held more : Operations) (o : Operation) → AreBeside ops old held
-    → ((q : Code) → new q ≡ filed old o.dot o.body q) → more ≡ noted held o → AreBeside (insert ops o) new more
-beside_more ops old new held more o beside games notes = record {
-  games = λ q.
-      let are : old ≡ game_in ops = λ i c. beside.games c i in
-      games q ∙ ap (λ found. filed found o.dot o.body q) are ∙ filed_next ops o.dot o.body q ∙ sym (game_in-insert ops o q);
-  notes = notes ∙ ap (λ n. noted n o) beside.notes ∙ sym (notes-insert ops o);
-}
-
--- games and notes that are what they were
-pub beside_same : (ops : Operations) (old new : Games) (held more : Operations) → AreBeside ops old held → ((q : Code) → new q ≡ old q) → more ≡ held → AreBeside ops new more
-beside_same ops old new held more beside games notes = record { games = λ q. games q ∙ beside.games q; notes = notes ∙ beside.notes }
-
--- ---- an operation that is taken out again
-
-taken_out : (e h : Bool) → (e ≡ true → h ≡ false) → (not e && (e || h)) ≡ h
-taken_out true h absent = sym (absent refl)
-taken_out false h absent = refl
-
-pub remove-insert : (ops : Operations) (o : Operation) → contains ops o ≡ false → remove (insert ops o) o ≡ ops
-remove-insert ops o absent = same_set op_cmp_total op_cmp_exact (remove (insert ops o) o) ops (λ p.
-    contains-remove op_cmp_total op_cmp_exact (insert ops o) o p
-    ∙ ap (λ b. not (eq_by_cmp op_cmp p o) && b) (contains-insert op_cmp_total op_cmp_exact ops o p)
-    ∙ taken_out (eq_by_cmp op_cmp p o) (contains ops p) (λ tied. ap (contains ops) (op_cmp_exact p o ((Equal-is (op_cmp p o)).0 tied)) ∙ absent))
+-- games after an operation was put into each of the two
+pub beside_more : (ops : Operations) (old new : Games) (o : Operation) → AreBeside ops old → ((q : Code) → new q ≡ filed old o.dot o.body q) → AreBeside (insert ops o) new
+beside_more ops old new o beside games q =
+    let are : old ≡ game_in ops = λ i c. beside c i in
+    games q ∙ ap (λ found. filed found o.dot o.body q) are ∙ filed_next ops o.dot o.body q ∙ sym (game_in-insert ops o q)
 
 -- ---- the game that is found
 

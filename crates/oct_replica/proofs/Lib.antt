@@ -7,11 +7,8 @@ mod Lines
 pub mod Members
 mod Parts
 mod Places
-mod Removing
 mod Rows
 mod Schedules
 pub mod Settled
-mod StateTexts
-mod Taking
 mod Worlds
 mod Shown

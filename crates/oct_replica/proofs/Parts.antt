@@ -17,6 +17,7 @@ use Rattle.oct_ops.specs.Operations.{Operations, listed}
 use Rattle.oct_ops.specs.Sets as sets
 use Rattle.oct_ops.specs.SetLaws.{contains-set_of, listed-arranged, listed-set_of, rises-sorted, same_set}
 use Rattle.oct_ops.specs.Games.{game_of, of_code}
+use Rattle.oct_notes.specs.Notes.{notes_of}
 use Rattle.oct_period.specs.GameContent.{GameContent}
 use Rattle.oct_pages.specs.Catalogue.{games}
 use Rattle.oct_pages.specs.Parts.{AreParts, IsGameOf}
@@ -54,11 +55,11 @@ there : (ops : Operations) (c : Code) (b : Bool) → is_some (cond b (Some (cont
 there ops c true = refl
 there ops c false = refl
 
-module _ (ops : Operations) (m : BTreeMap Code GameContent) (held : Operations) (ordered : tree.IsOrdered code_cmp m) (beside : AreBeside ops (tree.get code_cmp m) held) where
+module _ (ops : Operations) (m : BTreeMap Code GameContent) (held : Operations) (ordered : tree.IsOrdered code_cmp m) (beside : AreBeside ops (tree.get code_cmp m)) (notes : held ≡ notes_of ops) where
   same_codes : sets.set_of {R = code_cmp} (tree.keys m) ≡ sets.set_of (filter_map game_of (listed ops))
   same_codes = same_set code_cmp_total code_cmp_exact _ _ (λ x.
       contains-set_of code_cmp_total code_cmp_exact (tree.keys m) x
-      ∙ any_key x m.entries ∙ ap is_some (beside.games x) ∙ there ops x (has_game ops x) ∙ any_game x (listed ops)
+      ∙ any_key x m.entries ∙ ap is_some (beside x) ∙ there ops x (has_game ops x) ∙ any_game x (listed ops)
       ∙ sym (contains-set_of code_cmp_total code_cmp_exact (filter_map game_of (listed ops)) x))
 
   codes_are : tree.keys m ≡ games (listed ops)
@@ -71,8 +72,8 @@ module _ (ops : Operations) (m : BTreeMap Code GameContent) (held : Operations) 
     games = record {
       codes = codes_are;
       each = each_of (λ (e : Code × GameContent). IsGameOf (listed ops) e.0 e.1) m.entries (λ i e at.
-          let is = found_is ops e.0 e.1 (sym (btree_map_get_place code_cmp_total m i e.0 e.1 ordered at) ∙ beside.games e.0) in
+          let is = found_is ops e.0 e.1 (sym (btree_map_get_place code_cmp_total m i e.0 e.1 ordered at) ∙ beside e.0) in
           record { code = ap (λ (h : GameContent). h.code) is; blocks = ap (λ (h : GameContent). h.blocks) is; claims = ap (λ (h : GameContent). h.claims) is });
     };
-    notes = beside.notes;
+    notes = notes;
   }

@@ -6,7 +6,8 @@ use Rattle.oct_ops.specs.Operations.{contains, insert, insert_all, listed}
 use Rattle.oct_ops.specs.Body.{Body, Operation}
 use Rattle.oct_join.specs.Clock.{Clock, covers}
 use Rattle.oct_store.specs.Summary.{last, beyond}
-use Rattle.oct_replica.specs.World.{World, Local, Event, start, with_replica, next_op, has_number, is_own_saved, issue, send, step, after, IsReplica, IsAnywhere, IsIssued, IsAbroad}
+use Rattle.oct_replica.specs.World.{World, Local, Event, start, with_replica, is_own_saved, issue, send, step, after, IsReplica, IsAnywhere, IsIssued, IsAbroad}
+use Rattle.oct_record.specs.Taking.{next_op, has_number}
 use Rattle.oct_replica.specs.World.Event.{Issue, Save, Send, Deliver, Restart}
 use Rattle.oct_replica.proofs.Members.{Has, In, In-among, among-In, In-take, any-In, Has-listed, In-listed, Has-empty, Has-insert, insert-keeps, Has-insert_all, insert_all-keeps, Has-keep}
 use Rattle.oct_replica.proofs.Places.{get-push, at_start, replica_here, replica_there, one_replica, replica_cases, on_replica_keeps, on_packet_keeps}

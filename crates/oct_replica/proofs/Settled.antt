@@ -18,7 +18,8 @@ use Rattle.oct_period.specs.declared.status.PeriodStatus.TheVariants as of_claim
 use Rattle.oct_period.proofs.FarLaws as far
 use Rattle.oct_period.proofs.Statuses as claims
 use Rattle.oct_pages.specs.Catalogue.{block_in, blocks_of, claim_in, claims_of, if_some, under}
-use Rattle.oct_replica.specs.Settled.{AreValid, blocks_in, claims_in, SettledBlocksStay, SettledClaimsStay}
+use Rattle.oct_record.specs.Valid.{AreValid}
+use Rattle.oct_replica.specs.Settled.{blocks_in, claims_in, SettledBlocksStay, SettledClaimsStay}
 use Rattle.oct_replica.proofs.Members.{In, In-among, among-In, In-map, Has-listed, In-listed, all_in}
 
 -- ---- parts of lists

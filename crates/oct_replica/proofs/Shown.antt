@@ -30,7 +30,8 @@ use Rattle.oct_period.specs.Periods.{needs, period_status, status_at}
 use Rattle.oct_period.specs.declared.status.PeriodStatus.{PeriodStatus}
 use Rattle.oct_period.specs.declared.status.PeriodStatus.TheVariants as of_claim
 use Rattle.oct_pages.specs.Catalogue.{Text, author_line, block_in, block_line, blocks_of, claim_in, claims_of, ending, fork_line, game_lines, game_text, games, heading, if_some, lines, note_line, period_line, under, values_line, values_lines, values_per_line}
-use Rattle.oct_replica.specs.Settled.{AreValid, blocks_in, claims_in}
+use Rattle.oct_record.specs.Valid.{AreValid}
+use Rattle.oct_replica.specs.Settled.{blocks_in, claims_in}
 use Rattle.oct_replica.specs.Shown.{BlockIsSo, ClaimIsSo, GameLinesAreSo, GameTells, Has, LinesAreSo, Tells, TellsAuthor, TellsBlock, TellsClaim, TellsFork, TellsKnown, TellsNote, TellsValues}
 use Rattle.oct_replica.specs.Shown as shown
 use Rattle.oct_replica.proofs.Headline.{refuted_at_first_wrong, refuted_at_first_break, proved_periods_hold}

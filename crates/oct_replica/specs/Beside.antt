@@ -1,4 +1,4 @@
--- What is kept beside a set: its games and its notes, each with exactly what the set has of them.
+-- What is kept beside a set: its games, each with exactly what the set has of it.
 use Rattle.std.specs.Prelude.{◌≡◌, Bool, Option, Some, None, IfSome, cond, unwrap_or}
 use Rattle.std.specs.List.{list_any}
 use Rattle.std.specs.Ordering.{eq_by_cmp}
@@ -9,7 +9,6 @@ use Rattle.oct_ops.specs.Operations as set
 use Rattle.oct_ops.specs.Operations.{Operations, listed}
 use Rattle.oct_ops.specs.Sets as sets
 use Rattle.oct_ops.specs.Games.{game_of_body, of_code}
-use Rattle.oct_notes.specs.Notes.{concerns_notes, notes_of}
 use Rattle.oct_period.specs.GameContent.{GameContent}
 pub use Rattle.oct_period.specs.GameContent.{with_block, with_period, with_body}
 use Rattle.oct_pages.specs.Catalogue.{blocks_of, claims_of}
@@ -30,10 +29,9 @@ has_game ops c = list_any (of_code c) (listed ops)
 abbrev pub game_in : Operations → Games
 game_in ops c = cond (has_game ops c) (Some (content_in ops c)) None
 
--- these are the games and the notes of the set
-pub record AreBeside (ops : Operations) (found : Games) (held : Operations) : Type 0 where
-  pub games : (c : Code) → found c ≡ game_in ops c
-  pub notes : held ≡ notes_of ops
+-- these are the games of the set
+abbrev pub AreBeside : Operations → Games → Type 0
+AreBeside ops found = (c : Code) → found c ≡ game_in ops c
 
 -- each game has the code that it is found at
 abbrev pub HasOwnCode : Games → Type 0
@@ -59,7 +57,3 @@ filed_at games d body (Some c) = after games c (with_body (game_at games c) d bo
 
 abbrev pub filed : Games → Dot → Body → Games
 filed games d body = filed_at games d body (game_of_body body)
-
--- the notes after an operation was put in
-abbrev pub noted : Operations → Operation → Operations
-noted notes o = cond (concerns_notes o.body) (set.insert notes o) notes

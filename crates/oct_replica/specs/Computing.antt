@@ -1,15 +1,13 @@
--- What a replica makes for its author to issue: the next nim-values of a game, and the removal of notes.
-use Rattle.std.specs.Prelude.{◌≡◌, ℕ, ◌-◌, ◌==◌, min, nat_lt, if◌then◌else◌, List, length, Option, Some, None, ⊤}
+-- What a replica makes for its author to issue: the next nim-values of a game.
+use Rattle.std.specs.Prelude.{◌≡◌, ℕ, ◌-◌, ◌==◌, min, nat_lt, if◌then◌else◌, List, Option, Some, None}
 use Rattle.oct_code.specs.Code.{Code}
 use Rattle.oct_code.specs.declared.limits.TheConstants.{LIMIT}
-use Rattle.oct_ops.specs.Operation.{Dot, Block, claimed}
+use Rattle.oct_ops.specs.Operation.{Block, claimed}
 use Rattle.oct_ops.specs.declared.limits.TheConstants.{MAX_ITEMS}
 use Rattle.oct_verify.specs.Known.{known}
 use Rattle.oct_verify.specs.Next.{next_values}
 use Rattle.oct_replica.specs.declared.error.ComputeError.{ComputeError}
 use Rattle.oct_replica.specs.declared.error.ComputeError.TheVariants as compute
-use Rattle.oct_replica.specs.declared.error.RemovalError.{RemovalError}
-use Rattle.oct_replica.specs.declared.error.RemovalError.TheVariants as removal
 
 -- the block of the next nim-values: from the known length on, so many of them or as many as the limit leaves
 abbrev pub next_block : Code → List Block → ℕ → Block
@@ -22,16 +20,3 @@ compute_fault known count =
     else (if nat_lt MAX_ITEMS count then Some compute.TooMany
     else (if known == LIMIT then Some compute.AtLimit
     else None))
-
--- why there is no removal of these dots, in this order
-abbrev pub removal_fault : List Dot → Option RemovalError
-removal_fault dots =
-    if length dots == 0 then Some removal.NoNote
-    else (if nat_lt MAX_ITEMS (length dots) then Some removal.TooMany
-    else None)
-
--- where a removal of these dots is refused; memory may be refused before the dots are counted
-abbrev pub RefusesRemoval : List Dot → RemovalError → Type 0
-RefusesRemoval dots removal.NoNote = removal_fault dots ≡ Some removal.NoNote
-RefusesRemoval dots removal.TooMany = removal_fault dots ≡ Some removal.TooMany
-RefusesRemoval dots removal.OutOfMemory = ⊤

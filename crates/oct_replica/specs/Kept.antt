@@ -1,16 +1,14 @@
 -- What the fields of a replica keep.
-use Rattle.std.specs.Prelude.{◌≤◌}
 use Rattle.std.specs.BTreeMap as tree
 use Rattle.oct_code.specs.Code.{code_cmp}
-use Rattle.oct_ops.specs.Valid.{IsU32}
+use Rattle.oct_record.specs.Content.{RecordContent}
 use Rattle.oct_replica.specs.Beside.{AreBeside}
-use Rattle.oct_replica.specs.Content.{ReplicaContent}
 use Rattle.oct_replica.specs.declared.replica.Replica.TheInside.{Inside}
 
-abbrev pub content_of : {A : Type 0} → Inside A → ReplicaContent
-content_of r = record { author = r.author; ops = r.store }
+-- what was said
+abbrev pub content_of : {A : Type 0} → Inside A → RecordContent
+content_of r = r.said
 
--- games and notes are those of the set
-pub record IsReplica {A : Type 0} (r : Inside A) : Type 0 where
-  pub author : (1 ≤ r.author) × IsU32 r.author
-  pub beside : AreBeside r.store (tree.get code_cmp r.games) r.notes
+-- the games are those of what was said
+abbrev pub IsReplica : {A : Type 0} → Inside A → Type 0
+IsReplica r = AreBeside r.said.ops (tree.get code_cmp r.games)

@@ -1,12 +1,13 @@
 pub use Rattle.oct_ops.specs.Operations
 pub use Rattle.oct_store.specs.Summary
+pub use Rattle.oct_record.specs.Content
+pub use Rattle.oct_record.specs.Removals
+pub use Rattle.oct_record.specs.States
+pub use Rattle.oct_record.specs.Taking
 pub mod Beside
 pub mod Computing
-pub mod Content
 pub mod Headline
 pub mod Kept
 pub mod Settled
 pub mod Shown
-pub mod States
-pub mod Taking
 pub mod World

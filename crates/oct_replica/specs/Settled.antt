@@ -4,8 +4,9 @@ use Rattle.std.specs.List.{IsAmong}
 use Rattle.oct_code.specs.Code.{Code}
 use Rattle.oct_ops.specs.Body.{Operation}
 use Rattle.oct_ops.specs.Operation.{Dot, Block, Period}
-use Rattle.oct_ops.specs.Operations.{Operations, IsSubset, contains, listed}
-use Rattle.oct_ops.specs.Valid.{IsOp, IsPeriod}
+use Rattle.oct_ops.specs.Operations.{Operations, IsSubset, listed}
+use Rattle.oct_ops.specs.Valid.{IsPeriod}
+pub use Rattle.oct_record.specs.Valid.{AreValid}
 use Rattle.oct_verify.specs.declared.status.Status.{Status}
 use Rattle.oct_verify.specs.declared.status.Status.TheVariants as of_block
 use Rattle.oct_period.specs.FarBlocks.{block_status}
@@ -21,10 +22,6 @@ blocks_in c ops = map (λ (b : Dot × Block). b.1) (blocks_of c (listed ops))
 -- its period claims
 abbrev pub claims_in : Code → Operations → List Period
 claims_in c ops = map (λ (p : Dot × Period). p.1) (claims_of c (listed ops))
-
--- each operation of the set keeps the ranges of its parts, as all that are made do
-abbrev pub AreValid : Operations → Type 0
-AreValid ops = (o : Operation) → contains ops o ≡ true → IsOp o
 
 -- what is proved stays proved, and what is refuted stays refuted at the same place
 pub record BlockStays (now later : Status) : Type 0 where

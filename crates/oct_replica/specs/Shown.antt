@@ -19,7 +19,8 @@ use Rattle.oct_period.specs.Periods.{needs}
 use Rattle.oct_period.specs.declared.status.PeriodStatus.{PeriodStatus}
 use Rattle.oct_period.specs.declared.status.PeriodStatus.TheVariants as of_claim
 use Rattle.oct_pages.specs.Catalogue.{Text, author_text, block_text, ending, fork_text, game_lines, game_text, games, heading, lines, note_text, period_text, values_text}
-use Rattle.oct_replica.specs.Settled.{AreValid, blocks_in}
+use Rattle.oct_record.specs.Valid.{AreValid}
+use Rattle.oct_replica.specs.Settled.{blocks_in}
 
 -- the set has an operation with this dot and this body
 abbrev pub Has : Operations → Dot → kind.Body → Type 0

@@ -1,11 +1,12 @@
 -- Replicas that issue, save, send, take and restart, in any order.
 use Rattle.std.specs.Prelude.{◌≡◌, ℕ, zero, suc, ◌+◌, ◌-◌, ◌^◌, ◌≤◌, Bool, true, false, not, ◌&&◌, ◌==◌, nat_lt, List, [], ◌∷◌, ◌++◌, take, replicate, Option, Some, None, slice_get, slice_set, ◌⊎◌, ◌≢◌}
 use Rattle.std.specs.List.{list_any, fold, IsAmong}
-use Rattle.oct_ops.specs.Operations.{Operations, empty, insert, contains, listed, insert_all}
+use Rattle.oct_ops.specs.Operations.{Operations, empty, insert, contains, listed, insert_all, set_of, union}
 use Rattle.oct_ops.specs.Body.{Body, Operation}
 use Rattle.oct_join.specs.Clock.{Clock}
-use Rattle.oct_store.specs.Summary.{last, beyond, clock_of}
+use Rattle.oct_store.specs.Summary.{beyond, clock_of}
 use Rattle.oct_pages.specs.Catalogue.{catalogue}
+pub use Rattle.oct_record.specs.Taking.{last_number, next_op, has_number}
 
 -- what a replica holds, and what it saved
 pub record Local : Type 0 where
@@ -26,10 +27,6 @@ pub data Event : Type 0 where
   Deliver : ℕ → ℕ → ℕ → Event
   Restart : ℕ → Event
 
--- the greatest number of an operation
-abbrev pub last_number : ℕ
-last_number = 2 ^ 32 - 1
-
 -- n replicas that hold nothing
 abbrev pub start : ℕ → World
 start n = record { replicas = replicate n (record { held = empty; saved = empty }); packets = [] }
@@ -41,13 +38,6 @@ replica w (suc place) = slice_get w.replicas place
 
 abbrev pub with_replica : World → ℕ → Local → World
 with_replica w r l = record w { replicas = slice_set w.replicas (r - 1) l }
-
--- the operation that the author would issue next
-abbrev pub next_op : Operations → ℕ → Body → Operation
-next_op held author body = record { dot = record { author = author; number = last (listed held) author + 1 }; body = body }
-
-abbrev pub has_number : Operations → ℕ → Bool
-has_number held author = nat_lt (last (listed held) author) last_number
 
 -- each own operation is saved
 abbrev pub is_own_saved : Local → ℕ → Bool
@@ -135,3 +125,7 @@ IsAbroad w o =
 abbrev pub AbroadIsSaved : Type 0
 AbroadIsSaved = (n : ℕ) (events : List Event) (o : Operation) → n ≤ last_number → IsAbroad (after n events) o →
     (l : Local) × IsReplica (after n events) o.dot.author l × (contains l.saved o ≡ true)
+
+-- a delivery leaves what taking the same operations leaves
+abbrev pub DeliveriesAreTaken : Type 0
+DeliveriesAreTaken = (held : Operations) (ops : List Operation) → insert_all held ops ≡ union held (set_of ops)

@@ -1,35 +1,5 @@
 //! Why a call was refused.
 
-/// Why there is no such replica.
-#[derive(Clone, Copy, PartialEq, Eq)]
-pub enum AuthorError {
-    /// The author is 0.
-    Zero,
-}
-
-/// Why operations were not all taken in.
-#[derive(Clone, Copy, Debug, PartialEq, Eq)]
-pub enum TakeError {
-    /// The first four bytes are no tag of a delta, or are missing. Nothing changes.
-    Version,
-    /// The bytes begin with a tag, and are no text of a list. Nothing changes.
-    Refused,
-    /// A request for memory was refused.
-    OutOfMemory {
-        /// How many operations, from the first on, are in. No other was added.
-        done: u32,
-    },
-}
-
-/// Why no operation was issued.
-#[derive(Clone, Copy, Debug, PartialEq, Eq)]
-pub enum IssueError {
-    /// The author's greatest number is 4,294,967,295.
-    LastNumber,
-    /// A request for memory was refused.
-    OutOfMemory,
-}
-
 /// Why no values were computed.
 #[derive(Clone, Copy, Debug, PartialEq, Eq)]
 pub enum ComputeError {
@@ -39,28 +9,6 @@ pub enum ComputeError {
     TooMany,
     /// The values of all heaps up to the limit are known.
     AtLimit,
-    /// A request for memory was refused.
-    OutOfMemory,
-}
-
-/// Why there is no removal of the notes of a name.
-#[derive(Clone, Copy, Debug, PartialEq, Eq)]
-pub enum RemovalError {
-    /// No live note has the name.
-    NoNote,
-    /// The live notes of the name have more than 1,024 dots.
-    TooMany,
-    /// A request for memory was refused.
-    OutOfMemory,
-}
-
-/// Why bytes were not loaded.
-#[derive(Clone, Copy, Debug, PartialEq, Eq)]
-pub enum LoadError {
-    /// The first four bytes are not `OGS1`, or are missing.
-    Version,
-    /// The bytes begin with `OGS1`, and are no text of a replica.
-    Refused,
     /// A request for memory was refused.
     OutOfMemory,
 }

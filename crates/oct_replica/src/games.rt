@@ -1,36 +1,32 @@
-//! What is kept beside a set: its games and its notes.
+//! The games that are kept beside a record.
 
 ghost use Rattle.std.specs.Prelude.{◌≡◌, None, Some, IsSome, OnOk, OnErr};
 ghost use Rattle.std.specs.BTreeMap as tree;
 ghost use Rattle.oct_code.specs.Code as octal;
 ghost use Rattle.oct_ops.specs.Games.{game_of};
-ghost use Rattle.oct_replica.specs.Beside.{HasOwnCode, after, filed, game_at, noted, with_body};
+ghost use Rattle.oct_replica.specs.Beside.{HasOwnCode, after, filed, game_at, with_body};
 
 use oct_code::Code;
-use oct_notes::Notes;
 use oct_ops::Op;
 use oct_period::Game;
 use std::alloc::{AllocError, Allocator};
 use std::collections::BTreeMap;
 use std::rc::Rc;
 
-/// Puts an operation that is shared into its game, which is made where there is none, or into the notes. Where memory is
-/// refused, nothing changes.
+/// Puts an operation that is shared into its game, which is made where there is none; a note or a removal is of no game. Where
+/// memory is refused, nothing changes.
 pub(crate) fn file<A: Allocator + Copy>(
     games: &mut BTreeMap<Code, Game<A>, A>,
-    notes: &mut Notes<A>,
     alloc: A,
     op: &Rc<Op<A>, A>,
 ) -> Result<(), AllocError>
     requires { HasOwnCode (tree.get octal.code_cmp games.old) }
-    ensures games { OnOk result ((q : octal.Code) → tree.get octal.code_cmp games.new q ≡ filed (tree.get octal.code_cmp games.old) op.now.value.dot op.now.value.body q) }
-    ensures notes { OnOk result (notes.new ≡ noted notes.old op.now.value) }
-    ensures same_games { OnErr result ((q : octal.Code) → tree.get octal.code_cmp games.new q ≡ tree.get octal.code_cmp games.old q) }
-    ensures same_notes { OnErr result (notes.new ≡ notes.old) }
+    ensures ok { OnOk result ((q : octal.Code) → tree.get octal.code_cmp games.new q ≡ filed (tree.get octal.code_cmp games.old) op.now.value.dot op.now.value.body q) }
+    ensures err { OnErr result ((q : octal.Code) → tree.get octal.code_cmp games.new q ≡ tree.get octal.code_cmp games.old q) }
 {
     match op.body().code() {
         Some(code) => file_in_game(games, alloc, code, op),
-        None => notes.share(op),
+        None => Ok(()),
     }
 }
 

@@ -2,8 +2,7 @@
 
 ghost use Rattle.oct_replica.specs.Headline.{UnionIsPrinted, SpelledIsPrinted, SameIsPrinted, ShownValuesAreNimValues, NimValuesAreTheSequence, RefutedAtFirstWrong, RefutedAtFirstBreak, ProvedPeriodsHold};
 ghost use Rattle.oct_replica.specs.Shown.{GameLinesAreSo, LinesAreSo};
-ghost use Rattle.oct_replica.specs.Taking.{DeliveriesAreTaken};
-ghost use Rattle.oct_replica.specs.World.{EachIsIssued, NoForks, EqualClocksEqualSets, EqualClocksEqualCatalogues, AbroadIsSaved};
+ghost use Rattle.oct_replica.specs.World.{DeliveriesAreTaken, EachIsIssued, NoForks, EqualClocksEqualSets, EqualClocksEqualCatalogues, AbroadIsSaved};
 ghost use Rattle.oct_replica.specs.Settled.{SettledBlocksStay, SettledClaimsStay, BlockLinesStay, ClaimLinesStay};
 
 /// For every list of byte strings handed to a replica, its catalogue is the one defined for the union of their operations,

@@ -1,4 +1,4 @@
-//! Replicas of a census: an author and a set of operations, which is saved, sent, taken in and joined.
+//! Replicas of a census: a record of what was said, and the games that follow from it, together in memory and up to date.
 //!
 //!     let mut replica = Replica::new(alloc, 7)?;
 //!     replica.take(bytes)?;                 // takes in a delta, and says how many operations were new
@@ -13,8 +13,9 @@
 //!     replica.save(&mut out)?;              // `OGS1`, the author, and the delta of all operations
 //!     Replica::load(alloc, &out)?           // the replica again
 //!
-//! Beside the set a replica keeps its games and its notes, so `take` costs only what the new operations cost, and `game`,
-//! `known`, `value`, `outcome`, `winning_move`, `find_period` and `claims_period` take no memory. Store, games and notes agree at the end of every call, also of a refused one.
+//! Beside the record a replica keeps each game up to date, so `take` costs only what the new operations cost, and `game`,
+//! `known`, `value`, `outcome`, `winning_move`, `find_period` and `claims_period` take no memory. Record and games agree at the end
+//! of every call, also of a refused one. Whoever asks nothing of the games holds the record alone (`oct_record`).
 //!
 //! Replicas act apart, and what they send may be lost, repeated, reordered or cut; they stop and begin again from what
 //! they last saved. `specs/World` says what may happen in a world of such replicas, event by event, and what then holds
@@ -28,8 +29,7 @@ mod error;
 mod games;
 pub mod laws;
 mod replica;
-mod state;
-mod valid;
 
-pub use error::{AuthorError, ComputeError, IssueError, LoadError, RemovalError, TakeError};
+pub use error::ComputeError;
+pub use oct_record::{AuthorError, IssueError, LoadError, RemovalError, TakeError};
 pub use replica::Replica;

@@ -27,47 +27,46 @@ ghost use Rattle.oct_period.specs.Periods.{position_value};
 ghost use Rattle.oct_pages.specs.Catalogue.{catalogue, has_page, page as page_text};
 ghost use Rattle.oct_pages.specs.Parts.{AreParts};
 ghost use Rattle.oct_replica.specs.Beside.{content_in, game_in};
-ghost use Rattle.oct_replica.specs.Computing.{compute_fault, next_block as block_after, removal_fault, RefusesRemoval};
-ghost use Rattle.oct_replica.specs.Settled.{AreValid};
-ghost use Rattle.oct_replica.specs.States.{state_text, RefusesState};
-ghost use Rattle.oct_replica.specs.Taking.{count_new, issue_error, with_all, IsCutBy, LeavesAt};
-ghost use Rattle.oct_replica.specs.World.{has_number, next_op};
+ghost use Rattle.oct_replica.specs.Computing.{compute_fault, next_block as block_after};
+ghost use Rattle.oct_record.specs.Removals.{removal_fault, RefusesRemoval};
+ghost use Rattle.oct_record.specs.Valid.{AreValid};
+ghost use Rattle.oct_record.specs.States.{state_text, RefusesState};
+ghost use Rattle.oct_record.specs.Taking.{count_new, issue_error, with_all, IsCutBy, LeavesAt};
+ghost use Rattle.oct_record.specs.Taking.{has_number, next_op};
 
 use crate::computing::next_block;
-use crate::error::{AuthorError, ComputeError, IssueError, LoadError, RemovalError, TakeError};
+use crate::error::ComputeError;
 use crate::games::file;
-use crate::state::{put_state, read_list, restored, split_state};
-use crate::valid::are_valid;
 use oct_code::Code;
-use oct_delta::{DeltaError, EncodeError, TextOps, encode, read_ops};
+use oct_delta::EncodeError;
 use oct_join::Clock;
-use oct_notes::Notes;
 use oct_ops::{Block, Body, Dot, Op, OpList, Period, Removal};
 use oct_pages::{Parts, write_catalogue, write_page};
 use oct_period::{Game, Move, Outcome, Unknown};
-use oct_store::Store;
+use oct_record::taking::{issue, join, take, take_each, take_list};
+use oct_record::{
+    AuthorError, Holder, IssueError, LoadError, Record, RemovalError, TakeError, read_state,
+};
 use oct_verify::Ledger;
 use std::alloc::{AllocError, Allocator};
 use std::collections::BTreeMap;
 use std::marker::Model;
+use std::rc::Rc;
 
-/// An author and a set of operations, in memory of `A`. Beside the set it keeps the games and the notes of the set, so
-/// that no answer has to read the whole set.
+/// A record, and what follows from it: each of its games, up to date, so that no answer has to read the whole set or to
+/// compare a block again. In memory of `A`.
 #[derive(Drop)]
 pub struct Replica<A: Allocator + Copy> {
-    author: u32,
-    store: Store<A>,
+    said: Record<A>,
     games: BTreeMap<Code, Game<A>, A>,
-    notes: Notes<A>,
-    alloc: A,
 }
 
 impl<A: Allocator + Copy> Model for Replica<A> {
-    ghost use Rattle.oct_replica.specs.Content.{ReplicaContent, replica_code};
+    ghost use Rattle.oct_record.specs.Content.{RecordContent, record_code};
 
-    ghost Value = { ReplicaContent };
+    ghost Value = { RecordContent };
 
-    ghost coded = { replica_code };
+    ghost coded = { record_code };
 
     ghost use Rattle.oct_replica.specs.Kept.{content_of, IsReplica};
 
@@ -84,15 +83,10 @@ impl<A: Allocator + Copy> Replica<A> {
         ensures accepted { OnOk result (1 ≤ author) }
         ensures refused { OnErr result (author ≡ 0) }
     {
-        if author == 0 {
-            return Err(AuthorError::Zero);
-        }
+        let said = Record::new(alloc, author)?;
         Ok(Replica {
-            author,
-            store: Store::new(alloc),
+            said,
             games: BTreeMap::new(alloc),
-            notes: Notes::new(alloc),
-            alloc,
         })
     }
 
@@ -101,14 +95,14 @@ impl<A: Allocator + Copy> Replica<A> {
         ensures value { result ≡ self.now.author }
         ensures valid { (1 ≤ self.now.author) × IsU32 self.now.author }
     {
-        self.author
+        self.said.author()
     }
 
     /// How many operations there are.
     pub fn len(&self) -> usize
         ensures { result ≡ length (listed self.now.ops) }
     {
-        self.store.len()
+        self.said.len()
     }
 
     /// Whether there is no operation.
@@ -130,12 +124,7 @@ impl<A: Allocator + Copy> Replica<A> {
         ensures refused { IsErrOf result TakeError.Refused ↔ (IsSome (format_at bytes.now) × ((ops : List Operation) → ¬ IsDeltaText bytes.now ops)) }
         ensures err { IfErr result (LeavesAt self.old self.new (listed (operations_of bytes.now))) }
     {
-        match read_ops(bytes) {
-            Ok(ops) => self.take_each(ops),
-            Err(DeltaError::Version) => Err(TakeError::Version),
-            Err(DeltaError::Refused) => Err(TakeError::Refused),
-            Err(DeltaError::Failed | DeltaError::OutOfMemory) => unreachable!(),
-        }
+        take(self, bytes)
     }
 
     /// Takes in the operations of a list, and says how many of them are new. Where memory is refused, the answer says how
@@ -146,46 +135,7 @@ impl<A: Allocator + Copy> Replica<A> {
         ensures new { IfOk result (λ new. new ≡ count_new self.old.ops list) }
         ensures err { IfErr result (IsCutBy self.old self.new list) }
     {
-        let mut done = 0;
-        let mut new = 0;
-        for op in list.into_vec() {
-            let Ok(is_new) = self.insert(op) else {
-                return Err(TakeError::OutOfMemory { done });
-            };
-            if is_new {
-                new += 1;
-            }
-            done += 1;
-        }
-        Ok(new)
-    }
-
-    /// Takes in the operations of a text, each as it is made, and says how many of them are new. Where memory is refused, the
-    /// answer says how many operations, from the first on, are in, held before or not; no other was added.
-    pub(crate) fn take_each(&mut self, mut ops: TextOps<'_>) -> Result<u32, TakeError>
-        requires few { length ops < 2 ^ 32 }
-        requires rising { IsRising ops }
-        ensures ok { OnOk result (self.new ≡ with_all self.old (set_of ops.entry)) }
-        ensures new { IfOk result (λ new. new ≡ count_new self.old.ops ops.entry) }
-        ensures err { IfErr result (IsCutBy self.old self.new ops.entry) }
-    {
-        let mut done = 0;
-        let mut new = 0;
-        loop {
-            let Ok(next) = ops.next(self.alloc) else {
-                return Err(TakeError::OutOfMemory { done });
-            };
-            let Some(op) = next else {
-                return Ok(new);
-            };
-            let Ok(is_new) = self.insert(op) else {
-                return Err(TakeError::OutOfMemory { done });
-            };
-            if is_new {
-                new += 1;
-            }
-            done += 1;
-        }
+        take_list(self, list)
     }
 
     /// Takes in the operations of another replica; the author stays. After a refusal the set is one between the old set and
@@ -195,10 +145,7 @@ impl<A: Allocator + Copy> Replica<A> {
         ensures author { self.new.author ≡ self.old.author }
         ensures between { IsBetween IsSubset self.old.ops self.new.ops (union self.old.ops other.now.ops) }
     {
-        for op in other.store.iter() {
-            self.add(op)?;
-        }
-        Ok(())
+        join(self, &other.said)
     }
 
     /// Issues an operation of this body under the author's next number, the one after its greatest, and answers its dot.
@@ -212,14 +159,7 @@ impl<A: Allocator + Copy> Replica<A> {
         ensures err { OnErr result (self.new ≡ self.old) }
         ensures returned { IfErr result (λ refused. content refused.1 ≡ content body) }
     {
-        let Some(dot) = self.next_dot() else {
-            return Err((IssueError::LastNumber, body));
-        };
-        let op = Op::new(dot, body);
-        match self.add(&op) {
-            Ok(_) => Ok(dot),
-            Err(_) => Err((IssueError::OutOfMemory, op.into_body())),
-        }
+        issue(self, body)
     }
 
     /// For each author the number through which all of its operations are here, from the first on. This is one pass over
@@ -228,15 +168,14 @@ impl<A: Allocator + Copy> Replica<A> {
         ensures ok { IfOk result (λ clock. clock ≡ summary.clock_of (listed self.now.ops)) }
         ensures valid { AreValid self.now.ops }
     {
-        prove!(are_valid(&self.store));
-        self.store.clock()
+        self.said.clock()
     }
 
     /// Copies of the operations that the clock does not cover, in order. This is one pass over the set.
     pub fn beyond(&self, clock: &Clock<A>) -> Result<OpList<A>, AllocError>
         ensures { IfOk result (λ list. list ≡ listed (summary.beyond self.now.ops clock.now)) }
     {
-        self.store.beyond(clock)
+        self.said.beyond(clock)
     }
 
     /// Appends the delta of the operations that the clock does not cover. `TooMany` says that there are more than
@@ -247,8 +186,7 @@ impl<A: Allocator + Copy> Replica<A> {
         ensures too_many { IsErrOf result EncodeError.TooMany → 2 ^ 32 ≤ length (listed (summary.beyond self.now.ops clock.now)) }
         ensures err { OnErr result (out.new.items ≡ out.old.items) }
     {
-        let list = self.beyond(clock)?;
-        encode(&list, out)
+        self.said.delta(clock, out)
     }
 
     /// The game as the replica keeps it, with exactly its blocks and claims here; none where there is no block and no claim
@@ -267,7 +205,7 @@ impl<A: Allocator + Copy> Replica<A> {
         match self.game(code) {
             Some(game) => game.ledger().known(),
             None => {
-                let ledger = Ledger::new(self.alloc, code);
+                let ledger = Ledger::new(self.said.allocator(), code);
                 ledger.known()
             }
         }
@@ -283,7 +221,7 @@ impl<A: Allocator + Copy> Replica<A> {
         match self.game(code) {
             Some(game) => game.find_period(),
             None => {
-                let game = Game::new(self.alloc, code);
+                let game = Game::new(self.said.allocator(), code);
                 game.find_period()
             }
         }
@@ -308,7 +246,7 @@ impl<A: Allocator + Copy> Replica<A> {
         match self.game(code) {
             Some(game) => game.position_value(heaps),
             None => {
-                let game = Game::new(self.alloc, code);
+                let game = Game::new(self.said.allocator(), code);
                 game.position_value(heaps)
             }
         }
@@ -323,7 +261,7 @@ impl<A: Allocator + Copy> Replica<A> {
         match self.game(code) {
             Some(game) => game.outcome(heaps),
             None => {
-                let game = Game::new(self.alloc, code);
+                let game = Game::new(self.said.allocator(), code);
                 game.outcome(heaps)
             }
         }
@@ -340,7 +278,7 @@ impl<A: Allocator + Copy> Replica<A> {
         match self.game(code) {
             Some(game) => game.winning_move(heaps),
             None => {
-                let game = Game::new(self.alloc, code);
+                let game = Game::new(self.said.allocator(), code);
                 game.winning_move(heaps)
             }
         }
@@ -359,7 +297,7 @@ impl<A: Allocator + Copy> Replica<A> {
         match self.game(code) {
             Some(game) => next_block(game.ledger(), count),
             None => {
-                let ledger = Ledger::new(self.alloc, code);
+                let ledger = Ledger::new(self.said.allocator(), code);
                 next_block(&ledger, count)
             }
         }
@@ -373,15 +311,7 @@ impl<A: Allocator + Copy> Replica<A> {
         ensures accepted { OnOk result (removal_fault (live_dots (listed self.now.ops) name.now) ≡ None) }
         ensures error { IfErr result (RefusesRemoval (live_dots (listed self.now.ops) name.now)) }
     {
-        let Ok(dots) = self.notes.live_dots(name) else {
-            return Err(RemovalError::OutOfMemory);
-        };
-        match Removal::new(dots) {
-            Ok(removal) => Ok(removal),
-            Err((oct_ops::RemovalError::Empty, _)) => Err(RemovalError::NoNote),
-            Err((oct_ops::RemovalError::TooMany, _)) => Err(RemovalError::TooMany),
-            Err((oct_ops::RemovalError::NotRising, _)) => unreachable!(),
-        }
+        self.said.removal(name)
     }
 
     /// Appends the catalogue of the operations to `out`. Where memory is refused, `out` stays as it is.
@@ -389,7 +319,7 @@ impl<A: Allocator + Copy> Replica<A> {
         ensures ok { OnOk result (out.new.items ≡ out.old.items ++ catalogue (listed self.now.ops)) }
         ensures err { OnErr result (out.new.items ≡ out.old.items) }
     {
-        write_catalogue(self.alloc, &self.parts(), out)
+        write_catalogue(self.said.allocator(), &self.parts(), out)
     }
 
     /// Appends one page of that catalogue, its lines from `64 * number` on, at most 64 of them, and says whether there is
@@ -400,7 +330,7 @@ impl<A: Allocator + Copy> Replica<A> {
         ensures none { IfOk result (λ found. found ≡ false → out.new.items ≡ out.old.items) }
         ensures err { OnErr result (out.new.items ≡ out.old.items) }
     {
-        write_page(self.alloc, &self.parts(), number, out)
+        write_page(self.said.allocator(), &self.parts(), number, out)
     }
 
     /// What a catalogue and the views are made from: the operations, and beside them the games and the notes. Takes no
@@ -411,9 +341,9 @@ impl<A: Allocator + Copy> Replica<A> {
     {
         prove!(self.games.len() <= usize::MAX);
         Parts {
-            store: &self.store,
+            store: self.said.store(),
             games: &self.games,
-            notes: &self.notes,
+            notes: self.said.notes(),
         }
     }
 
@@ -424,15 +354,7 @@ impl<A: Allocator + Copy> Replica<A> {
         ensures too_many { IsErrOf result EncodeError.TooMany ↔ (2 ^ 32 ≤ length (listed self.now.ops)) }
         ensures err { OnErr result (out.new.items ≡ out.old.items) }
     {
-        if self.store.len() > u32::MAX as usize {
-            return Err(EncodeError::TooMany);
-        }
-        let length = out.len();
-        if put_state(out, self.author, self.store.iter()).is_err() {
-            out.truncate(length);
-            return Err(EncodeError::OutOfMemory);
-        }
-        Ok(())
+        self.said.save(out)
     }
 
     /// The replica whose text the bytes are. The answer is `Version` exactly where the first four bytes are not `OGS1` or
@@ -441,64 +363,45 @@ impl<A: Allocator + Copy> Replica<A> {
         ensures ok { IfOk result (λ replica. IsState bytes.now replica.author replica.ops) }
         ensures err { IfErr result (RefusesState bytes.now) }
     {
-        let (author, delta) = split_state(bytes)?;
-        let ops = read_list(delta)?;
-        restored(alloc, author, ops)
-    }
-
-    // The dot of what the author issues next, under the number after its greatest; none after the last number.
-    fn next_dot(&self) -> Option<Dot>
-        ensures dot { IfSome result (λ dot. dot ≡ dot_of self.now.author (summary.last (listed self.now.ops) self.now.author + 1)) }
-        ensures room { is_some result ≡ has_number self.now.ops self.now.author }
-    {
-        let last = self.store.last(self.author);
-        if last == u32::MAX {
-            return None;
-        }
-        Some(own_dot(self.author, last + 1))
-    }
-
-    // Puts the operation in, and says whether it is new. The set and the operation's game, or the notes, share it. Memory can
-    // be refused only where it is new; then nothing changes.
-    fn insert(&mut self, op: Op<A>) -> Result<bool, AllocError>
-        ensures added { IfOk result (λ added. added ≡ not (contains self.old.ops op)) }
-        ensures ok { OnOk result (self.new ≡ record self.old { ops = insert self.old.ops op }) }
-        ensures err { OnErr result (self.new ≡ self.old) }
-        ensures absent { OnErr result (contains self.old.ops op ≡ false) }
-    {
-        let Some(shared) = self.store.insert_shared(op)? else {
-            return Ok(false);
+        let (author, ops) = read_state(bytes)?;
+        let Ok(mut replica) = Replica::new(alloc, author) else {
+            unreachable!();
         };
-        if let Err(refused) = file(&mut self.games, &mut self.notes, self.alloc, &shared) {
-            self.store.remove(shared.as_ref());
+        match take_each(&mut replica, ops) {
+            Ok(_) => Ok(replica),
+            Err(_) => Err(LoadError::OutOfMemory),
+        }
+    }
+
+    // Puts in an operation that others hold too, and says whether it is new. The record and the operation's game share it. Memory
+    // can be refused only where it is new; then nothing changes.
+    fn put(&mut self, op: &Rc<Op<A>, A>) -> Result<bool, AllocError>
+        ensures added { IfOk result (λ added. added ≡ not (contains self.old.ops op.now.value)) }
+        ensures ok { OnOk result (self.new ≡ record self.old { ops = insert self.old.ops op.now.value }) }
+        ensures err { OnErr result (self.new ≡ self.old) }
+        ensures absent { OnErr result (contains self.old.ops op.now.value ≡ false) }
+    {
+        if !self.said.share(op)? {
+            return Ok(false);
+        }
+        if let Err(refused) = file(&mut self.games, self.said.allocator(), op) {
+            self.said.remove(op.as_ref());
             return Err(refused);
         }
         Ok(true)
     }
-
-    // Puts in a copy of the operation, and says whether it is new. Memory can be refused only where it is; then nothing
-    // changes.
-    fn add(&mut self, op: &Op<A>) -> Result<bool, AllocError>
-        ensures added { IfOk result (λ added. added ≡ not (contains self.old.ops op.now)) }
-        ensures ok { OnOk result (self.new ≡ record self.old { ops = insert self.old.ops op.now }) }
-        ensures err { OnErr result (self.new ≡ self.old) }
-        ensures absent { OnErr result (contains self.old.ops op.now ≡ false) }
-    {
-        if self.store.contains(op) {
-            return Ok(false);
-        }
-        let copy = op.copy(self.alloc)?;
-        self.insert(copy)
-    }
 }
 
-// The dot of a number of an author.
-fn own_dot(author: u32, number: u32) -> Dot
-    requires { (1 ≤ author) × (1 ≤ number) }
-    ensures { result ≡ dot_of author number }
-{
-    match Dot::new(author, number) {
-        Ok(dot) => dot,
-        Err(_) => unreachable!(),
+impl<A: Allocator + Copy> Holder<A> for Replica<A> {
+    ghost content = { λ replica. replica };
+
+    fn said(&self) -> &Record<A>
+        ensures { result.now ≡ self.now }
+    {
+        &self.said
+    }
+
+    fn share(&mut self, op: &Rc<Op<A>, A>) -> Result<bool, AllocError> {
+        self.put(op)
     }
 }

@@ -1,19 +1,13 @@
-use Rattle.std.proofs.Common.{arith, ap, sym, subst}
+use Rattle.std.proofs.Common.{ap, sym, subst}
 use Rattle.std.specs.Map.{lookup}
 use Rattle.std.specs.BTreeMap as tree
 use Rattle.oct_code.specs.Code.{code_cmp}
-use Rattle.oct_ops.specs.Operations.{Operations}
+use Rattle.oct_record.specs.Content.{RecordContent}
 use Rattle.oct_replica.specs.Beside.{AreBeside}
 use Rattle.oct_replica.proofs.Beside.{beside_nothing}
 use Rattle.oct_replica.proofs.replica.Replica.new.Goals as goal
 
 pub invariant_of-result : goal.invariant_of-result
-invariant_of-result g c = record {
-  author = (omega arith, omega arith);
-  beside =
-      subst (λ (s : Operations). AreBeside s (tree.get code_cmp c.new-2.result) c.new-3.result) (sym c.new.ensures)
-      (beside_nothing (tree.get code_cmp c.new-2.result) c.new-3.result (λ q. ap (λ es. lookup (tree.is_at (code_cmp q)) es) c.new-2.ensures.empty) c.new-3.ensures);
-}
-
-pub returns-then-author-eq0-clause-refused : goal.returns-then-author-eq0-clause-refused
-returns-then-author-eq0-clause-refused g c = c.if-author-eq0.true
+invariant_of-result g c =
+    subst (λ (r : RecordContent). AreBeside r.ops (tree.get code_cmp c.new-2.result)) (sym c.in_ok-said.ensures.ok)
+    (beside_nothing (tree.get code_cmp c.new-2.result) (λ q. ap (λ es. lookup (tree.is_at (code_cmp q)) es) c.new-2.ensures.empty))
