@@ -10,7 +10,7 @@ use Rattle.oct_delta.specs.declared.error.EncodeError.TheVariants.{TooMany, OutO
 use Rattle.oct_join.specs.Clock as clock
 use Rattle.oct_ops.specs.Operations.{listed}
 use Rattle.oct_ops.specs.Valid.{IsOp}
-use Rattle.oct_replica.specs.Content.{ReplicaContent}
+use Rattle.oct_record.specs.Content.{RecordContent}
 use Rattle.oct_store.specs.Summary.{beyond}
 use Rattle.census_core.specs.Asking.{delta_of}
 use Rattle.census_core.specs.Codes.{code_of, read_code}
@@ -24,16 +24,16 @@ use Rattle.census_core.specs.declared.fault.Fault.TheVariants as fault
 use Rattle.census_core.proofs.Wholes.{all_beyond}
 
 -- a text of a game
-pub game_said : (state word : Bytes) (spelling : ReplicaContent → Code → Bytes) (r : ReplicaContent) (c : Code) (text : Bytes) → loaded state ≡ Ok r → read_code word ≡ Ok c → text ≡ spelling r c
+pub game_said : (state word : Bytes) (spelling : RecordContent → Code → Bytes) (r : RecordContent) (c : Code) (text : Bytes) → loaded state ≡ Ok r → read_code word ≡ Ok c → text ≡ spelling r c
     → (loaded state >>= λ q. code_of word >>= λ d. Ok (said (spelling q d))) ≡ Ok (said text)
 game_said state word spelling r c text there coded spelled =
-    let done : ReplicaContent → Code → Result Answer Fault = λ q d. Ok (said (spelling q d)) in
+    let done : RecordContent → Code → Result Answer Fault = λ q d. Ok (said (spelling q d)) in
     ap (λ l. l >>= λ q. code_of word >>= λ d. done q d) there
     ∙ ap (λ d. because fault.Code d >>= λ e. done r e) coded
     ∙ ap (λ t. Ok (said t)) (sym spelled)
 
 -- a refusal of all operations
-pub delta_refused : (r : ReplicaContent) (t : clock.Clock) (cause : EncodeError) → t ≡ clock.empty → All IsOp (listed r.ops)
+pub delta_refused : (r : RecordContent) (t : clock.Clock) (cause : EncodeError) → t ≡ clock.empty → All IsOp (listed r.ops)
     → (cause ≡ TooMany → 2 ^ 32 ≤ length (listed (beyond r.ops t)))
     → encode_fault cause ≢ fault.OutOfMemory → delta_of (listed r.ops) ≡ Err (encode_fault cause)
 delta_refused r t TooMany none valid many other =
@@ -41,7 +41,7 @@ delta_refused r t TooMany none valid many other =
     ap (λ b. cond b (Ok (record { state = None; file = Some (encoded (listed r.ops)); text = number_line (codes "operations ") (length (listed r.ops)) })) (Err fault.TooMany)) (le-ltb _ _ most)
 delta_refused r t OutOfMemory none valid many other = absurd (other refl)
 
-pub delta_given : (r : ReplicaContent) (t : clock.Clock) (file text : Bytes) → t ≡ clock.empty → All IsOp (listed r.ops) → file ≡ encoded (listed (beyond r.ops t))
+pub delta_given : (r : RecordContent) (t : clock.Clock) (file text : Bytes) → t ≡ clock.empty → All IsOp (listed r.ops) → file ≡ encoded (listed (beyond r.ops t))
     → length (listed (beyond r.ops t)) < 2 ^ 32 → text ≡ number_line (codes "operations ") (length (listed r.ops))
     → delta_of (listed r.ops) ≡ Ok (record { state = None; file = Some file; text = text })
 delta_given r t file text none valid is few spelled =

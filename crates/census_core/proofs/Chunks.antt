@@ -12,7 +12,7 @@ use Rattle.oct_ops.specs.Faults.{block_fault}
 use Rattle.oct_ops.specs.Operation.{Block, Dot, claimed}
 use Rattle.oct_ops.specs.declared.error.BlockError.TheVariants as block
 use Rattle.oct_ops.specs.declared.limits.TheConstants.{MAX_ITEMS}
-use Rattle.oct_replica.specs.Content.{ReplicaContent}
+use Rattle.oct_record.specs.Content.{RecordContent}
 use Rattle.oct_views.specs.Bfile.{Bfile}
 use Rattle.census_core.specs.Claiming.{Claimed, block_at, next_dot, with_block, with_blocks}
 use Rattle.census_core.specs.Issuing.{with_body}
@@ -38,7 +38,7 @@ module _ (so_far : Claimed) (c : Code) (file : Bfile) (i count : ℕ) where
   left-next : i < count → with_blocks so_far left ≡ (with_block so_far (block_at c file i) >>= λ next. with_blocks next later)
   left-next within = let one : count - i ≡ suc (count - (i + 1)) = omega arith in ap (λ n. with_blocks so_far (map (block_at c file) (range_with_len i n))) one
 
-  pub block_issued : (b : Block) (next : ReplicaContent) (dot : Dot) → i < count → b ≡ block_at c file i → with_body so_far.replica (kind.Block b) ≡ Ok next → dot ≡ next_dot so_far.replica b
+  pub block_issued : (b : Block) (next : RecordContent) (dot : Dot) → i < count → b ≡ block_at c file i → with_body so_far.replica (kind.Block b) ≡ Ok next → dot ≡ next_dot so_far.replica b
       → with_blocks so_far left ≡ with_blocks (record { replica = next; first = option_or so_far.first (Some dot); last = Some dot }) later
   block_issued b next dot within is done dotted =
       left-next within

@@ -17,9 +17,9 @@ use Rattle.oct_ops.specs.Operations.{Operations, contains, empty, listed, set_of
 use Rattle.oct_ops.specs.OrderLaws.{op_cmp_total, op_cmp_exact}
 use Rattle.oct_ops.specs.SetLaws.{contains-union, listed-set_of, union-empty, union_assoc}
 use Rattle.oct_ops.specs.Valid.{IsOp}
-use Rattle.oct_replica.specs.Settled.{AreValid}
-use Rattle.oct_replica.specs.declared.error.TakeError.{TakeError}
-use Rattle.oct_replica.specs.declared.error.TakeError.TheVariants.{Version, Refused, OutOfMemory}
+use Rattle.oct_record.specs.Valid.{AreValid}
+use Rattle.oct_record.specs.declared.error.TakeError.{TakeError}
+use Rattle.oct_record.specs.declared.error.TakeError.TheVariants.{Version, Refused, OutOfMemory}
 use Rattle.oct_replica.proofs.Members.{Has-empty, Has-listed, In, In-listed, all_in}
 use Rattle.census_core.specs.Asking.{delta_of}
 use Rattle.census_core.specs.States.{delta_refusal}

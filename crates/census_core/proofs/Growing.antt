@@ -21,9 +21,9 @@ use Rattle.oct_pages.specs.Catalogue.{block_in, blocks_of, if_some, under}
 use Rattle.oct_pages.proofs.Members.{any-listed, any-map}
 use Rattle.oct_replica.specs.Beside.{content_in}
 use Rattle.oct_replica.specs.Computing.{next_block}
-use Rattle.oct_replica.specs.Content.{ReplicaContent}
-use Rattle.oct_replica.specs.World.{has_number, next_op}
-use Rattle.oct_replica.specs.declared.error.IssueError.TheVariants as issue
+use Rattle.oct_record.specs.Content.{RecordContent}
+use Rattle.oct_record.specs.Taking.{has_number, next_op}
+use Rattle.oct_record.specs.declared.error.IssueError.TheVariants as issue
 use Rattle.oct_replica.proofs.Members.{any-In, any_source, Has-insert, Has-listed, In-listed, insert-keeps}
 use Rattle.oct_replica.proofs.Settled.{In-filter_map, In-filter_map_source}
 use Rattle.oct_verify.specs.Filing.{Filing, blocks_in, filing_cmp}
@@ -105,13 +105,13 @@ next_grows ops author count c fits =
     omega (arith, all, size, grows)
 
 -- the replica that a block was issued on
-values_issued : (r next : ReplicaContent) (c : Code) (count : ℕ) → known_in r.ops c + count ≤ LIMIT → with_values r c count ≡ Ok next → known_in r.ops c + count ≤ known_in next.ops c
+values_issued : (r next : RecordContent) (c : Code) (count : ℕ) → known_in r.ops c + count ≤ LIMIT → with_values r c count ≡ Ok next → known_in r.ops c + count ≤ known_in next.ops c
 values_issued r next c count fits made = by (has_number r.ops r.author) made
   where
     by : (b : Bool) → cond b (Ok (record r { ops = insert r.ops (next_op r.ops r.author (kind.Block (next_block c (blocks_at r.ops c) count))) })) (Err (fault.Issue issue.LastNumber)) ≡ Ok next → known_in r.ops c + count ≤ known_in next.ops c
     by true is =
         let same : record r { ops = insert r.ops (next_op r.ops r.author (kind.Block (next_block c (blocks_at r.ops c) count))) } ≡ next = cc in
-        subst (λ (q : ReplicaContent). known_in r.ops c + count ≤ known_in q.ops c) same (next_grows r.ops r.author count c fits)
+        subst (λ (q : RecordContent). known_in r.ops c + count ≤ known_in q.ops c) same (next_grows r.ops r.author count c fits)
     by false is = absurd cc
 
 -- ---- blocks one after another
@@ -124,7 +124,7 @@ step_taken : {A B E : Type 0} (step : Result A E) (next : A → Result B E) (y :
 step_taken (Ok x) next y is = (x, refl, is)
 step_taken (Err e) next y is = absurd cc
 
-grown : (blocks : ℕ) (c : Code) (count : ℕ) (r : ReplicaContent) (issued : ℕ) (e : Extended) → count ≤ LIMIT → count ≤ known_in r.ops c + blocks * MAX_ITEMS
+grown : (blocks : ℕ) (c : Code) (count : ℕ) (r : RecordContent) (issued : ℕ) (e : Extended) → count ≤ LIMIT → count ≤ known_in r.ops c + blocks * MAX_ITEMS
     → extended_by blocks c count r issued ≡ Ok e → count ≤ known_in e.replica.ops c
 grown zero c count r issued e fits near is =
     let same : extended_to r issued ≡ e = is_same _ _ (sym (none_left c count r issued) ∙ is) in

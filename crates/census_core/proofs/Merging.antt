@@ -9,10 +9,10 @@ use Rattle.oct_delta.specs.Delta.{Format, IsDeltaText}
 use Rattle.oct_delta.specs.Taken.{operations_of}
 use Rattle.oct_delta.specs.Text.{Bytes}
 use Rattle.oct_delta.proofs.Deltas.{Law, read_none}
-use Rattle.oct_replica.specs.Content.{ReplicaContent}
-use Rattle.oct_replica.specs.Taking.{count_new, with_all}
-use Rattle.oct_replica.specs.declared.error.TakeError.{TakeError}
-use Rattle.oct_replica.specs.declared.error.TakeError.TheVariants.{Version, Refused, OutOfMemory}
+use Rattle.oct_record.specs.Content.{RecordContent}
+use Rattle.oct_record.specs.Taking.{count_new, with_all}
+use Rattle.oct_record.specs.declared.error.TakeError.{TakeError}
+use Rattle.oct_record.specs.declared.error.TakeError.TheVariants.{Version, Refused, OutOfMemory}
 use Rattle.census_core.specs.Lines.{number_line}
 use Rattle.census_core.specs.Refusals.{take_fault}
 use Rattle.census_core.specs.States.{delta_of, delta_refusal, merge, merged}
@@ -42,7 +42,7 @@ delta_refused law file result Refused are is version refused other =
     named (Some f) h = refl
 delta_refused law file result (OutOfMemory done) are is version refused other = absurd (other refl)
 
-pub merge_refused : Law → (state file : Bytes) (r : ReplicaContent) (result : Result ℕ TakeError) (cause : TakeError) → IsBytes file → loaded state ≡ Ok r → result ≡ Err cause
+pub merge_refused : Law → (state file : Bytes) (r : RecordContent) (result : Result ℕ TakeError) (cause : TakeError) → IsBytes file → loaded state ≡ Ok r → result ≡ Err cause
     → IsErrOf result Version ↔ (format_at file ≡ None)
     → IsErrOf result Refused ↔ (IsSome (format_at file) × ((ops : List Operation) → ¬ IsDeltaText file ops))
     → take_fault cause ≢ fault.OutOfMemory → merge state file ≡ Err (take_fault cause)
@@ -50,7 +50,7 @@ merge_refused law state file r result cause are there is version refused other =
     ap (λ l. l >>= λ q. delta_of file >>= λ ops. merged q ops) there
     ∙ ap (λ d. d >>= λ ops. merged r ops) (delta_refused law file result cause are is version refused other)
 
-pub merge_saves : (state file : Bytes) (r q : ReplicaContent) (text : Bytes) (new : ℕ) → loaded state ≡ Ok r → IsSome (read_delta file)
+pub merge_saves : (state file : Bytes) (r q : RecordContent) (text : Bytes) (new : ℕ) → loaded state ≡ Ok r → IsSome (read_delta file)
     → q ≡ with_all r (operations_of file) → new ≡ count_new r.ops (listed (operations_of file)) → text ≡ number_line (codes "new ") new
     → merge state file ≡ saved q text
 merge_saves state file r q text new there read is count spelled =

@@ -11,14 +11,14 @@ use Rattle.oct_ops.specs.declared.error.NoteError.{NoteError}
 use Rattle.oct_ops.specs.declared.error.NoteError.TheVariants as note
 use Rattle.oct_replica.specs.declared.error.ComputeError.{ComputeError}
 use Rattle.oct_replica.specs.declared.error.ComputeError.TheVariants as compute
-use Rattle.oct_replica.specs.Computing.{RefusesRemoval}
-use Rattle.oct_replica.specs.Content.{ReplicaContent}
-use Rattle.oct_replica.specs.Taking.{issue_error}
-use Rattle.oct_replica.specs.World.{has_number, next_op}
-use Rattle.oct_replica.specs.declared.error.IssueError.{IssueError}
-use Rattle.oct_replica.specs.declared.error.IssueError.TheVariants as issue
-use Rattle.oct_replica.specs.declared.error.RemovalError.{RemovalError}
-use Rattle.oct_replica.specs.declared.error.RemovalError.TheVariants as removal
+use Rattle.oct_record.specs.Removals.{RefusesRemoval}
+use Rattle.oct_record.specs.Content.{RecordContent}
+use Rattle.oct_record.specs.Taking.{issue_error}
+use Rattle.oct_record.specs.Taking.{has_number, next_op}
+use Rattle.oct_record.specs.declared.error.IssueError.{IssueError}
+use Rattle.oct_record.specs.declared.error.IssueError.TheVariants as issue
+use Rattle.oct_record.specs.declared.error.RemovalError.{RemovalError}
+use Rattle.oct_record.specs.declared.error.RemovalError.TheVariants as removal
 use Rattle.census_core.specs.Issuing.{issued, removal_of, with_op}
 use Rattle.census_core.specs.Lines.{issued_line}
 use Rattle.census_core.specs.Refusals.{compute_fault, issue_fault, note_fault, removal_fault}
@@ -61,20 +61,20 @@ pub not_noted : {A : Type 0} (found : Option NoteError) (value : A) (e : NoteErr
 not_noted None value e is other = absurd (other (ap note_fault is))
 not_noted (Some cause) value e is other = ap (λ c. Err (fault.Note c)) (sym is) ∙ ap Err (note_named e other)
 
-pub not_removed : (r : ReplicaContent) (name : Bytes) (e : RemovalError) → RefusesRemoval (live_dots (listed r.ops) name) e → removal_fault e ≢ fault.OutOfMemory → removal_of r name ≡ Err (removal_fault e)
+pub not_removed : (r : RecordContent) (name : Bytes) (e : RemovalError) → RefusesRemoval (live_dots (listed r.ops) name) e → removal_fault e ≢ fault.OutOfMemory → removal_of r name ≡ Err (removal_fault e)
 not_removed r name removal.NoNote is other = ap (λ f. because fault.Removal (unless f (removing (live_dots (listed r.ops) name)))) is
 not_removed r name removal.TooMany is other = ap (λ f. because fault.Removal (unless f (removing (live_dots (listed r.ops) name)))) is
 not_removed r name removal.OutOfMemory is other = absurd (other refl)
 
 -- ---- an operation that is issued, or refused
 
-pub issued_as : (r new : ReplicaContent) (body : Body) (dot : Dot) (text : Bytes) → has_number r.ops r.author ≡ true → new ≡ record r { ops = insert r.ops (next_op r.ops r.author body) }
+pub issued_as : (r new : RecordContent) (body : Body) (dot : Dot) (text : Bytes) → has_number r.ops r.author ≡ true → new ≡ record r { ops = insert r.ops (next_op r.ops r.author body) }
     → dot ≡ (next_op r.ops r.author body).dot → text ≡ issued_line dot → issued r body ≡ saved new text
 issued_as r new body dot text room is dotted spelled =
     ap (λ b. cond b (with_op r (next_op r.ops r.author body)) (Err (fault.Issue issue.LastNumber))) room
     ∙ (λ i. saved (sym is i) (sym (spelled ∙ ap issued_line dotted) i))
 
-pub not_issued : (r : ReplicaContent) (body : Body) (b : Bool) (e : IssueError) → has_number r.ops r.author ≡ b → e ≡ issue_error b → issue_fault e ≢ fault.OutOfMemory → issued r body ≡ Err (issue_fault e)
+pub not_issued : (r : RecordContent) (body : Body) (b : Bool) (e : IssueError) → has_number r.ops r.author ≡ b → e ≡ issue_error b → issue_fault e ≢ fault.OutOfMemory → issued r body ≡ Err (issue_fault e)
 not_issued r body true e room is other = absurd (other (ap issue_fault is))
 not_issued r body false e room is other =
     ap (λ b. cond b (with_op r (next_op r.ops r.author body)) (Err (fault.Issue issue.LastNumber))) room ∙ ap (λ c. Err (issue_fault c)) (sym is)

@@ -18,10 +18,10 @@ use Rattle.oct_delta.specs.State.{IsState, state_tag}
 use Rattle.oct_delta.specs.Text.{Bytes, u32}
 use Rattle.oct_delta.proofs.Codecs.{IsBytes-drop, IsBytes-take}
 use Rattle.oct_delta.proofs.Deltas.{Law, tag_there, text_rising}
-use Rattle.oct_replica.specs.Content.{ReplicaContent}
-use Rattle.oct_replica.specs.States.{RefusesState, has_tag}
-use Rattle.oct_replica.specs.declared.error.LoadError.{LoadError}
-use Rattle.oct_replica.specs.declared.error.LoadError.TheVariants.{Version, Refused, OutOfMemory}
+use Rattle.oct_record.specs.Content.{RecordContent}
+use Rattle.oct_record.specs.States.{RefusesState, has_tag}
+use Rattle.oct_record.specs.declared.error.LoadError.{LoadError}
+use Rattle.oct_record.specs.declared.error.LoadError.TheVariants.{Version, Refused, OutOfMemory}
 use Rattle.census_core.specs.Refusals.{load_fault}
 use Rattle.census_core.specs.Steps.{found}
 use Rattle.census_core.specs.Stored.{loaded, read_authored, read_held}
@@ -50,7 +50,7 @@ module _ (law : Law) where
       let long : nat_lt (length (u32 author ++ rest)) 4 ≡ false = le-ltb _ _ (omega (arith, length-append (u32 author) rest)) in
       let number : from_be_bytes w32 (take 4 (u32 author ++ rest)) ≡ author = ap (from_be_bytes w32) (take_at (u32 author) rest 4 refl) ∙ from_be_bytes-to_be_bytes_4 author fits in
       let filled : nat_eq author 0 ≡ false = ne_eqb author 0 (λ e. omega (arith, e, some)) in
-      let none : Option ReplicaContent = None in
+      let none : Option RecordContent = None in
       (λ i. cond (long i) none (cond (nat_eq (number i) 0) none (read_held (number i) (drop_at (u32 author) rest 4 refl i))))
       ∙ ap (λ b. cond b none (read_held author rest)) filled
       ∙ held_read author rest ops are text
@@ -75,21 +75,21 @@ option_of f (Some x) y e = (x, refl, cc)
 positive : (n : ℕ) → nat_eq n 0 ≡ false → 1 ≤ n
 positive n h = let other : n ≢ 0 = eqb-false n 0 h in omega (arith, other)
 
-err_ok : {r : ReplicaContent} {e : Fault} → ◌≡◌ {A = Result ReplicaContent Fault} (Err e) (Ok r) → ⊥
+err_ok : {r : RecordContent} {e : Fault} → ◌≡◌ {A = Result RecordContent Fault} (Err e) (Ok r) → ⊥
 err_ok e = cc
 
-some_of : {q r : ReplicaContent} → ◌≡◌ {A = Result ReplicaContent Fault} (Ok q) (Ok r) → Some q ≡ Some r
+some_of : {q r : RecordContent} → ◌≡◌ {A = Result RecordContent Fault} (Ok q) (Ok r) → Some q ≡ Some r
 some_of e = cc
 
 module _ (law : Law) where
   -- the bytes after a tag
-  authored_state : (bytes : Bytes) (r : ReplicaContent) → IsBytes bytes → has_tag bytes ≡ true → read_authored (drop 4 bytes) ≡ Some r → IsState bytes r.author r.ops
+  authored_state : (bytes : Bytes) (r : RecordContent) → IsBytes bytes → has_tag bytes ≡ true → read_authored (drop 4 bytes) ≡ Some r → IsState bytes r.author r.ops
   authored_state bytes r are tagged read =
       let found_bytes = drop 4 bytes in
       let author = from_be_bytes w32 (take 4 found_bytes) in
       let fits = IsBytes-drop 4 bytes are in
       let held = read_held author (drop 4 found_bytes) in
-      let none : Option ReplicaContent = None in
+      let none : Option RecordContent = None in
       let long = guard_some (nat_lt (length found_bytes) 4) (cond (nat_eq author 0) none held) r read in
       let some = guard_some (nat_eq author 0) held r long.1 in
       let list = option_of (λ (l : List Operation). record { author = author; ops = set_of l }) (read_delta (drop 4 found_bytes)) r some.1 in
@@ -97,7 +97,7 @@ module _ (law : Law) where
       let enough : 4 ≤ length found_bytes = ltb-false _ _ long.0 in
       let front : u32 author ≡ take 4 found_bytes = be_bytes_4 (take 4 found_bytes) author (omega (arith, length-take 4 found_bytes)) (IsBytes-take 4 found_bytes fits) refl in
       let below : (bs : Bytes) → IsBytes bs → from_be_bytes w32 bs < 2 ^ 32 = λ bs are. omega (arith, are 0, are 1, are 2, are 3) in
-      subst (λ (q : ReplicaContent). IsState bytes q.author q.ops) list.2 (record {
+      subst (λ (q : RecordContent). IsState bytes q.author q.ops) list.2 (record {
         author_fits = (positive author some.0, below (take 4 found_bytes) (IsBytes-take 4 found_bytes fits));
         rest = drop 4 found_bytes;
         list = subst (λ (l : List Operation). IsDeltaText (drop 4 found_bytes) l) (sym (listed-set_of op_cmp_total op_cmp_exact list.0 (text_rising (drop 4 found_bytes) list.0 text))) text;
@@ -110,23 +110,23 @@ module _ (law : Law) where
   none_read : (bytes : Bytes) → IsBytes bytes → has_tag bytes ≡ true → ((author : ℕ) (ops : Operations) → ¬ IsState bytes author ops) → read_authored (drop 4 bytes) ≡ None
   none_read bytes are tagged none = by (read_authored (drop 4 bytes)) refl
     where
-      by : (o : Option ReplicaContent) → read_authored (drop 4 bytes) ≡ o → o ≡ None
+      by : (o : Option RecordContent) → read_authored (drop 4 bytes) ≡ o → o ≡ None
       by None h = refl
       by (Some r) h = absurd (none r.author r.ops (authored_state bytes r are tagged h))
 
   -- what is read is a text
-  loaded_state : (bytes : Bytes) (r : ReplicaContent) → IsBytes bytes → loaded bytes ≡ Ok r → IsState bytes r.author r.ops
+  loaded_state : (bytes : Bytes) (r : RecordContent) → IsBytes bytes → loaded bytes ≡ Ok r → IsState bytes r.author r.ops
   loaded_state bytes r are read = by (has_tag bytes) refl (read_authored (drop 4 bytes)) refl
     where
-      by : (b : Bool) → has_tag bytes ≡ b → (o : Option ReplicaContent) → read_authored (drop 4 bytes) ≡ o → IsState bytes r.author r.ops
+      by : (b : Bool) → has_tag bytes ≡ b → (o : Option RecordContent) → read_authored (drop 4 bytes) ≡ o → IsState bytes r.author r.ops
       by false untagged o h = absurd (err_ok (sym (ap (λ b. cond b (found (fault.Load Refused) (read_authored (drop 4 bytes))) (Err (fault.Load Version))) untagged) ∙ read))
       by true tagged o h = of o h (sym (ap (λ b. cond b (found (fault.Load Refused) (read_authored (drop 4 bytes))) (Err (fault.Load Version))) tagged) ∙ read)
         where
-          of : (o : Option ReplicaContent) → read_authored (drop 4 bytes) ≡ o → found (fault.Load Refused) (read_authored (drop 4 bytes)) ≡ Ok r → IsState bytes r.author r.ops
+          of : (o : Option RecordContent) → read_authored (drop 4 bytes) ≡ o → found (fault.Load Refused) (read_authored (drop 4 bytes)) ≡ Ok r → IsState bytes r.author r.ops
           of None h is = absurd (err_ok (sym (ap (found (fault.Load Refused)) h) ∙ is))
           of (Some q) h is = authored_state bytes r are tagged (h ∙ some_of (sym (ap (found (fault.Load Refused)) h) ∙ is))
 
-  pub states_read : (bytes : Bytes) (r : ReplicaContent) → IsBytes bytes → (loaded bytes ≡ Ok r) ↔ IsState bytes r.author r.ops
+  pub states_read : (bytes : Bytes) (r : RecordContent) → IsBytes bytes → (loaded bytes ≡ Ok r) ↔ IsState bytes r.author r.ops
   states_read bytes r are = (loaded_state bytes r are, state_read law bytes r.author r.ops are)
 
   -- a refusal that is not want of memory is the one that reading gives

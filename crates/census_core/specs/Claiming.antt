@@ -8,8 +8,8 @@ use Rattle.oct_ops.specs.Body as kind
 use Rattle.oct_ops.specs.Operation.{Dot, Block, claimed}
 use Rattle.oct_ops.specs.declared.limits.TheConstants.{MAX_ITEMS}
 use Rattle.oct_pages.specs.Catalogue.{Text, dot_text}
-use Rattle.oct_replica.specs.Content.{ReplicaContent}
-use Rattle.oct_replica.specs.World.{next_op}
+use Rattle.oct_record.specs.Content.{RecordContent}
+use Rattle.oct_record.specs.Taking.{next_op}
 use Rattle.oct_views.specs.Bfile.{Bfile, bfile_of}
 use Rattle.census_core.specs.Codes.{code_of}
 use Rattle.census_core.specs.Issuing.{with_body}
@@ -33,11 +33,11 @@ blocks_of c file = map (block_at c file) (range_with_len 0 (block_count (length 
 
 -- a replica, and the first and the last dot of what was issued on the way to it
 pub record Claimed : Type 0 where
-  pub replica : ReplicaContent
+  pub replica : RecordContent
   pub first : Option Dot
   pub last : Option Dot
 
-abbrev pub next_dot : ReplicaContent → Block → Dot
+abbrev pub next_dot : RecordContent → Block → Dot
 next_dot r b = let o = next_op r.ops r.author (kind.Block b) in o.dot
 
 -- once the author issued one block more
@@ -51,7 +51,7 @@ with_blocks so_far [] = Ok so_far
 with_blocks so_far (b ∷ blocks) = with_block so_far b >>= λ next. with_blocks next blocks
 
 -- once the author issued the blocks of the file
-abbrev pub claimed_by : ReplicaContent → Code → Bfile → Result Claimed Fault
+abbrev pub claimed_by : RecordContent → Code → Bfile → Result Claimed Fault
 claimed_by r c file = with_blocks (record { replica = r; first = None; last = None }) (blocks_of c file)
 
 -- which operations were issued

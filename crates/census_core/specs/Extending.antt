@@ -10,7 +10,7 @@ use Rattle.oct_ops.specs.declared.limits.TheConstants.{MAX_ITEMS}
 use Rattle.oct_pages.specs.Catalogue.{Text, labelled}
 use Rattle.oct_replica.specs.Beside.{content_in}
 use Rattle.oct_replica.specs.Computing.{next_block}
-use Rattle.oct_replica.specs.Content.{ReplicaContent}
+use Rattle.oct_record.specs.Content.{RecordContent}
 use Rattle.oct_verify.specs.Filing.{blocks_in}
 use Rattle.oct_verify.specs.Known.{known}
 use Rattle.census_core.specs.Codes.{codes_of}
@@ -27,20 +27,20 @@ abbrev pub known_in : Operations → Code → ℕ
 known_in ops c = known (blocks_in (content_in ops c).blocks)
 
 -- the replica after its author issued the block of so many next nim-values
-abbrev pub with_values : ReplicaContent → Code → ℕ → Result ReplicaContent Fault
+abbrev pub with_values : RecordContent → Code → ℕ → Result RecordContent Fault
 with_values r c count = with_body r (kind.Block (next_block c (blocks_in (content_in r.ops c).blocks) count))
 
 -- a replica, and how many blocks were issued on the way to it
 pub record Extended : Type 0 where
-  pub replica : ReplicaContent
+  pub replica : RecordContent
   pub issued : ℕ
 
-abbrev pub extended_to : ReplicaContent → ℕ → Extended
+abbrev pub extended_to : RecordContent → ℕ → Extended
 extended_to r issued = record { replica = r; issued = issued }
 
 -- until `count` nim-values are known, and at most so often, the block of the next of them is issued: of those that are
 -- wanted, or of 1,024
-unfoldable pub extended_by : ℕ → Code → ℕ → ReplicaContent → ℕ → Result Extended Fault
+unfoldable pub extended_by : ℕ → Code → ℕ → RecordContent → ℕ → Result Extended Fault
 extended_by zero c count r issued = Ok (extended_to r issued)
 extended_by (suc more) c count r issued =
     if nat_le count (known_in r.ops c)
@@ -48,18 +48,18 @@ extended_by (suc more) c count r issued =
     else (with_values r c (min (count - known_in r.ops c) MAX_ITEMS) >>= λ next. extended_by more c count next (issued + 1))
 
 -- 64 blocks are as many values as a game has places
-abbrev pub extended : Code → ℕ → ReplicaContent → Result Extended Fault
+abbrev pub extended : Code → ℕ → RecordContent → Result Extended Fault
 extended c count r = extended_by 64 c count r 0
 
 -- then `count` nim-values are known
 abbrev pub ExtendedIsKnown : Type 0
-ExtendedIsKnown = (c : Code) (count : ℕ) (r : ReplicaContent) (e : Extended) → count ≤ LIMIT → extended c count r ≡ Ok e → count ≤ known_in e.replica.ops c
+ExtendedIsKnown = (c : Code) (count : ℕ) (r : RecordContent) (e : Extended) → count ≤ LIMIT → extended c count r ≡ Ok e → count ≤ known_in e.replica.ops c
 
 -- how many nim-values are known of a game, and how many blocks were issued
 abbrev pub extended_line : Code → ℕ → ℕ → Text
 extended_line c known issued = code_text c ++ labelled (codes " known ") known ++ labelled (codes " issued ") issued ++ codes "\n"
 
-abbrev pub extend_turn : ℕ → Code → ReplicaContent → Result Turn Fault
+abbrev pub extend_turn : ℕ → Code → RecordContent → Result Turn Fault
 extend_turn count c r = do
   e ← extended c count r
   Ok (record { replica = e.replica; text = extended_line c (known_in e.replica.ops c) e.issued })
@@ -71,7 +71,7 @@ wanted count = if nat_le 1 count && nat_le count LIMIT then Ok count else Err Nu
 -- ---- the commands
 
 -- each game has its turn, by the number of nim-values that are wanted of it
-abbrev pub in_turns : (ℕ → Code → ReplicaContent → Result Turn Fault) → Bytes → ℕ → List Bytes → Result Answer Fault
+abbrev pub in_turns : (ℕ → Code → RecordContent → Result Turn Fault) → Bytes → ℕ → List Bytes → Result Answer Fault
 in_turns turn state count words = do
   count ← wanted count
   replica ← loaded state

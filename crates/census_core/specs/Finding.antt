@@ -12,7 +12,7 @@ use Rattle.oct_period.specs.Claims.{claims_in, is_claimed}
 use Rattle.oct_period.specs.Found.{found_period}
 use Rattle.oct_period.specs.Periods.{needs}
 use Rattle.oct_replica.specs.Beside.{content_in}
-use Rattle.oct_replica.specs.Content.{ReplicaContent}
+use Rattle.oct_record.specs.Content.{RecordContent}
 use Rattle.oct_verify.specs.Filing.{blocks_in}
 use Rattle.census_core.specs.Codes.{codes_of}
 use Rattle.census_core.specs.Extending.{extend_turn, extended, in_turns, known_in}
@@ -42,21 +42,21 @@ abbrev pub find_line : Operations → Code → Text
 find_line ops c = found_line c (found_in ops c) (known_in ops c)
 
 -- the replica after its author issued the claim, unless the set has the claim already
-abbrev pub with_claim : ReplicaContent → Option Period → Result ReplicaContent Fault
+abbrev pub with_claim : RecordContent → Option Period → Result RecordContent Fault
 with_claim r None = Ok r
 with_claim r (Some p) = if is_claimed (claims_in (content_in r.ops p.code).claims) p then Ok r else with_body r (kind.Period p)
 
 -- what is found is told and claimed
-abbrev pub surveyed : Code → ReplicaContent → Result Turn Fault
+abbrev pub surveyed : Code → RecordContent → Result Turn Fault
 surveyed c r = do
   next ← with_claim r (found_in r.ops c)
   Ok (record { replica = next; text = find_line r.ops c })
 
-abbrev pub survey_turn : ℕ → Code → ReplicaContent → Result Turn Fault
+abbrev pub survey_turn : ℕ → Code → RecordContent → Result Turn Fault
 survey_turn count c r = extended c count r >>= λ e. surveyed c e.replica
 
 -- what a game has in its turn
-abbrev pub turn_of : Aim → ℕ → Code → ReplicaContent → Result Turn Fault
+abbrev pub turn_of : Aim → ℕ → Code → RecordContent → Result Turn Fault
 turn_of Extend = extend_turn
 turn_of Survey = survey_turn
 

@@ -10,10 +10,11 @@ use Rattle.oct_ops.specs.Faults.{note_fault, period_fault}
 use Rattle.oct_ops.specs.Operation.{Block, Period, Note, Removal, noted, removing, repeating}
 use Rattle.oct_ops.specs.Operations.{insert, listed}
 use Rattle.oct_replica.specs.Beside.{content_in}
-use Rattle.oct_replica.specs.Computing.{compute_fault, next_block, removal_fault}
-use Rattle.oct_replica.specs.Content.{ReplicaContent}
-use Rattle.oct_replica.specs.World.{has_number, next_op}
-use Rattle.oct_replica.specs.declared.error.IssueError.TheVariants.{LastNumber}
+use Rattle.oct_replica.specs.Computing.{compute_fault, next_block}
+use Rattle.oct_record.specs.Removals.{removal_fault}
+use Rattle.oct_record.specs.Content.{RecordContent}
+use Rattle.oct_record.specs.Taking.{has_number, next_op}
+use Rattle.oct_record.specs.declared.error.IssueError.TheVariants.{LastNumber}
 use Rattle.oct_verify.specs.Filing.{blocks_in}
 use Rattle.oct_verify.specs.Known.{known}
 use Rattle.serde_json.specs.Data.{Data}
@@ -28,14 +29,14 @@ use Rattle.census_core.specs.declared.fault.Fault.{Fault}
 use Rattle.census_core.specs.declared.fault.Fault.TheVariants as fault
 
 -- the author's next operation is issued, and the state is written
-abbrev pub with_op : ReplicaContent → Operation → Result Answer Fault
+abbrev pub with_op : RecordContent → Operation → Result Answer Fault
 with_op r o = saved (record r { ops = insert r.ops o }) (issued_line o.dot)
 
-abbrev pub issued : ReplicaContent → Body → Result Answer Fault
+abbrev pub issued : RecordContent → Body → Result Answer Fault
 issued r body = if has_number r.ops r.author then with_op r (next_op r.ops r.author body) else Err (fault.Issue LastNumber)
 
 -- the replica after its author issued an operation of this body
-abbrev pub with_body : ReplicaContent → Body → Result ReplicaContent Fault
+abbrev pub with_body : RecordContent → Body → Result RecordContent Fault
 with_body r body = if has_number r.ops r.author then Ok (record r { ops = insert r.ops (next_op r.ops r.author body) }) else Err (fault.Issue LastNumber)
 
 -- the JSON value of a file
@@ -47,7 +48,7 @@ abbrev pub block_of : Bytes → Result Block Fault
 block_of file = json_of file >>= λ value. because fault.Import (imported value)
 
 -- the next nim-values of a game
-abbrev pub computed : ReplicaContent → Code → ℕ → Result Block Fault
+abbrev pub computed : RecordContent → Code → ℕ → Result Block Fault
 computed r c count =
     let blocks = blocks_in (content_in r.ops c).blocks in
     because fault.Compute (unless (compute_fault (known blocks) count) (next_block c blocks count))
@@ -59,7 +60,7 @@ abbrev pub note_of : Bytes → Bytes → Result Note Fault
 note_of name text = because fault.Note (unless (note_fault (noted name text)) (noted name text))
 
 -- the removal of the live notes of a name
-abbrev pub removal_of : ReplicaContent → Bytes → Result Removal Fault
+abbrev pub removal_of : RecordContent → Bytes → Result Removal Fault
 removal_of r name =
     let dots = live_dots (listed r.ops) name in
     because fault.Removal (unless (removal_fault dots) (removing dots))

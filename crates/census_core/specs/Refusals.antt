@@ -5,14 +5,14 @@ use Rattle.oct_ops.specs.declared.error.NoteError.{NoteError}
 use Rattle.oct_ops.specs.declared.error.NoteError.TheVariants as note
 use Rattle.oct_replica.specs.declared.error.ComputeError.{ComputeError}
 use Rattle.oct_replica.specs.declared.error.ComputeError.TheVariants as compute
-use Rattle.oct_replica.specs.declared.error.IssueError.{IssueError}
-use Rattle.oct_replica.specs.declared.error.IssueError.TheVariants as issue
-use Rattle.oct_replica.specs.declared.error.LoadError.{LoadError}
-use Rattle.oct_replica.specs.declared.error.LoadError.TheVariants as load
-use Rattle.oct_replica.specs.declared.error.RemovalError.{RemovalError}
-use Rattle.oct_replica.specs.declared.error.RemovalError.TheVariants as removal
-use Rattle.oct_replica.specs.declared.error.TakeError.{TakeError}
-use Rattle.oct_replica.specs.declared.error.TakeError.TheVariants as take
+use Rattle.oct_record.specs.declared.error.IssueError.{IssueError}
+use Rattle.oct_record.specs.declared.error.IssueError.TheVariants as issue
+use Rattle.oct_record.specs.declared.error.LoadError.{LoadError}
+use Rattle.oct_record.specs.declared.error.LoadError.TheVariants as load
+use Rattle.oct_record.specs.declared.error.RemovalError.{RemovalError}
+use Rattle.oct_record.specs.declared.error.RemovalError.TheVariants as removal
+use Rattle.oct_record.specs.declared.error.TakeError.{TakeError}
+use Rattle.oct_record.specs.declared.error.TakeError.TheVariants as take
 use Rattle.oct_sync.specs.declared.error.SyncError.{SyncError}
 use Rattle.oct_sync.specs.declared.error.SyncError.TheVariants as sync
 use Rattle.oct_views.specs.declared.bfile_error.BfileError.{BfileError}

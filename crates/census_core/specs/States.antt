@@ -4,10 +4,10 @@ use Rattle.oct_delta.specs.Decoding.{format_at, read_delta}
 use Rattle.oct_delta.specs.Taken.{operations_of}
 use Rattle.oct_delta.specs.Text.{Bytes}
 use Rattle.oct_ops.specs.Operations.{Operations, empty, listed, union}
-use Rattle.oct_replica.specs.Content.{ReplicaContent}
-use Rattle.oct_replica.specs.Taking.{count_new, with_all}
-use Rattle.oct_replica.specs.declared.error.TakeError.{TakeError}
-use Rattle.oct_replica.specs.declared.error.TakeError.TheVariants.{Version, Refused}
+use Rattle.oct_record.specs.Content.{RecordContent}
+use Rattle.oct_record.specs.Taking.{count_new, with_all}
+use Rattle.oct_record.specs.declared.error.TakeError.{TakeError}
+use Rattle.oct_record.specs.declared.error.TakeError.TheVariants.{Version, Refused}
 use Rattle.census_core.specs.Lines.{number_line, union_line}
 use Rattle.census_core.specs.Replies.{Answer}
 use Rattle.census_core.specs.Steps.{◌>>=◌}
@@ -28,7 +28,7 @@ abbrev pub delta_of : Bytes → Result Operations Fault
 delta_of file = if is_some (read_delta file) then Ok (operations_of file) else Err (Merge (delta_refusal file))
 
 -- the union, and how many operations are new
-abbrev pub merged : ReplicaContent → Operations → Result Answer Fault
+abbrev pub merged : RecordContent → Operations → Result Answer Fault
 merged r ops = saved (with_all r ops) (number_line (codes "new ") (count_new r.ops (listed ops)))
 
 abbrev pub merge : Bytes → Bytes → Result Answer Fault
@@ -38,13 +38,13 @@ merge state file = do
   merged replica ops
 
 -- the union with these operations, under the author of what is kept; and how many are new there
-abbrev pub united : ReplicaContent → Operations → Result Answer Fault
+abbrev pub united : RecordContent → Operations → Result Answer Fault
 united kept ops =
     let all = union kept.ops ops in
     saved (record kept { ops = all }) (union_line (length (listed all) - length (listed kept.ops)) (length (listed all)))
 
 -- a state file as it stands after a session, and what the session holds
-abbrev pub rejoined : Bytes → ReplicaContent → Result Answer Fault
+abbrev pub rejoined : Bytes → RecordContent → Result Answer Fault
 rejoined state held = do
   kept ← loaded state
   if kept.author == held.author then united kept held.ops else Err Author

@@ -14,11 +14,12 @@ use crate::codes::read_code;
 use crate::fault::Fault;
 use crate::moving::move_text;
 use crate::reply::Reply;
-use crate::states::load;
+use crate::states::{load, load_replica};
 use crate::texts::number_line;
 use oct_code::Code;
 use oct_join::Clock;
 use oct_period::Outcome;
+use oct_record::Record;
 use oct_replica::Replica;
 use oct_views::{GameSheet, write_bfile, write_plot};
 use std::alloc::{AllocError, Global};
@@ -57,7 +58,7 @@ pub(crate) fn answer(
     ensures ok { IfOk result (λ reply. answered question.entry state.now code.now ≡ Ok (answer_of reply)) }
     ensures err { IfErr result (λ e. e ≢ Fault.OutOfMemory → answered question.entry state.now code.now ≡ Err e) }
 {
-    let replica = load(alloc, state)?;
+    let replica = load_replica(alloc, state)?;
     let code = read_code(code)?;
     let text = answer_text(alloc, &replica, code, question)?;
     Ok(said(text))
@@ -137,7 +138,7 @@ pub(crate) fn page(alloc: Global, state: &[u8], number: u32) -> Result<Reply, Fa
     ensures ok { IfOk result (λ reply. page state.now number ≡ Ok (answer_of reply)) }
     ensures err { IfErr result (λ e. e ≢ Fault.OutOfMemory → page state.now number ≡ Err e) }
 {
-    let replica = load(alloc, state)?;
+    let replica = load_replica(alloc, state)?;
     page_reply(alloc, &replica, number)
 }
 
@@ -158,19 +159,19 @@ pub(crate) fn delta(alloc: Global, state: &[u8]) -> Result<Reply, Fault>
     ensures ok { IfOk result (λ reply. delta state.now ≡ Ok (answer_of reply)) }
     ensures err { IfErr result (λ e. e ≢ Fault.OutOfMemory → delta state.now ≡ Err e) }
 {
-    let replica = load(alloc, state)?;
-    delta_reply(alloc, &replica)
+    let held = load(alloc, state)?;
+    delta_reply(alloc, &held)
 }
 
-/// The reply of all operations of the replica as one delta.
-pub(crate) fn delta_reply(alloc: Global, replica: &Replica<Global>) -> Result<Reply, Fault>
-    requires valid { All IsOp (listed replica.now.ops) }
-    ensures ok { IfOk result (λ reply. delta_of (listed replica.now.ops) ≡ Ok (answer_of reply)) }
-    ensures err { IfErr result (λ e. e ≢ Fault.OutOfMemory → delta_of (listed replica.now.ops) ≡ Err e) }
+/// The reply of all operations that are held as one delta.
+pub(crate) fn delta_reply(alloc: Global, held: &Record<Global>) -> Result<Reply, Fault>
+    requires valid { All IsOp (listed held.now.ops) }
+    ensures ok { IfOk result (λ reply. delta_of (listed held.now.ops) ≡ Ok (answer_of reply)) }
+    ensures err { IfErr result (λ e. e ≢ Fault.OutOfMemory → delta_of (listed held.now.ops) ≡ Err e) }
 {
     let mut file = Vec::new(alloc);
-    replica.delta(&Clock::new(alloc), &mut file)?;
-    let text = number_line(alloc, b"operations ", replica.len() as u64)?;
+    held.delta(&Clock::new(alloc), &mut file)?;
+    let text = number_line(alloc, b"operations ", held.len() as u64)?;
     Ok(Reply {
         state: None,
         file: Some(file),

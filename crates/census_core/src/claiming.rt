@@ -16,7 +16,7 @@ use crate::states::{load, save};
 use crate::texts::claimed_line;
 use oct_code::{Code, LIMIT};
 use oct_ops::{Block, Body, Dot, MAX_ITEMS};
-use oct_replica::Replica;
+use oct_record::Record;
 use oct_views::{Bfile, read_bfile};
 use std::alloc::Global;
 
@@ -25,12 +25,12 @@ pub(crate) fn claim(alloc: Global, state: &[u8], code: &[u8], file: &[u8]) -> Re
     ensures ok { IfOk result (λ reply. claim state.now code.now file.now ≡ Ok (answer_of reply)) }
     ensures err { IfErr result (λ e. e ≢ Fault.OutOfMemory → claim state.now code.now file.now ≡ Err e) }
 {
-    let mut replica = load(alloc, state)?;
+    let mut said = load(alloc, state)?;
     let code = read_code(code)?;
     let file = read_bfile(alloc, file)?;
-    let dots = claim_values(alloc, &mut replica, code, &file)?;
+    let dots = claim_values(alloc, &mut said, code, &file)?;
     let text = claimed_line(alloc, dots.first, dots.last)?;
-    save(alloc, &replica, state.len(), text)
+    save(alloc, &said, state.len(), text)
 }
 
 // The first and the last dot of what was issued.
@@ -43,20 +43,20 @@ struct DotRange {
 // Issues blocks of 1,024 of the values, and a last one of those that are left.
 fn claim_values(
     alloc: Global,
-    replica: &mut Replica<Global>,
+    said: &mut Record<Global>,
     code: Code,
     file: &Bfile<Global>,
 ) -> Result<DotRange, Fault>
     requires { file.now.start + length file.now.values.items ≤ LIMIT }
-    ensures ok { IfOk result (λ dots. claimed_by replica.old code (record { start = file.now.start; values = file.now.values.items }) ≡ Ok (record { replica = replica.new; first = dots.first; last = dots.last })) }
-    ensures err { IfErr result (λ e. e ≢ Fault.OutOfMemory → claimed_by replica.old code (record { start = file.now.start; values = file.now.values.items }) ≡ Err e) }
+    ensures ok { IfOk result (λ dots. claimed_by said.old code (record { start = file.now.start; values = file.now.values.items }) ≡ Ok (record { replica = said.new; first = dots.first; last = dots.last })) }
+    ensures err { IfErr result (λ e. e ≢ Fault.OutOfMemory → claimed_by said.old code (record { start = file.now.start; values = file.now.values.items }) ≡ Err e) }
 {
     let values = file.values.as_slice();
     let mut first = None;
     let mut last = None;
     for place in 0..(values.len() + (MAX_ITEMS - 1)) / MAX_ITEMS {
         let start = file.start + (MAX_ITEMS * place) as u32;
-        let dot = issue_block(alloc, replica, code, start, chunk_at(values, place))?;
+        let dot = issue_block(alloc, said, code, start, chunk_at(values, place))?;
         first = first.or(Some(dot));
         last = Some(dot);
     }
@@ -78,7 +78,7 @@ fn chunk_at(values: &[u32], place: usize) -> &[u32]
 // Issues the block of these values.
 fn issue_block(
     alloc: Global,
-    replica: &mut Replica<Global>,
+    said: &mut Record<Global>,
     code: Code,
     start: u32,
     values: &[u32],
@@ -86,15 +86,15 @@ fn issue_block(
     requires some { 1 ≤ length values.now }
     requires few { length values.now ≤ MAX_ITEMS }
     requires within { start + length values.now ≤ LIMIT }
-    ensures ok { OnOk result (with_body replica.old (kind.Block (claimed code start values.now)) ≡ Ok replica.new) }
-    ensures dot { IfOk result (λ dot. dot ≡ next_dot replica.old (claimed code start values.now)) }
-    ensures err { IfErr result (λ e. e ≢ Fault.OutOfMemory → with_body replica.old (kind.Block (claimed code start values.now)) ≡ Err e) }
+    ensures ok { OnOk result (with_body said.old (kind.Block (claimed code start values.now)) ≡ Ok said.new) }
+    ensures dot { IfOk result (λ dot. dot ≡ next_dot said.old (claimed code start values.now)) }
+    ensures err { IfErr result (λ e. e ≢ Fault.OutOfMemory → with_body said.old (kind.Block (claimed code start values.now)) ≡ Err e) }
 {
     let values = Vec::from_slice(alloc, values)?;
     let Ok(block) = Block::new(code, start, values) else {
         unreachable!();
     };
-    match replica.issue(Body::Block(block)) {
+    match said.issue(Body::Block(block)) {
         Ok(dot) => Ok(dot),
         Err((refused, _)) => Err(Fault::from(refused)),
     }

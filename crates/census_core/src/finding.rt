@@ -10,7 +10,7 @@ use crate::codes::read_codes;
 use crate::extending::issue_body;
 use crate::fault::Fault;
 use crate::reply::Reply;
-use crate::states::load;
+use crate::states::load_replica;
 use crate::texts::append_found;
 use oct_code::Code;
 use oct_ops::{Body, Period};
@@ -22,7 +22,7 @@ pub(crate) fn find(alloc: Global, state: &[u8], codes: &[Vec<u8>]) -> Result<Rep
     ensures ok { IfOk result (λ reply. find state.now (map (λ word. word.items) codes.now) ≡ Ok (answer_of reply)) }
     ensures err { IfErr result (λ e. e ≢ Fault.OutOfMemory → find state.now (map (λ word. word.items) codes.now) ≡ Err e) }
 {
-    let replica = load(alloc, state)?;
+    let replica = load_replica(alloc, state)?;
     let codes = read_codes(alloc, codes)?;
     let text = find_each(alloc, &replica, &codes)?;
     Ok(said(text))

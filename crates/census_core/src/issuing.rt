@@ -10,27 +10,27 @@ use crate::codes::read_code;
 use crate::fault::Fault;
 use crate::import::import_block;
 use crate::reply::Reply;
-use crate::states::{load, save};
+use crate::states::{load, load_replica, save};
 use crate::texts::issued_line;
 use oct_ops::{Block, Body, Note, Period};
-use oct_replica::Replica;
+use oct_record::Record;
 use serde_json::Value;
 use std::alloc::Global;
 
 // Issues an operation of this body, and writes the state, whose text was so long when it was read.
 fn issue(
     alloc: Global,
-    mut replica: Replica<Global>,
+    mut said: Record<Global>,
     read: usize,
     body: Body<Global>,
 ) -> Result<Reply, Fault>
-    ensures ok { IfOk result (λ reply. issued replica (content body) ≡ Ok (answer_of reply)) }
-    ensures err { IfErr result (λ e. e ≢ Fault.OutOfMemory → issued replica (content body) ≡ Err e) }
+    ensures ok { IfOk result (λ reply. issued said (content body) ≡ Ok (answer_of reply)) }
+    ensures err { IfErr result (λ e. e ≢ Fault.OutOfMemory → issued said (content body) ≡ Err e) }
 {
-    match replica.issue(body) {
+    match said.issue(body) {
         Ok(dot) => {
             let text = issued_line(alloc, dot)?;
-            save(alloc, &replica, read, text)
+            save(alloc, &said, read, text)
         }
         Err((refused, _)) => Err(Fault::from(refused)),
     }
@@ -41,9 +41,9 @@ pub(crate) fn import(alloc: Global, state: &[u8], file: &[u8]) -> Result<Reply, 
     ensures ok { IfOk result (λ reply. import state.now file.now ≡ Ok (answer_of reply)) }
     ensures err { IfErr result (λ e. e ≢ Fault.OutOfMemory → import state.now file.now ≡ Err e) }
 {
-    let replica = load(alloc, state)?;
+    let said = load(alloc, state)?;
     let block = read_block(alloc, file)?;
-    issue(alloc, replica, state.len(), Body::Block(block))
+    issue(alloc, said, state.len(), Body::Block(block))
 }
 
 // The block of a JSON file.
@@ -65,10 +65,11 @@ pub(crate) fn compute(alloc: Global, state: &[u8], code: &[u8], count: u32) -> R
     ensures ok { IfOk result (λ reply. compute state.now code.now count ≡ Ok (answer_of reply)) }
     ensures err { IfErr result (λ e. e ≢ Fault.OutOfMemory → compute state.now code.now count ≡ Err e) }
 {
-    let replica = load(alloc, state)?;
+    let replica = load_replica(alloc, state)?;
     let code = read_code(code)?;
     let block = replica.compute(code, count)?;
-    issue(alloc, replica, state.len(), Body::Block(block))
+    let said = replica.into_record();
+    issue(alloc, said, state.len(), Body::Block(block))
 }
 
 /// Issues a period claim.
@@ -82,10 +83,10 @@ pub(crate) fn period(
     ensures ok { IfOk result (λ reply. spec.period state.now code.now start period ≡ Ok (answer_of reply)) }
     ensures err { IfErr result (λ e. e ≢ Fault.OutOfMemory → spec.period state.now code.now start period ≡ Err e) }
 {
-    let replica = load(alloc, state)?;
+    let said = load(alloc, state)?;
     let code = read_code(code)?;
     let claim = Period::new(code, start, period)?;
-    issue(alloc, replica, state.len(), Body::Period(claim))
+    issue(alloc, said, state.len(), Body::Period(claim))
 }
 
 /// Issues a note.
@@ -93,9 +94,9 @@ pub(crate) fn note(alloc: Global, state: &[u8], name: &[u8], text: &[u8]) -> Res
     ensures ok { IfOk result (λ reply. note state.now name.now text.now ≡ Ok (answer_of reply)) }
     ensures err { IfErr result (λ e. e ≢ Fault.OutOfMemory → note state.now name.now text.now ≡ Err e) }
 {
-    let replica = load(alloc, state)?;
+    let said = load(alloc, state)?;
     let note = Note::new(alloc, name, text)?;
-    issue(alloc, replica, state.len(), Body::Note(note))
+    issue(alloc, said, state.len(), Body::Note(note))
 }
 
 /// Issues the removal of the live notes of a name.
@@ -103,7 +104,7 @@ pub(crate) fn unnote(alloc: Global, state: &[u8], name: &[u8]) -> Result<Reply, 
     ensures ok { IfOk result (λ reply. unnote state.now name.now ≡ Ok (answer_of reply)) }
     ensures err { IfErr result (λ e. e ≢ Fault.OutOfMemory → unnote state.now name.now ≡ Err e) }
 {
-    let replica = load(alloc, state)?;
-    let removal = replica.removal(name)?;
-    issue(alloc, replica, state.len(), Body::Removal(removal))
+    let said = load(alloc, state)?;
+    let removal = said.removal(name)?;
+    issue(alloc, said, state.len(), Body::Removal(removal))
 }

@@ -12,11 +12,23 @@ use crate::fault::Fault;
 use crate::reply::Reply;
 use crate::texts::{number_line, union_line};
 use oct_delta::laws::texts_are_read;
+use oct_record::Record;
 use oct_replica::Replica;
 use std::alloc::Global;
 
-/// The replica of a state's text.
-pub(crate) fn load(alloc: Global, state: &[u8]) -> Result<Replica<Global>, Fault>
+/// What a state's text says. No nim-value is computed.
+pub(crate) fn load(alloc: Global, state: &[u8]) -> Result<Record<Global>, Fault>
+    ensures ok { IfOk result (λ said. loaded state.now ≡ Ok said) }
+    ensures valid { IfOk result (λ said. All IsOp (listed said.ops)) }
+    ensures err { IfErr result (λ e. e ≢ Fault.OutOfMemory → loaded state.now ≡ Err e) }
+{
+    texts_are_read();
+    let said = Record::load(alloc, state)?;
+    Ok(said)
+}
+
+/// What a state's text says, with all that follows from it.
+pub(crate) fn load_replica(alloc: Global, state: &[u8]) -> Result<Replica<Global>, Fault>
     ensures ok { IfOk result (λ replica. loaded state.now ≡ Ok replica) }
     ensures valid { IfOk result (λ replica. All IsOp (listed replica.ops)) }
     ensures err { IfErr result (λ e. e ≢ Fault.OutOfMemory → loaded state.now ≡ Err e) }
@@ -29,19 +41,19 @@ pub(crate) fn load(alloc: Global, state: &[u8]) -> Result<Replica<Global>, Fault
 // How much a state's text may grow by what a command issues, before more memory is asked for.
 const GROWTH: usize = 65_536;
 
-/// The reply that writes the replica's state, and this text. The state's text was so long when it was read: as much memory
+/// The reply that writes the state of what was said, and this text. The state's text was so long when it was read: as much memory
 /// and a little more is asked for at once.
 pub(crate) fn save(
     alloc: Global,
-    replica: &Replica<Global>,
+    said: &Record<Global>,
     read: usize,
     text: Vec<u8>,
 ) -> Result<Reply, Fault>
-    ensures ok { IfOk result (λ reply. saved replica.now text.items ≡ Ok (answer_of reply)) }
-    ensures err { IfErr result (λ e. e ≢ Fault.OutOfMemory → saved replica.now text.items ≡ Err e) }
+    ensures ok { IfOk result (λ reply. saved said.now text.items ≡ Ok (answer_of reply)) }
+    ensures err { IfErr result (λ e. e ≢ Fault.OutOfMemory → saved said.now text.items ≡ Err e) }
 {
     let mut state = Vec::with_capacity(alloc, read.saturating_add(GROWTH))?;
-    replica.save(&mut state)?;
+    said.save(&mut state)?;
     Ok(Reply {
         state: Some(state),
         file: None,
@@ -54,11 +66,11 @@ pub(crate) fn init(alloc: Global, id: u32) -> Result<Reply, Fault>
     ensures ok { IfOk result (λ reply. init id ≡ Ok (answer_of reply)) }
     ensures err { IfErr result (λ e. e ≢ Fault.OutOfMemory → init id ≡ Err e) }
 {
-    let Ok(replica) = Replica::new(alloc, id) else {
+    let Ok(said) = Record::new(alloc, id) else {
         return Err(Fault::Zero);
     };
     let text = number_line(alloc, b"author ", u64::from(id))?;
-    save(alloc, &replica, 0, text)
+    save(alloc, &said, 0, text)
 }
 
 /// Takes the file's delta in.
@@ -67,22 +79,17 @@ pub(crate) fn merge(alloc: Global, state: &[u8], file: &[u8]) -> Result<Reply, F
     ensures err { IfErr result (λ e. e ≢ Fault.OutOfMemory → merge state.now file.now ≡ Err e) }
 {
     texts_are_read();
-    let mut replica = load(alloc, state)?;
-    let new = replica.take(file)?;
+    let mut said = load(alloc, state)?;
+    let new = said.take(file)?;
     let text = number_line(alloc, b"new ", u64::from(new))?;
-    save(
-        alloc,
-        &replica,
-        state.len().saturating_add(file.len()),
-        text,
-    )
+    save(alloc, &said, state.len().saturating_add(file.len()), text)
 }
 
 /// What is to be written after a session: the union of what the state file holds now, for another command may have changed
-/// it meanwhile, and what the session's replica holds; the author stays. The text says how many operations are new to the
+/// it meanwhile, and what the session held; the author stays. The text says how many operations are new to the
 /// file and how many there are. The first refusal is `Load` where the bytes are no state; then `Author` where they are
 /// another author's; then `TooMany`. Want of memory is `OutOfMemory`.
-pub fn rejoin(alloc: Global, state: &[u8], held: &Replica<Global>) -> Result<Reply, Fault>
+pub fn rejoin(alloc: Global, state: &[u8], held: &Record<Global>) -> Result<Reply, Fault>
     ensures ok { IfOk result (λ reply. rejoined state.now held.now ≡ Ok (answer_of reply)) }
     ensures err { IfErr result (λ e. e ≢ Fault.OutOfMemory → rejoined state.now held.now ≡ Err e) }
 {

@@ -13,9 +13,10 @@ use crate::fault::Fault;
 use crate::finding::survey_known;
 use crate::progress::Progress;
 use crate::reply::Reply;
-use crate::states::{load, save};
+use crate::states::{load_replica, save};
 use crate::texts::extended_line;
 use oct_code::Code;
+use oct_record::Holder;
 use oct_replica::Replica;
 use std::alloc::Global;
 
@@ -41,10 +42,10 @@ pub(crate) fn give_turns<P: Progress>(
     ensures err { IfErr result (λ e. e ≢ Fault.OutOfMemory → in_turns (turn_of aim) state.now count (map (λ word. word.items) codes.now) ≡ Err e) }
 {
     check_count(count)?;
-    let mut replica = load(alloc, state)?;
+    let mut replica = load_replica(alloc, state)?;
     let codes = read_codes(alloc, codes)?;
     let text = turns(alloc, &mut replica, count, &codes, aim, progress)?;
-    save(alloc, &replica, state.len(), text)
+    save(alloc, replica.said(), state.len(), text)
 }
 
 // Gives each game its turn, and a line.

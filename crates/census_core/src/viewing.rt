@@ -10,7 +10,7 @@ ghost use Rattle.census_core.specs.Viewing.{json_in, report_in};
 use crate::asking::said;
 use crate::fault::Fault;
 use crate::reply::Reply;
-use crate::states::load;
+use crate::states::load_replica;
 use oct_replica::Replica;
 use oct_views::{Sheet, write_json, write_report};
 use std::alloc::{AllocError, Global};
@@ -31,7 +31,7 @@ pub(crate) fn show(alloc: Global, state: &[u8], view: View) -> Result<Reply, Fau
     ensures ok { IfOk result (λ reply. shown view state.now ≡ Ok (answer_of reply)) }
     ensures err { IfErr result (λ e. e ≢ Fault.OutOfMemory → shown view state.now ≡ Err e) }
 {
-    let replica = load(alloc, state)?;
+    let replica = load_replica(alloc, state)?;
     let text = view_text(alloc, &replica, view)?;
     Ok(said(text))
 }

@@ -4,7 +4,7 @@ use crate::connection::{Connection, Patience};
 use crate::files::read_file;
 use crate::state_file::StateFile;
 use census_core::{Fault, rejoin};
-use oct_replica::Replica;
+use oct_record::Record;
 use oct_sync::{Role, drive, write_out};
 use std::alloc::Global;
 use std::fs::File;
@@ -31,10 +31,10 @@ pub(crate) fn serve<R>(rt: &R, place: Place<'_>) -> Result<(), Fault>
 where
     R: Files<File = File> + AllocGlobal + Net<Stream = TcpStream, Listener = TcpListener> + Clock,
 {
-    let replica = load(rt, place.state)?;
+    let said = load(rt, place.state)?;
     let listener = bound(rt, place.address)?;
     let (stream, _) = accepted(&listener)?;
-    meet(rt, Role::Server, place, replica, &stream)?;
+    meet(rt, Role::Server, place, said, &stream)?;
     Ok(())
 }
 
@@ -43,11 +43,11 @@ pub(crate) fn sync<R>(rt: &R, place: Place<'_>) -> Result<(), Fault>
 where
     R: Files<File = File> + AllocGlobal + Net<Stream = TcpStream, Listener = TcpListener> + Clock,
 {
-    let replica = load(rt, place.state)?;
+    let said = load(rt, place.state)?;
     let Ok(stream) = TcpStream::connect(rt, place.address) else {
         return Err(Fault::Net);
     };
-    meet(rt, Role::Client, place, replica, &stream)?;
+    meet(rt, Role::Client, place, said, &stream)?;
     Ok(())
 }
 
@@ -90,8 +90,8 @@ fn host<R>(rt: &R, place: Place<'_>, stream: &TcpStream) -> Result<Vec<u8>, Faul
 where
     R: Files<File = File> + AllocGlobal + Clock,
 {
-    let replica = load(rt, place.state)?;
-    meet(rt, Role::Server, place, replica, stream)
+    let said = load(rt, place.state)?;
+    meet(rt, Role::Server, place, said, stream)
 }
 
 // Says how a session ended.
@@ -107,10 +107,10 @@ fn say<O: Write>(
     Ok(write_out(output, &line)?)
 }
 
-// The replica of a state file.
-fn load<R: Files + AllocGlobal>(rt: &R, state: &str) -> Result<Replica<Global>, Fault> {
+// What a state file says. No nim-value is computed.
+fn load<R: Files + AllocGlobal>(rt: &R, state: &str) -> Result<Record<Global>, Fault> {
     let bytes = read_file(rt, state)?;
-    Ok(Replica::load(rt.alloc(), &bytes)?)
+    Ok(Record::load(rt.alloc(), &bytes)?)
 }
 
 // Listens at the address. The fault is `Net`.
@@ -131,22 +131,22 @@ fn accepted(listener: &TcpListener) -> Result<(TcpStream, SocketAddr), Fault> {
     Err(Fault::Net)
 }
 
-// Runs a session to its end over the connection, and saves what the replica holds then, also after a fault of the session.
+// Runs a session to its end over the connection, and saves what is held then, also after a fault of the session.
 // The text is that of the union.
 fn meet<R>(
     rt: &R,
     role: Role,
     place: Place<'_>,
-    mut replica: Replica<Global>,
+    mut said: Record<Global>,
     stream: &TcpStream,
 ) -> Result<Vec<u8>, Fault>
 where
     R: Files<File = File> + AllocGlobal + Clock,
 {
-    match exchange(rt, role, place.patience, &mut replica, stream) {
-        Ok(()) => save(rt, place.state, &replica),
+    match exchange(rt, role, place.patience, &mut said, stream) {
+        Ok(()) => save(rt, place.state, &said),
         Err(Fault::Sync(fault)) => {
-            let _ = save(rt, place.state, &replica);
+            let _ = save(rt, place.state, &said);
             Err(Fault::Sync(fault))
         }
         Err(fault) => Err(fault),
@@ -158,7 +158,7 @@ fn exchange<R>(
     rt: &R,
     role: Role,
     patience: Patience,
-    replica: &mut Replica<Global>,
+    said: &mut Record<Global>,
     stream: &TcpStream,
 ) -> Result<(), Fault>
 where
@@ -170,16 +170,16 @@ where
     ) else {
         return Err(Fault::Net);
     };
-    Ok(drive(rt.alloc(), role, replica, &mut reader, &mut writer)?)
+    Ok(drive(rt.alloc(), role, said, &mut reader, &mut writer)?)
 }
 
-// Saves the union of what the state file holds now and what the replica holds, while no other command changes the file.
-fn save<R>(rt: &R, state: &str, replica: &Replica<Global>) -> Result<Vec<u8>, Fault>
+// Saves the union of what the state file holds now and what is held, while no other command changes the file.
+fn save<R>(rt: &R, state: &str, said: &Record<Global>) -> Result<Vec<u8>, Fault>
 where
     R: Files<File = File> + AllocGlobal,
 {
     let file = StateFile::wait(rt, state)?;
-    let saved = save_held(rt, &file, state, replica);
+    let saved = save_held(rt, &file, state, said);
     file.release(rt);
     saved
 }
@@ -189,13 +189,13 @@ fn save_held<R>(
     rt: &R,
     file: &StateFile,
     state: &str,
-    replica: &Replica<Global>,
+    said: &Record<Global>,
 ) -> Result<Vec<u8>, Fault>
 where
     R: Files<File = File> + AllocGlobal,
 {
     let bytes = read_file(rt, state)?;
-    let reply = rejoin(rt.alloc(), &bytes, replica)?;
+    let reply = rejoin(rt.alloc(), &bytes, said)?;
     if let Some(text) = &reply.state {
         file.replace(rt, text)?;
     }

@@ -373,6 +373,13 @@ impl<A: Allocator + Copy> Replica<A> {
         }
     }
 
+    /// What was said, without what follows from it. Takes no memory.
+    pub fn into_record(self) -> Record<A>
+        ensures { result ≡ self }
+    {
+        self.said
+    }
+
     // Puts in an operation that others hold too, and says whether it is new. The record and the operation's game share it. Memory
     // can be refused only where it is new; then nothing changes.
     fn put(&mut self, op: &Rc<Op<A>, A>) -> Result<bool, AllocError>

@@ -17,7 +17,7 @@ use Rattle.oct_ops.specs.OrderLaws.{op_cmp_exact, op_cmp_total}
 use Rattle.oct_ops.specs.SetLaws as laws
 use Rattle.oct_ops.specs.Valid.{IsOp}
 use Rattle.oct_store.specs.Summary.{beyond, not_covered}
-use Rattle.oct_replica.specs.Settled.{AreValid}
+use Rattle.oct_record.specs.Valid.{AreValid}
 use Rattle.oct_replica.proofs.Authors.{clock-has}
 use Rattle.oct_replica.proofs.Members.{Has, Has-keep, Has-listed, In, In-listed, keep-has, same_set, In-filter_source, all_in}
 use Rattle.oct_sync.specs.Driven.{after}

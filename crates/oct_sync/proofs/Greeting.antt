@@ -24,7 +24,7 @@ use Rattle.oct_ops.specs.Operations.{Operations, listed}
 use Rattle.oct_store.specs.Summary.{clock_of, positive, through as through_of}
 use Rattle.oct_store.proofs.Greatest.{clock_of-is}
 use Rattle.oct_store.proofs.Throughs.{is_through}
-use Rattle.oct_replica.specs.Settled.{AreValid}
+use Rattle.oct_record.specs.Valid.{AreValid}
 use Rattle.oct_replica.proofs.Authors.{has_dot_source}
 use Rattle.oct_replica.proofs.Members.{Has-listed}
 use Rattle.oct_sync.specs.Exchange.{sent_clock}

@@ -6,7 +6,7 @@ use Rattle.oct_join.specs.Clock.{Clock, entries}
 use Rattle.oct_ops.specs.Body.{Operation}
 use Rattle.oct_ops.specs.Operations.{Operations, contains, listed, union}
 use Rattle.oct_store.specs.Summary.{clock_of, beyond}
-use Rattle.oct_replica.specs.Settled.{AreValid}
+use Rattle.oct_record.specs.Valid.{AreValid}
 use Rattle.oct_sync.specs.Driven.{after}
 use Rattle.oct_sync.specs.Session.{IsDone, max_authors}
 use Rattle.oct_sync.specs.declared.role.Role.{Role}

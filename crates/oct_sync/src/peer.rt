@@ -2,11 +2,13 @@
 
 ghost use Rattle.std.specs.Prelude.{◌≡◌, ◌<◌, ◌^◌, ℕ, length, take, IfOk, OnOk, OnErr};
 ghost use Rattle.oct_ops.specs.Operations.{Operations, listed, union, set_of, IsRising};
-ghost use Rattle.oct_replica.specs.Settled.{AreValid};
+ghost use Rattle.oct_record.specs.Valid.{AreValid};
 ghost use Rattle.oct_store.specs.Summary as summary;
 
 use oct_join::Clock;
 use oct_ops::{Op, OpList};
+use oct_record::taking::take_list;
+use oct_record::{Holder, Record};
 use oct_replica::Replica;
 use std::alloc::{AllocError, Allocator};
 use std::mem;
@@ -50,11 +52,43 @@ impl<A: Allocator + Copy> Peer<A> for Replica<A> {
     }
 
     fn take_ops(&mut self, ops: &mut Vec<Op<A>, A>) -> Result<(), AllocError> {
-        let empty = Vec::new(*ops.allocator());
-        let list = OpList::of_rising(mem::replace(ops, empty));
-        match self.take_list(list) {
-            Ok(_) => Ok(()),
-            Err(_) => Err(AllocError),
-        }
+        move_in(self, ops)
+    }
+}
+
+impl<A: Allocator + Copy> Peer<A> for Record<A> {
+    ghost held = { λ said. said.ops };
+
+    ghost author = { λ said. said.author };
+
+    fn clock(&self) -> Result<Clock<A>, AllocError> {
+        Record::clock(self)
+    }
+
+    fn beyond(&self, clock: &Clock<A>) -> Result<OpList<A>, AllocError> {
+        Record::beyond(self, clock)
+    }
+
+    fn take_ops(&mut self, ops: &mut Vec<Op<A>, A>) -> Result<(), AllocError> {
+        move_in(self, ops)
+    }
+}
+
+// Moves the operations into whoever holds some.
+fn move_in<A: Allocator + Copy, H: Holder<A>>(
+    holder: &mut H,
+    ops: &mut Vec<Op<A>, A>,
+) -> Result<(), AllocError>
+    requires rises { IsRising ops.old.items }
+    requires few { length ops.old.items < 2 ^ 32 }
+    ensures ok { OnOk result ((H.content holder.new).ops ≡ union (H.content holder.old).ops (set_of ops.old.items)) }
+    ensures err { OnErr result ((count : ℕ) × ((H.content holder.new).ops ≡ union (H.content holder.old).ops (set_of (take count ops.old.items)))) }
+    ensures author { (H.content holder.new).author ≡ (H.content holder.old).author }
+{
+    let empty = Vec::new(*ops.allocator());
+    let list = OpList::of_rising(mem::replace(ops, empty));
+    match take_list(holder, list) {
+        Ok(_) => Ok(()),
+        Err(_) => Err(AllocError),
     }
 }

@@ -10,7 +10,7 @@ use Rattle.census_core.proofs.claiming.claim_values.Goals as goal
 pub returns-in_err-dot-clause-err : goal.returns-in_err-dot-clause-err
 returns-in_err-dot-clause-err c =
     let file : Bfile = record { start = c.args.file.now.start; values = c.args.file.now.values.items } in
-    let so_far : Claimed = record { replica = c.loop-place.replica; first = c.loop-place.first; last = c.loop-place.last } in
+    let so_far : Claimed = record { replica = c.loop-place.said; first = c.loop-place.first; last = c.loop-place.last } in
     let place = c.loop-place.place in
     let within : place < block_count (length file.values) = (let P : List ℕ → Type 0 = λ l. place < block_count (length l) in subst P c.as_slice-values.ensures.value c.loop-place-test.true) in
     let is = ap (λ values. claimed c.args.code (c.args.file.now.start + 1024 * place) values) (c.chunk_at.ensures.value ∙ ap (λ values. take 1024 (drop (1024 * place) values)) c.as_slice-values.ensures.value) in
@@ -22,10 +22,10 @@ returns-in_err-dot-clause-err c =
 pub loop-place-preserved : goal.loop-place-preserved
 loop-place-preserved c =
     let file : Bfile = record { start = c.args.file.now.start; values = c.args.file.now.values.items } in
-    let so_far : Claimed = record { replica = c.loop-place.replica; first = c.loop-place.first; last = c.loop-place.last } in
+    let so_far : Claimed = record { replica = c.loop-place.said; first = c.loop-place.first; last = c.loop-place.last } in
     let place = c.loop-place.place in
     let within : place < block_count (length file.values) = (let P : List ℕ → Type 0 = λ l. place < block_count (length l) in subst P c.as_slice-values.ensures.value c.loop-place-test.true) in
     let is = ap (λ values. claimed c.args.code (c.args.file.now.start + 1024 * place) values) (c.chunk_at.ensures.value ∙ ap (λ values. take 1024 (drop (1024 * place) values)) c.as_slice-values.ensures.value) in
     c.loop-place.invariant
-    ∙ block_issued so_far c.args.code file place (block_count (length file.values)) _ c.issue_block.new.replica c.in_ok-dot.dot within is c.in_ok-dot.ensures.ok c.in_ok-dot.ensures.dot
-    ∙ ap (λ first. with_blocks (record { replica = c.issue_block.new.replica; first = first; last = Some c.in_ok-dot.dot }) (map (block_at c.args.code file) (range_with_len (place + 1) (block_count (length file.values) - (place + 1))))) (sym c.or-first.ensures)
+    ∙ block_issued so_far c.args.code file place (block_count (length file.values)) _ c.issue_block.new.said c.in_ok-dot.dot within is c.in_ok-dot.ensures.ok c.in_ok-dot.ensures.dot
+    ∙ ap (λ first. with_blocks (record { replica = c.issue_block.new.said; first = first; last = Some c.in_ok-dot.dot }) (map (block_at c.args.code file) (range_with_len (place + 1) (block_count (length file.values) - (place + 1))))) (sym c.or-first.ensures)

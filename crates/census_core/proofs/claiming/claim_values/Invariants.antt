@@ -7,5 +7,5 @@ use Rattle.census_core.proofs.claiming.claim_values.Given as goal
 abbrev pub invariant-loop-place : goal.invariant-loop-place
 invariant-loop-place l =
     let file : Bfile = record { start = l.file.start; values = l.file.values.items } in
-    claimed_by l.fn.replica l.code file
-    ≡ with_blocks (record { replica = l.replica; first = l.first; last = l.last }) (map (block_at l.code file) (range_with_len l.place (block_count (length l.file.values.items) - l.place)))
+    claimed_by l.fn.said l.code file
+    ≡ with_blocks (record { replica = l.said; first = l.first; last = l.last }) (map (block_at l.code file) (range_with_len l.place (block_count (length l.file.values.items) - l.place)))

@@ -6,9 +6,9 @@ use Rattle.census_core.proofs.unions.unite.Goals as goal
 
 pub loop-index-init : goal.loop-index-init
 loop-index-init c = record {
-  taken = from_none c.reader_of_lines-all.result.ops _ c.reader_of_lines-all.ensures;
+  taken = from_none c.nothing-all.result.ops _ c.nothing-all.ensures;
   refused = refl;
-  valid = none_valid c.reader_of_lines-all.result.ops c.reader_of_lines-all.ensures;
+  valid = none_valid c.nothing-all.result.ops c.nothing-all.ensures;
 }
 
 pub loop-index-preserved : goal.loop-index-preserved

@@ -1,7 +1,7 @@
 use Rattle.std.proofs.Common.{◌≡◌, ◌+◌, map, drop}
 use Rattle.oct_delta.specs.Taken.{operations_of_all}
 use Rattle.oct_ops.specs.Operations.{union}
-use Rattle.oct_replica.specs.Settled.{AreValid}
+use Rattle.oct_record.specs.Valid.{AreValid}
 use Rattle.census_core.specs.Unions.{first_refused}
 use Rattle.census_core.proofs.unions.unite.Given as goal
 

@@ -1,4 +1,3 @@
-use Rattle.std.proofs.Common.{◌≡◌}
 use Rattle.std.proofs.lemmas.Result.{err_from_is_err_and}
 use Rattle.oct_delta.proofs.Deltas.{text_rising}
 use Rattle.oct_record.proofs.Along.{text_few}
