@@ -1,17 +1,27 @@
 -- The axes of a plot. The point where they meet has the place 0 0; a place above it has a negative second number.
-use Rattle.std.specs.Prelude.{ℕ, ◌+◌, ◌*◌, ◌/◌, nat_le, [], ◌∷◌, map, codes, find, unwrap_or}
-use Rattle.std.specs.List.{concat, range_with_len}
+use Rattle.std.specs.Prelude.{ℕ, ◌+◌, ◌*◌, ◌/◌, ◌^◌, nat_le, List, [], ◌∷◌, ◌++◌, map, codes, find, unwrap_or}
+use Rattle.std.specs.List.{concat, flat_map, range_with_len}
 use Rattle.std.specs.Fmt.{decimal}
 use Rattle.oct_pages.specs.Catalogue.{Text}
 use Rattle.oct_views.specs.Points.{scaled}
 use Rattle.oct_views.specs.declared.axes.Axis.{Axis}
 use Rattle.oct_views.specs.declared.axes.Axis.TheVariants.{Heaps, Values}
-use Rattle.oct_views.specs.declared.axes.TheConstants.{HEIGHT, STEPS, WIDTH}
 use Rattle.oct_views.specs.declared.points.Frame.{Frame}
+
+-- how wide and how high the axes are drawn
+abbrev pub width : ℕ
+width = 700
+
+abbrev pub height : ℕ
+height = 320
+
+-- how far ticks may be apart: 1, 2 or 5 times a power of ten, up to 10^9
+abbrev pub steps : List ℕ
+steps = flat_map (λ i. 10 ^ i ∷ 2 * 10 ^ i ∷ 5 * 10 ^ i ∷ []) (range_with_len 0 9) ++ 10 ^ 9 ∷ []
 
 -- how far the ticks of an axis are apart that spans so much: the least step with at most nine ticks
 abbrev pub step_of : ℕ → ℕ
-step_of span = unwrap_or (find (λ step. nat_le span (8 * step)) STEPS) span
+step_of span = unwrap_or (find (λ step. nat_le span (8 * step)) steps) span
 
 -- a line at a place of an axis, and a number beside it, in the texts that stand around them
 abbrev pub marked : Text → Text → Text → ℕ → ℕ → Text
@@ -27,8 +37,8 @@ value_tick above value = marked (codes "<path d=\"M0 -") (codes "h-6\"/><text cl
 
 -- the tick of a number on an axis that spans so much
 abbrev pub tick : Axis → ℕ → ℕ → Text
-tick Heaps span n = heap_tick (scaled n span WIDTH) n
-tick Values span n = value_tick (scaled n span HEIGHT) n
+tick Heaps span n = heap_tick (scaled n span width) n
+tick Values span n = value_tick (scaled n span height) n
 
 -- the ticks at 0, one step, two steps and so on
 abbrev pub ticks : Axis → ℕ → Text

@@ -8,7 +8,7 @@ use Rattle.std.specs.Str.Parse.{digits_value}
 use Rattle.oct_code.specs.declared.limits.TheConstants.{LIMIT}
 use Rattle.oct_pages.specs.Catalogue.{Text}
 use Rattle.oct_views.specs.declared.bfile_error.BfileError.{BfileError}
-use Rattle.oct_views.specs.declared.bfile_error.BfileError.TheVariants.{Form, Order, PastLimit, Empty}
+use Rattle.oct_views.specs.declared.bfile_error.BfileError.TheVariants.{Form, Order, PastLimit, Empty, OutOfMemory}
 use Rattle.oct_views.specs.declared.bfile_line.BfileLine.{BfileLine}
 use Rattle.oct_views.specs.declared.bfile_line.BfileLine.TheVariants.{Row, Skipped, Faulty}
 
@@ -134,6 +134,10 @@ value_in (Row n v) = Some v
 abbrev pub values_of : List BfileLine → List ℕ
 values_of = filter_map value_in
 
+-- the values of the rows of a text
+abbrev pub row_values : Text → List ℕ
+row_values text = values_of (map line_of (lines text))
+
 abbrev pub file_by : Option ℕ → List ℕ → Result Bfile BfileError
 file_by None values = Err Empty
 file_by (Some start) values = Ok (record { start = start; values = values })
@@ -147,3 +151,13 @@ abbrev pub bfile_of : Text → Result Bfile BfileError
 bfile_of text =
     let rows = map line_of (lines text) in
     checked_by (first_fault 1 None rows) rows
+
+-- ---- what a fault is called
+
+-- its name, and behind it the number of the line
+abbrev pub fault_text : BfileError → Text
+fault_text (Form place) = codes "Form " ++ decimal place
+fault_text (Order place) = codes "Order " ++ decimal place
+fault_text (PastLimit place) = codes "PastLimit " ++ decimal place
+fault_text Empty = codes "Empty"
+fault_text OutOfMemory = codes "OutOfMemory"

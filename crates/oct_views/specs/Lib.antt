@@ -11,5 +11,6 @@ pub mod Plot
 pub mod Points
 pub mod Report
 pub mod Sheet
+pub mod Styles
 pub mod Tables
 pub mod ViewLaws

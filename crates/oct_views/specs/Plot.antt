@@ -6,12 +6,11 @@ use Rattle.oct_code.specs.Code.{Code}
 use Rattle.oct_code.specs.CodeText.{code_text}
 use Rattle.oct_ops.specs.Operation.{Period}
 use Rattle.oct_pages.specs.Catalogue.{Text}
-use Rattle.oct_views.specs.Axes.{axes}
+use Rattle.oct_views.specs.Axes.{axes, width}
 use Rattle.oct_views.specs.Points.{frame_of, points_of, scaled}
-use Rattle.oct_views.specs.declared.axes.TheConstants.{WIDTH}
+use Rattle.oct_views.specs.Styles.{plot_style}
 use Rattle.oct_views.specs.declared.points.Frame.{Frame}
 use Rattle.oct_views.specs.declared.points.Point.{Point}
-use Rattle.oct_views.specs.declared.plot.TheConstants.{STYLE}
 
 -- ---- what stands before the drawing
 
@@ -32,14 +31,14 @@ abbrev pub head : Code → Text → Text
 head c named = concat (
     codes "<svg xmlns=\"http://www.w3.org/2000/svg\" class=\"plot\" viewBox=\"0 0 840 460\" role=\"img\" aria-labelledby=\"plot-" ∷ code_text c
     ∷ codes "\"><title id=\"plot-" ∷ code_text c ∷ codes "\">" ∷ named
-    ∷ codes "</title>\n<style>" ∷ STYLE.now ∷ codes "</style>\n<g transform=\"translate(100 390)\">\n<text class=\"title\" x=\"0\" y=\"-340\">" ∷ named
+    ∷ codes "</title>\n<style>" ∷ plot_style ∷ codes "</style>\n<g transform=\"translate(100 390)\">\n<text class=\"title\" x=\"0\" y=\"-340\">" ∷ named
     ∷ codes "</text>\n" ∷ [])
 
 -- ---- the drawing
 
 -- how far to the right a heap stands, at most as far as the last known one
 abbrev pub right_of : Frame → ℕ → ℕ
-right_of frame heap = scaled (min heap frame.heaps) frame.heaps WIDTH
+right_of frame heap = scaled (min heap frame.heaps) frame.heaps width
 
 -- a shade from a place to another, and a line at the first
 abbrev pub shade : ℕ → ℕ → Text

@@ -6,7 +6,6 @@ use Rattle.std.specs.declared.cmp.Ordering.{Ordering}
 use Rattle.oct_ops.specs.Arranged.{arranged}
 use Rattle.oct_views.specs.declared.points.Frame.{Frame}
 use Rattle.oct_views.specs.declared.points.Point.{Point}
-use Rattle.oct_views.specs.declared.points.TheConstants.{COLUMNS, ROWS}
 
 -- the last heap and the greatest value, each at least 1
 abbrev pub frame_of : List ℕ → Frame
@@ -23,9 +22,16 @@ pub record IsFrame (frame : Frame) : Type 0 where
 abbrev pub scaled : ℕ → ℕ → ℕ → ℕ
 scaled n whole size = n * size / whole
 
+-- how many columns and rows of points stand between the first and the last of them
+abbrev pub columns : ℕ
+columns = 1400
+
+abbrev pub rows : ℕ
+rows = 640
+
 -- where a heap with its value falls
 abbrev pub point_at : Frame → ℕ × ℕ → Point
-point_at frame h = record { column = scaled h.0 frame.heaps COLUMNS; row = scaled h.1 frame.values ROWS }
+point_at frame h = record { column = scaled h.0 frame.heaps columns; row = scaled h.1 frame.values rows }
 
 -- by column, then by row
 abbrev pub point_cmp : Point → Point → Ordering

@@ -17,8 +17,8 @@ use Rattle.oct_verify.specs.declared.status.Status.TheVariants as of_block
 use Rattle.oct_views.specs.Escape.{escaped}
 use Rattle.oct_views.specs.Plot.{plot, proved_text}
 use Rattle.oct_views.specs.Sheet.{GameSheet, Sheet}
+use Rattle.oct_views.specs.Styles.{page_style}
 use Rattle.oct_views.specs.Tables.{table}
-use Rattle.oct_views.specs.declared.report.TheConstants.{STYLE}
 use Rattle.oct_views.specs.declared.rows.BlockRow.{BlockRow}
 use Rattle.oct_views.specs.declared.rows.PeriodRow.{PeriodRow}
 
@@ -202,7 +202,7 @@ authors_table authors = table (codes "Authors") (codes "author" ∷ codes "throu
 abbrev pub page_head : Text
 page_head = concat (
     codes "<!DOCTYPE html>\n<html xmlns=\"http://www.w3.org/1999/xhtml\" lang=\"en\">\n<head>\n<meta charset=\"utf-8\"/>\n<meta name=\"viewport\" content=\"width=device-width, initial-scale=1\"/>\n<title>Census of nim-sequences</title>\n<style>"
-    ∷ STYLE.now ∷ codes "</style>\n</head>\n<body>\n<h1>Census of nim-sequences</h1>\n" ∷ [])
+    ∷ page_style ∷ codes "</style>\n</head>\n<body>\n<h1>Census of nim-sequences</h1>\n" ∷ [])
 
 abbrev pub page_end : Sheet → Text
 page_end s = concat (notes_table s.notes ∷ forks_table s.forks ∷ authors_table s.authors ∷ codes "</body>\n</html>\n" ∷ [])

@@ -1,7 +1,8 @@
 -- What holds of pictures and pages.
-use Rattle.std.specs.Prelude.{◌≡◌, ℕ, ◌==◌, ◌||◌, Bool, true, false, not, List, [], ◌∷◌, ◌++◌, codes, Contains}
-use Rattle.std.specs.List.{list_all, list_any}
+use Rattle.std.specs.Prelude.{◌≡◌, ℕ, ◌==◌, ◌||◌, nat_eq, Bool, true, false, not, List, [], ◌∷◌, ◌++◌, codes, Contains}
+use Rattle.std.specs.List.{list_all, list_any, starts_with}
 use Rattle.std.specs.Ordering.{eq_by_cmp}
+use Rattle.std.specs.Str.{str_to_ascii_lowercase}
 use Rattle.oct_ops.specs.Sets.{rises}
 use Rattle.oct_pages.specs.Catalogue.{Text}
 use Rattle.oct_views.specs.Escape.{escaped}
@@ -24,6 +25,20 @@ DrawnWhereKnown = (values : List ℕ) (p : Point) → is_drawn values p ≡ is_k
 -- the points rise strictly by column and row
 abbrev pub DrawnOnce : Type 0
 DrawnOnce = (values : List ℕ) → rises point_cmp (points_of values) ≡ true
+
+-- ---- a style loads nothing
+
+-- the part stands somewhere in the text
+abbrev pub has_part : Text → Text → Bool
+has_part [] part = starts_with nat_eq [] part
+has_part (b ∷ rest) part = starts_with nat_eq (b ∷ rest) part || has_part rest part
+
+-- what ends a style or loads something; an escape may spell any of it, and a string may be an address
+abbrev pub loading_parts : List Text
+loading_parts = codes "<" ∷ codes "\\" ∷ codes "\"" ∷ codes "'" ∷ codes "@import" ∷ codes "url(" ∷ []
+
+abbrev pub LoadsNothing : Text → Type 0
+LoadsNothing style = list_any (has_part (str_to_ascii_lowercase style)) loading_parts ≡ false
 
 -- ---- a text of others ends no part of a page
 

@@ -1,9 +1,9 @@
 //! b-files: texts that list the values of a sequence, a line to each.
 
-ghost use Rattle.std.specs.Prelude.{◌≡◌, ◌≢◌, ◌+◌, ◌<◌, ◌≤◌, ◌∷◌, ◌++◌, [], Ok, Err, Some, None, length, IfErr, IfOk, MatchOption, OnErr, OnOk};
+ghost use Rattle.std.specs.Prelude.{◌≡◌, ◌≢◌, ◌+◌, ◌<◌, ◌≤◌, ◌∷◌, ◌++◌, [], Ok, Err, Some, None, length, IfErr, IfOk, IsErrOf, IsOk, MatchOption, OnErr, OnOk};
 ghost use Rattle.std.specs.List.{position, position_or_len};
 ghost use Rattle.oct_pages.specs.Growth.{Extends};
-ghost use Rattle.oct_views.specs.Bfile.{bfile_of, bfile_text, end_len, ends_line, lines, row_fault, row_text};
+ghost use Rattle.oct_views.specs.Bfile.{bfile_of, bfile_text, end_len, ends_line, lines, row_fault, row_text, row_values};
 
 use crate::bfile_error::BfileError;
 use crate::bfile_line::{BfileLine, line_of};
@@ -62,38 +62,63 @@ fn append_row<A: Allocator>(
 /// The values that a text lists, as `specs/Bfile` says. Lines end by LF, CR LF or CR; spaces and tabs at either end of a line
 /// are passed over. A line that has nothing else, or then begins with `#`, says nothing. Any other line has two whole numbers
 /// below 2^32 in decimal digits, with spaces or tabs between: a number, which rises by one from such line to the next and
-/// stays below `LIMIT`, and its value. A refusal names the first faulty line.
+/// stays below `LIMIT`, and its value. A refusal names the first faulty line. The text is checked as a whole before memory is
+/// asked for, so `OutOfMemory` comes only where it has no fault.
 pub fn read_bfile<A: Allocator>(alloc: A, bytes: &[u8]) -> Result<Bfile<A>, BfileError>
     ensures ok { IfOk result (λ file. bfile_of bytes.now ≡ Ok (record { start = file.start; values = file.values.items })) }
     ensures some { IfOk result (λ file. 1 ≤ length file.values.items) }
     ensures within { IfOk result (λ file. file.start + length file.values.items ≤ LIMIT) }
     ensures err { IfErr result (λ e. e ≢ BfileError.OutOfMemory → bfile_of bytes.now ≡ Err e) }
+    ensures memory { IsErrOf result BfileError.OutOfMemory → IsOk (bfile_of bytes.now) }
+{
+    let start = check_lines(bytes)?;
+    let Ok(values) = row_values(alloc, bytes) else {
+        return Err(BfileError::OutOfMemory);
+    };
+    Ok(Bfile { start, values })
+}
+
+// The number of the first row, or the first fault of the text.
+fn check_lines(bytes: &[u8]) -> Result<u32, BfileError>
+    ensures ok { IfOk result (λ start. bfile_of bytes.now ≡ Ok (record { start = start; values = row_values bytes.now })) }
+    ensures some { OnOk result (1 ≤ length (row_values bytes.now)) }
+    ensures within { IfOk result (λ start. start + length (row_values bytes.now) ≤ LIMIT) }
+    ensures err { IfErr result (λ e. bfile_of bytes.now ≡ Err e) }
+    ensures named { ¬ IsErrOf result BfileError.OutOfMemory }
 {
     let mut start = None;
     let mut due = None;
-    let mut values = Vec::new(alloc);
-    let mut line = 0;
+    let mut line = 1;
     let mut rest = bytes;
     while let Some((text, behind)) = next_line(rest) {
-        line += 1;
-        rest = behind;
         match line_of(text) {
             BfileLine::Skipped => {}
             BfileLine::Faulty => return Err(BfileError::Form { line }),
-            BfileLine::Row { number, value } => {
+            BfileLine::Row { number, .. } => {
                 check_row(line, due, number)?;
-                if values.push(value).is_err() {
-                    return Err(BfileError::OutOfMemory);
-                }
                 start = start.or(Some(number));
                 due = Some(number + 1);
             }
         }
+        line += 1;
+        rest = behind;
     }
-    match start {
-        Some(start) => Ok(Bfile { start, values }),
-        None => Err(BfileError::Empty),
+    start.ok_or(BfileError::Empty)
+}
+
+// The values of the rows of a text.
+fn row_values<A: Allocator>(alloc: A, bytes: &[u8]) -> Result<Vec<u32, A>, AllocError>
+    ensures { IfOk result (λ values. values.items ≡ row_values bytes.now) }
+{
+    let mut values = Vec::new(alloc);
+    let mut rest = bytes;
+    while let Some((text, behind)) = next_line(rest) {
+        if let BfileLine::Row { value, .. } = line_of(text) {
+            values.push(value)?;
+        }
+        rest = behind;
     }
+    Ok(values)
 }
 
 // Refuses the number of a row that is not the one that is due, if one is, or that is past the limit.
@@ -101,6 +126,7 @@ fn check_row(line: usize, due: Option<u32>, number: u32) -> Result<(), BfileErro
     ensures ok { OnOk result (row_fault line due number ≡ None) }
     ensures within { OnOk result (number < LIMIT) }
     ensures err { IfErr result (λ e. row_fault line due number ≡ Some e) }
+    ensures named { ¬ IsErrOf result BfileError.OutOfMemory }
 {
     if due.is_some_and(|due| due != number) {
         return Err(BfileError::Order { line });

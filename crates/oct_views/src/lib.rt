@@ -7,12 +7,14 @@
 //!     sheet.games[0].values                 // the known nim-values of the first game, that of heap 0 first
 //!     sheet.games[0].blocks[0].status       // what is known of its first block
 //!
-//! - `Sheet` is read off `oct_pages::Parts`; it borrows the blocks, claims, notes and values, and copies none of them.
+//! - `Sheet` is read off `oct_pages::Parts`: it borrows the values and the notes, and has a row for each block, claim, fork and
+//!   author.
 //! - `GameSheet` is one game of it, and `GameSheet::of_code` that of any code.
 //! - `write_bfile` writes known values as a b-file, and `read_bfile` reads a b-file, so that its values can be claimed.
 //! - `write_json` writes the sheet as one JSON document.
 //! - `write_plot` draws the known values of a game, as an SVG picture, and `write_report` writes one page of all of a sheet.
-//! - `laws` says that a plot shows exactly what is known, and that a text of others ends no part of a page.
+//! - `laws` says that a written b-file reads back, that a plot shows exactly what is known, that a style loads nothing, and that
+//!   a text of others ends no part of a page.
 //! - `BlockRow` and `PeriodRow` are a block and a period claim, each under its dot, with its status.
 //!
 //! `specs/Sheet` says what a sheet of operations has, by the definitions that the catalogue cites.
