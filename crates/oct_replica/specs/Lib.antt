@@ -1,6 +1,7 @@
 pub use Rattle.oct_ops.specs.Operations
 pub use Rattle.oct_store.specs.Summary
 pub mod Beside
+pub mod Complete
 pub mod Computing
 pub mod Content
 pub mod Headline

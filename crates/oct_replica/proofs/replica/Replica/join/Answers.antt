@@ -3,7 +3,7 @@ use Rattle.std.proofs.lemmas.Result.{err_from_is_err_and}
 use Rattle.oct_ops.specs.Operations.{Operations, IsSubset, union}
 use Rattle.oct_ops.specs.OrderLaws.{op_cmp_total, op_cmp_exact}
 use Rattle.oct_join.specs.Order.{IsBetween}
-use Rattle.oct_join.proofs.SetMerging.{joins_start, joins_next, joins_done, joins_between}
+use Rattle.oct_join.proofs.SetMerging.{joins_start, joins_next, joins_done, joins_between, joins_lack}
 use Rattle.oct_replica.specs.Content.{ReplicaContent}
 use Rattle.oct_replica.proofs.replica.Replica.join.Goals as goal
 
@@ -27,6 +27,11 @@ pub returns-in_err-add-clause-between : goal.returns-in_err-add-clause-between
 returns-in_err-add-clause-between g c =
     subst (λ (r : ReplicaContent). IsBetween IsSubset c.args.self.now.ops r.ops (union c.args.self.now.ops c.args.other.now.ops)) (sym c.in_err-add.ensures.err)
     (joins_between op_cmp_total op_cmp_exact c.args.self.now.ops c.args.other.now.ops c.loop-op.self.ops c.loop-op.op-iterator c.loop-op.invariant.along)
+
+pub returns-in_err-add-clause-absent : goal.returns-in_err-add-clause-absent
+returns-in_err-add-clause-absent g c =
+    rw (err_from_is_err_and c.from_residual.result c.from_residual.ensures.1).1
+    (joins_lack op_cmp_total op_cmp_exact _ _ c.loop-op.self.ops _ _ _ c.in-Some.ensures.steps c.in_err-add.ensures.absent c.loop-op.invariant.along)
 
 pub returns-clause-ok : goal.returns-clause-ok
 returns-clause-ok g c = joins_done op_cmp_total op_cmp_exact c.args.self.now.ops c.args.other.now.ops c.loop-op.self.ops c.loop-op.op-iterator c.in-None.ensures.steps.0 c.loop-op.invariant.along
