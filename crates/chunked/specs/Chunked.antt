@@ -78,6 +78,6 @@ StandsAt old before new place = IsBeside new place × (index_of new place ≡ in
 abbrev pub IsFound : {X : Type 0} → (X → Ordering) → List X → ℕ → Type 0
 IsFound {X} order xs at = (at < length xs) × ((d : X) → order (slice_index_or xs at d) ≡ Equal)
 
--- the elements before the index are less than what is searched, and those from it on are greater
+-- the elements before the index are less than what is searched, none from it on is, and the one at it is not equal
 abbrev pub IsGapAt : {X : Type 0} → (X → Ordering) → List X → ℕ → Type 0
 IsGapAt {X} order xs at = (at ≤ length xs) × IsPartitionPoint (λ e. order e ≡ Less) (λ e. is_lt (order e) ≡ false) xs at × ((d : X) → at < length xs → order (slice_index_or xs at d) ≢ Equal)

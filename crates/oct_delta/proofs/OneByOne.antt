@@ -1,12 +1,12 @@
 -- Operations of a text, made one by one.
-use Rattle.std.proofs.Common.{◌≡◌, ℕ, suc, ◌≤◌, List, [], ◌∷◌, Some, None, Ok, Err, refl, sym, ap, subst, ◌∙◌}
+use Rattle.std.proofs.Common.{◌≡◌, ◌≢◌, ℕ, suc, ◌≤◌, List, [], ◌∷◌, Some, None, Ok, Err, refl, sym, ap, subst, ◌∙◌}
 use Rattle.std.specs.Int.{w32}
 use Rattle.oct_code.specs.declared.limits.TheConstants.{LIMIT}
 use Rattle.oct_ops.specs.Body.{Operation}
 use Rattle.oct_delta.specs.declared.fault.TextFault.{TextFault}
 use Rattle.oct_delta.specs.Text.{Bytes}
 use Rattle.oct_delta.specs.Delta.{IsList}
-use Rattle.oct_delta.specs.Reading.{◌>>=◌, number_at, op_at, chain_at}
+use Rattle.oct_delta.specs.Reading.{◌>>=◌, Read, number_at, op_at, chain_at}
 use Rattle.oct_delta.specs.OneByOne.{ops_at_front, ops_left, what_is_read, IsTextOps}
 use Rattle.oct_delta.proofs.Codecs.{bind_ok, done, ok_is}
 use Rattle.oct_delta.proofs.Lists.{list_reads}
@@ -49,3 +49,13 @@ module _ (limit n : ℕ) (bytes : Bytes) (is : IsTextOps limit (suc n) bytes) wh
         record { low = is.low; whole = whole ∙ (λ i. done {A = List Operation × Bytes} (sym left i, end i)) },
         sym (ap (λ (p : List Operation × Bytes). p.0) all) ∙ ap (λ (l : List Operation). x ∷ l) (sym left),
       )
+
+  pub one_is_due : ops_left limit (suc n) bytes ≢ []
+  one_is_due none = by (op_at limit bytes) refl
+    where
+      by : (read : Read Operation) → op_at limit bytes ≡ read → ⊥
+      by (Ok x) is = no_nil (sym none ∙ (steps x.0 x.1 is).1)
+        where
+          no_nil : {xs : List Operation} → [] ≡ x.0 ∷ xs → ⊥
+          no_nil e = cc
+      by (Err f) wrong = no_fault f wrong

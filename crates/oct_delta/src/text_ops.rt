@@ -1,6 +1,6 @@
 //! The operations of a delta's text, one by one.
 
-ghost use Rattle.std.specs.Prelude.{◌≡◌, ◌↔◌, ◌≤◌, List, [], ◌∷◌, Some, None, IfOk, IsErrOf, IsSome, MatchOption, OnErr};
+ghost use Rattle.std.specs.Prelude.{◌≡◌, ◌≢◌, ◌↔◌, ◌≤◌, List, [], ◌∷◌, Some, None, IfOk, IsErrOf, IsSome, MatchOption, OnErr};
 ghost use Rattle.oct_ops.specs.Body.{Operation};
 ghost use Rattle.oct_delta.specs.Delta.{IsDeltaText, IsList};
 ghost use Rattle.oct_delta.specs.Decoding.{format_at, read_delta};
@@ -55,11 +55,12 @@ impl<'a> TextOps<'a> {
         }
     }
 
-    /// The next operation, in memory of `alloc`, and none after the last. Where memory is refused, the same call may be made
-    /// again.
+    /// The next operation, in memory of `alloc`, and none after the last. Memory can be refused only where an operation is
+    /// left; then the same call may be made again.
     pub fn next<A: Allocator + Copy>(&mut self, alloc: A) -> Result<Option<Op<A>>, AllocError>
         ensures ok { IfOk result (λ next. MatchOption next ((self.old ≡ []) × (self.new ≡ [])) (λ op. self.old ≡ op ∷ self.new)) }
         ensures err { OnErr result (self.new ≡ self.old) }
+        ensures due { OnErr result (self.old ≢ []) }
     {
         if self.left == 0 {
             return Ok(None);

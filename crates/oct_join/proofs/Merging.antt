@@ -3,7 +3,7 @@ use Rattle.std.specs.Prelude.{◌≡◌, ℕ, ◌<◌, max, true, false, cond, �
 use Rattle.std.proofs.Common.{sym, ap, ◌∙◌, subst, arith}
 use Rattle.std.specs.Option.{unwrap_or}
 use Rattle.std.specs.Ordering.{nat_cmp, eq_by_cmp, is_eq, is_lt}
-use Rattle.std.specs.Cmp.{Equal-is, nat_cmp_total}
+use Rattle.std.specs.Cmp.{Equal-is, nat_cmp_total, tied_itself}
 use Rattle.std.specs.FinMap as map
 use Rattle.std.specs.FinMap.{nat_cmp-IsAntisymmetric}
 use Rattle.std.specs.FinMap.Entries.{find, below_all}
@@ -12,7 +12,7 @@ use Rattle.std.specs.declared.cmp.Ordering.TheVariants.{Less, Equal, Greater}
 use Rattle.std.proofs.lemmas.Bool.Decides.{nat_tests}
 use Rattle.oct_join.specs.Order.{IsBetween}
 use Rattle.oct_join.specs.Clock.{Clock, through, raised, IsAtMost, IsBelow, joined}
-use Rattle.oct_join.specs.ClockLaws.{greater, greater-left, IsAtMost-refl, IsAtMost-trans, get-joined, same_clock}
+use Rattle.oct_join.specs.ClockLaws.{greater, greater-left, IsAtMost-refl, IsAtMost-trans, get-joined, joined_bound, same_clock}
 
 -- a clock of no entries is the empty one
 pub from_nothing : (es : List (ℕ × ℕ)) → es ≡ [] → map.from_sorted {R = nat_cmp} es ≡ map.empty
@@ -87,6 +87,19 @@ merges_between old other now rest along = record {
   lower = along.grown;
   upper = λ q. subst (IsAtMost (map.get now q)) (along.completes q ∙ sym (get-joined old other q)) (greater-left _ _);
 }
+
+absent_is_less : (x : Option ℕ) (n : ℕ) → 0 < n → unwrap_or x 0 ≡ 0 → ¬ IsAtMost (Some n) x
+absent_is_less None n positive none most = most
+absent_is_less (Some m) n positive none most = omega (arith, positive, none, most)
+
+-- an entry still to come, of an author who counts as 0, is no part of the old clock
+pub merges_lack : (old other now : Clock) (all : List (ℕ × ℕ)) (author n : ℕ) (rest : List (ℕ × ℕ)) → all ≡ (author, n) ∷ rest → 0 < n → T (below_all nat_cmp author rest) → through now author ≡ 0 → MergesAlong old other now all → ¬ IsBelow other old
+merges_lack old other now all author n rest next positive below none along within =
+    let bound = joined_bound old other in
+    let grown = merges_next old other now (raised now author n) all author n rest next positive below refl along in
+    let upper = (merges_between old other (raised now author n) rest grown).upper author in
+    let held = IsAtMost-trans _ _ _ (IsAtMost-trans _ _ _ upper (bound.least old (λ a. IsAtMost-refl _) within author)) (along.grown author) in
+    absent_is_less (map.get now author) (max n (through now author)) (omega arith) none (subst (λ x. IsAtMost x (map.get now author)) (get-raised now author n positive author ∙ ap (λ o. cond (is_eq o) (Some (max n (through now author))) (map.get now author)) (tied_itself nat_cmp_total author)) held)
 
 pub merges_start : (old other : Clock) (all : List (ℕ × ℕ)) → all ≡ map.entries other → MergesAlong old other old all
 merges_start old other all is_all = record {

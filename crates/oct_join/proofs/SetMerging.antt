@@ -1,11 +1,13 @@
 -- A set that takes in the elements of another, one after the other.
-use Rattle.std.specs.Prelude.{◌≡◌, true, List, [], ◌∷◌}
+use Rattle.std.specs.Prelude.{◌≡◌, true, false, ◌||◌, List, [], ◌∷◌}
 use Rattle.std.proofs.Common.{sym, ap, subst, ◌∙◌}
 use Rattle.std.specs.declared.cmp.Ordering.{Ordering}
-use Rattle.std.specs.Cmp.{IsTotalOrder}
+use Rattle.std.specs.Ordering.{is_eq}
+use Rattle.std.specs.Cmp.{IsTotalOrder, tied_itself}
+use Rattle.std.proofs.lemmas.Bool.{false≢true}
 use Rattle.std.specs.FinMap.{IsAntisymmetric}
 use Rattle.oct_ops.specs.Sets.{Set, contains, insert, set_of, union, listed, IsSubset}
-use Rattle.oct_ops.specs.SetLaws.{set_of-listed, union_left, union-insert, union-insert_left, union-empty}
+use Rattle.oct_ops.specs.SetLaws.{contains-insert, set_of-listed, union_left, union_right, union_least, union-insert, union-insert_left, union-empty}
 use Rattle.oct_join.specs.Order.{IsBetween}
 
 module _ {K : Type 0} {R : K → K → Ordering} (total : IsTotalOrder R) (exact : IsAntisymmetric R) where
@@ -30,6 +32,14 @@ module _ {K : Type 0} {R : K → K → Ordering} (total : IsTotalOrder R) (exact
 
   pub joins_done : (old other now : Set R) (all : List K) → all ≡ [] → JoinsAlong old other now all → now ≡ union old other
   joins_done old other now all none along = sym (union-empty total exact now) ∙ ap (λ xs. union now (set_of xs)) (sym none) ∙ along.completes
+
+  -- what is missing, and still to come, is no part of the old set
+  pub joins_lack : (old other now : Set R) (all : List K) (x : K) (rest : List K) → all ≡ x ∷ rest → contains now x ≡ false → JoinsAlong old other now all → ¬ IsSubset other old
+  joins_lack old other now all x rest next missing along within =
+      let comes : contains (set_of all) x ≡ true =
+      ap (λ xs. contains (set_of {R = R} xs) x) next ∙ contains-insert total exact (set_of rest) x x ∙ ap (λ o. is_eq o || contains {R = R} (set_of rest) x) (tied_itself total x) in
+      let held = union_least total exact old other old (λ y h. h) within x (ap (λ s. contains s x) (sym along.completes) ∙ union_right total exact now (set_of all) x comes) in
+      false≢true (sym missing ∙ along.grown x held)
 
   pub joins_between : (old other now : Set R) (rest : List K) → JoinsAlong old other now rest → IsBetween IsSubset old now (union old other)
   joins_between old other now rest along = record { lower = along.grown; upper = subst (λ s. IsSubset now s) along.completes (union_left total exact now (set_of rest)) }

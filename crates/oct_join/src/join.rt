@@ -1,6 +1,7 @@
 //! Contents that grow by taking in one another, and the least upper bound of many.
 
 ghost use Rattle.std.specs.Prelude.{◌≡◌, OnOk, OnErr};
+ghost use Rattle.std.specs.List.{All};
 ghost use Rattle.oct_join.specs.Order.{IsPartialOrder, IsLeastUpperBound, IsLeastUpperBoundOfAll, IsBetween, bound_of_all};
 
 use std::alloc::AllocError;
@@ -19,10 +20,12 @@ pub trait Join {
     ghost bound: { Self → Self → Self };
 
     /// Takes in what the other holds. Where memory is refused, what was held stays, and part of what the other holds
-    /// may have come in: the content lies between the old one and the bound. The same call may then be made again.
+    /// may have come in: the content lies between the old one and the bound. The same call may then be made again. Memory
+    /// can be refused only where the other holds something more.
     fn join(&mut self, other: &Self) -> Result<(), AllocError>
         ensures ok { OnOk result (self.new ≡ bound self.old other.now) }
-        ensures err { OnErr result (IsBetween below self.old self.new (bound self.old other.now)) };
+        ensures err { OnErr result (IsBetween below self.old self.new (bound self.old other.now)) }
+        ensures absent { OnErr result (¬ below other.now self.old) };
 
     // What each `impl` proves.
     ghost order: { IsPartialOrder below };
@@ -31,10 +34,11 @@ pub trait Join {
 }
 
 /// Takes in what each of the others holds. Where memory is refused, the content lies between the old one and the bound
-/// of all.
+/// of all. Memory can be refused only where one of the others holds something more.
 pub fn gather<J: Join>(target: &mut J, others: &[J]) -> Result<(), AllocError>
     ensures ok { OnOk result (target.new ≡ bound_of_all J.bound target.old others.now) }
     ensures err { OnErr result (IsBetween J.below target.old target.new (bound_of_all J.bound target.old others.now)) }
+    ensures absent { OnErr result (¬ All (λ y. J.below y target.old) others.now) }
 
     // That bound is the least.
     ensures least { IsLeastUpperBoundOfAll J.below target.old others.now (bound_of_all J.bound target.old others.now) }

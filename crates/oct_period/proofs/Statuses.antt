@@ -25,7 +25,7 @@ break-stays c period (suc count) (suc more) n at less h =
     ] h
 
 -- where no break is found, the values come again
-unbroken-seen : (c : Code) (period count n : ℕ) → first_break c period count n ≡ None → IsPeriodicWithin c n period (n + count)
+pub unbroken-seen : (c : Code) (period count n : ℕ) → first_break c period count n ≡ None → IsPeriodicWithin c n period (n + count)
 unbroken-seen c period zero n h i low high = absurd (omega arith)
 unbroken-seen c period (suc count) n h i low high =
     elim (eqb (nim_value c (n + period)) (nim_value c n)) as (λ t. eqb (nim_value c (n + period)) (nim_value c n) ≡ t → ◌≡◌ {A = Option ℕ} (elim t [ true ↦ first_break c period count (n + 1) | false ↦ Some n ]) None → nim_value c (i + period) ≡ nim_value c i) [
@@ -37,11 +37,14 @@ unbroken-seen c period (suc count) n h i low high =
     ] refl h
 
 -- and where they do, none is found
+pub unbroken : (c : Code) (period count n : ℕ) → IsPeriodicWithin c n period (n + count) → first_break c period count n ≡ None
+unbroken c period zero n p = refl
+unbroken c period (suc count) n p =
+    subst (λ t. elim t [ true ↦ first_break c period count (n + 1) | false ↦ Some n ] ≡ None) (sym (eq-eqb (nim_value c (n + period)) (nim_value c n) (p n (omega arith) (omega arith))))
+    (unbroken c period count (n + 1) (λ i low high. p i (omega arith) (omega arith)))
+
 pub never-broken : (c : Code) (period count n : ℕ) → IsPeriodicFrom c n period → first_break c period count n ≡ None
-never-broken c period zero n p = refl
-never-broken c period (suc count) n p =
-    subst (λ t. elim t [ true ↦ first_break c period count (n + 1) | false ↦ Some n ] ≡ None) (sym (eq-eqb (nim_value c (n + period)) (nim_value c n) (p n (omega arith))))
-    (never-broken c period count (n + 1) (λ i low. p i (omega arith)))
+never-broken c period count n p = unbroken c period count n (λ i low high. p i low)
 
 breaks : ℕ → Period → Option ℕ
 breaks k p = first_break p.code p.period (k - (p.start + p.period)) p.start
@@ -75,7 +78,7 @@ settled_claims_stay some all p among later settled = period_status-stays some al
 -- ---- what a status says
 
 -- enough values bear a proved claim out
-enough_seen : (k : ℕ) (p : Period) (x : Option ℕ) → status_at k p x ≡ Proved → (x ≡ None) × (needs p ≤ k)
+pub enough_seen : (k : ℕ) (p : Period) (x : Option ℕ) → status_at k p x ≡ Proved → (x ≡ None) × (needs p ≤ k)
 enough_seen k p (Some n) h = cc
 enough_seen k p None h = elim (leb (needs p) k) as (λ t. leb (needs p) k ≡ t → ◌≡◌ {A = PeriodStatus} (elim t [ true ↦ Proved | false ↦ Pending (needs p) ]) Proved → ◌≡◌ {A = Option ℕ} None None × (needs p ≤ k)) [
   | true ↦ λ e _. (refl, leb-true (needs p) k e)

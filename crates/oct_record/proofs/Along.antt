@@ -1,5 +1,5 @@
 -- Operations of a list, taken in one after the other.
-use Rattle.std.proofs.Common.{Fits, w32, arith, ◌≡◌, ◌↔◌, ℕ, zero, suc, ◌+◌, ◌^◌, ◌<◌, ◌≤◌, inl, inr, Some, Result, Ok, Err, IfErr, IsErrOf, Bool, true, false, not, ◌||◌, cond, List, [], ◌∷◌, ◌++◌, length, take, drop, refl, sym, ap, ◌∙◌, subst}
+use Rattle.std.proofs.Common.{Fits, w32, arith, ◌≡◌, ◌≢◌, ◌↔◌, ℕ, zero, suc, ◌+◌, ◌^◌, ◌<◌, ◌≤◌, inl, inr, Some, Result, Ok, Err, IfErr, IsErrOf, Bool, true, false, not, ◌||◌, cond, List, [], ◌∷◌, ◌++◌, length, take, drop, refl, sym, ap, ◌∙◌, subst}
 use Rattle.std.specs.Prelude.{get_or}
 use Rattle.std.specs.List.{list_all, list_any}
 use Rattle.std.specs.declared.cmp.Ordering.{Ordering}
@@ -95,9 +95,14 @@ module _ (old now : RecordContent) (list rest next : List Operation) (i count : 
 pub takes_cut : (old now new : RecordContent) (list rest next : List Operation) (i count : ℕ) (x : Operation) → TakesAlong old now list rest i count → rest ≡ x ∷ next → new ≡ now
     → IsCut old new list i
 takes_cut old now new list rest next i count x along step same = record {
-  within = omega (arith, within old now list rest next i count x along step);
+  due = within old now list rest next i count x along step;
   held = same ∙ along.held;
 }
+
+-- where the next is not made
+pub takes_short : (old now : RecordContent) (list rest : List Operation) (i count : ℕ) → TakesAlong old now list rest i count → rest ≢ [] → IsCut old now list i
+takes_short old now list [] i count along some = absurd (some refl)
+takes_short old now list (x ∷ next) i count along some = takes_cut old now now list (x ∷ next) next i count x along refl refl
 
 module _ (old now new : RecordContent) (list rest next : List Operation) (i count : ℕ) (x : Operation) (rising : rises op_cmp list ≡ true) (along : TakesAlong old now list rest i count)
     (step : rest ≡ x ∷ next) (added : new ≡ record now { ops = insert now.ops x }) where
@@ -193,10 +198,6 @@ read_no_error ops e is = cc
 
 pub one_error : (x e other : DeltaError) → x ≡ e → (e ≡ other → ⊥) → IsErrOf {T = List Operation} (Err x) other → ⊥
 one_error x e other is apart both = apart (cc)
-
--- nothing was taken in
-pub none_taken : (r : RecordContent) (list : List Operation) → IsCut r r list 0
-none_taken r list = record { within = omega arith; held = ap (λ s. record { author = r.author; ops = s }) (sym (union-empty op_cmp_total op_cmp_exact r.ops)) }
 
 -- ---- the operations of a text
 

@@ -1,5 +1,5 @@
 -- What a record has after operations were handed to it.
-use Rattle.std.specs.Prelude.{◌≡◌, ◌≤◌, ◌+◌, ◌-◌, ◌^◌, ℕ, Bool, true, false, not, nat_lt, List, length, filter, take}
+use Rattle.std.specs.Prelude.{◌≡◌, ◌<◌, ◌+◌, ◌-◌, ◌^◌, ℕ, Bool, true, false, not, nat_lt, List, length, filter, take}
 use Rattle.oct_ops.specs.Body.{Body, Operation}
 use Rattle.oct_ops.specs.Operations.{Operations, contains, listed, set_of, union}
 use Rattle.oct_store.specs.Summary.{last}
@@ -21,9 +21,9 @@ unheld ops list = filter (λ o. not (contains ops o)) list
 abbrev pub count_new : Operations → List Operation → ℕ
 count_new ops list = length (unheld ops list)
 
--- the first `done` operations of the list are in, and no other was added
+-- the first `done` operations of the list are in, no other was added, and one more was due
 pub record IsCut (old new : RecordContent) (list : List Operation) (done : ℕ) : Type 0 where
-  pub within : done ≤ length list
+  pub due : done < length list
   pub held : new ≡ with_all old (set_of (take done list))
 
 -- what a refusal leaves: without memory the first operations, and else all as it was

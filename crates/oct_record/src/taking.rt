@@ -24,7 +24,7 @@ use std::rc::Rc;
 /// Takes in the operations that the bytes spell, and says how many of them are new. The answer is `Version` exactly
 /// where the first four bytes are no tag of a delta, and `Refused` exactly for any other bytes that are no delta; then
 /// nothing changes. Where memory is refused, the answer says how many operations, from the first on, are in, held
-/// before or not; no other was added.
+/// before or not; no other was added, and one more was due.
 pub fn take<A: Allocator + Copy, H: Holder<A>>(
     holder: &mut H,
     bytes: &[u8],
@@ -45,7 +45,7 @@ pub fn take<A: Allocator + Copy, H: Holder<A>>(
 }
 
 /// Takes in the operations of a list, and says how many of them are new. Where memory is refused, the answer says how
-/// many operations, from the first on, are in, held before or not; no other was added.
+/// many operations, from the first on, are in, held before or not; no other was added, and one more was due.
 pub fn take_list<A: Allocator + Copy, H: Holder<A>>(
     holder: &mut H,
     list: OpList<A>,
@@ -71,7 +71,7 @@ pub fn take_list<A: Allocator + Copy, H: Holder<A>>(
 }
 
 /// Takes in the operations of a text, each as it is made, and says how many of them are new. Where memory is refused, the
-/// answer says how many operations, from the first on, are in, held before or not; no other was added.
+/// answer says how many operations, from the first on, are in, held before or not; no other was added, and one more was due.
 pub fn take_each<A: Allocator + Copy, H: Holder<A>>(
     holder: &mut H,
     mut ops: TextOps<'_>,
@@ -103,7 +103,7 @@ pub fn take_each<A: Allocator + Copy, H: Holder<A>>(
 }
 
 /// Takes in the operations of another record; the author stays. After a refusal the set is one between the old set and the
-/// union.
+/// union. Memory can be refused only where the other has an operation that is not here.
 pub fn join<A: Allocator + Copy, H: Holder<A>>(
     holder: &mut H,
     other: &Record<A>,
@@ -111,6 +111,7 @@ pub fn join<A: Allocator + Copy, H: Holder<A>>(
     ensures ok { OnOk result ((H.content holder.new).ops ≡ union (H.content holder.old).ops other.now.ops) }
     ensures author { (H.content holder.new).author ≡ (H.content holder.old).author }
     ensures between { IsBetween IsSubset (H.content holder.old).ops (H.content holder.new).ops (union (H.content holder.old).ops other.now.ops) }
+    ensures absent { OnErr result (¬ IsSubset other.now.ops (H.content holder.old).ops) }
 {
     for op in other.store().iter() {
         add(holder, op)?;

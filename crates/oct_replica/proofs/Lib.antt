@@ -1,5 +1,6 @@
 pub mod Authors
 mod Beside
+mod Complete
 mod Deliveries
 pub mod Headline
 mod Inserting

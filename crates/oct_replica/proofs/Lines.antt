@@ -57,7 +57,7 @@ claim_game c d (kind.Period x) p h = ap Some (same_code x.code c (taken d (code_
 claim_game c d (kind.Note x) p h = cc
 claim_game c d (kind.Removal x) p h = cc
 
-In-games : (c : Code) (ops : List Operation) (o : Operation) → In o ops → game_of o ≡ Some c → In c (games ops)
+pub In-games : (c : Code) (ops : List Operation) (o : Operation) → In o ops → game_of o ≡ Some c → In c (games ops)
 In-games c ops o h is = In-arranged code_cmp_total code_cmp_exact (filter_map game_of ops) c (In-filter_map game_of ops o c h is)
 
 -- ---- lines

@@ -1,5 +1,5 @@
 -- Each line of a catalogue tells what is so.
-use Rattle.std.proofs.Common.{◌≡◌, ℕ, ◌+◌, ◌*◌, ◌/◌, ◌<◌, Bool, true, false, not, ◌&&◌, nat_lt, nat_le, [], ◌∷◌, ◌++◌, map, length, take, drop, slice_index, Option, Some, None, inl, inr, refl, ◌∙◌, subst, arith}
+use Rattle.std.proofs.Common.{◌≡◌, ℕ, ◌+◌, ◌*◌, ◌<◌, Bool, true, false, not, ◌&&◌, nat_lt, nat_le, [], ◌∷◌, ◌++◌, map, length, take, drop, slice_index, Option, Some, None, inl, inr, refl, ◌∙◌, subst, arith}
 use Rattle.std.specs.Int.{div_ceil}
 use Rattle.std.specs.List.{flat_map, range_with_len}
 use Rattle.std.proofs.lemmas.Bool.{leb-true}
@@ -62,7 +62,7 @@ IsClaimOf = IsTakenFrom kind.Period (λ p. p.code)
 
 -- ---- values
 
-values_row : (c : Code) (k i j : ℕ) → let row = take values_per_line (drop (values_per_line * i) (nim_values c k)) in j < length row → slice_index row j ≡ nim_value c (values_per_line * i + j)
+pub values_row : (c : Code) (k i j : ℕ) → let row = take values_per_line (drop (values_per_line * i) (nim_values c k)) in j < length row → slice_index row j ≡ nim_value c (values_per_line * i + j)
 values_row c k i j lt =
     let all = nim_values c k in
     let first = values_per_line * i in
@@ -97,7 +97,7 @@ block_right ops c b is = by (nat_lt (known (blocks_in c ops)) b.start && not (ha
     by true e = cc
     by false e = (proved-is_right b).0 e
 
-block_so : (ops : Operations) (c : Code) (b : Block) (s : Status) → block_status (blocks_in c ops) (claims_in c ops) b ≡ s → BlockIsSo b s
+pub block_so : (ops : Operations) (c : Code) (b : Block) (s : Status) → block_status (blocks_in c ops) (claims_in c ops) b ≡ s → BlockIsSo b s
 block_so ops c b of_block.Proved is = block_right ops c b is
 block_so ops c b (of_block.Refuted at claimed truth) is = refuted_at_first_wrong ops c b at claimed truth is
 block_so ops c b of_block.Pending is = tt
@@ -119,7 +119,7 @@ block_tells ops c line h =
 
 -- ---- claims
 
-claim_of_op : (c : Code) (d : Dot) (body : Body) (p : Dot × Period) → claim_in c (record { dot = d; body = body }) ≡ Some p → IsClaimOf c (record { dot = d; body = body }) p
+pub claim_of_op : (c : Code) (d : Dot) (body : Body) (p : Dot × Period) → claim_in c (record { dot = d; body = body }) ≡ Some p → IsClaimOf c (record { dot = d; body = body }) p
 claim_of_op c d (kind.Block x) p h = cc
 claim_of_op c d (kind.Period x) p h = taken_from kind.Period (λ y. y.code) c d x (code_eq x.code c) p refl h
 claim_of_op c d (kind.Note x) p h = cc
@@ -133,7 +133,7 @@ pending_needs : (k : ℕ) (p : Period) (first : Option ℕ) (n : ℕ) → status
 pending_needs k p None n e = unbroken_needs p (nat_le (needs p) k) n e
 pending_needs k p (Some at) n e = cc
 
-claim_so : (ops : Operations) (c : Code) (p : Period) (s : PeriodStatus) → IsPeriod p → period_status (blocks_in c ops) p ≡ s → ClaimIsSo p s
+pub claim_so : (ops : Operations) (c : Code) (p : Period) (s : PeriodStatus) → IsPeriod p → period_status (blocks_in c ops) p ≡ s → ClaimIsSo p s
 claim_so ops c p of_claim.Proved valid is = proved_periods_hold ops c p valid is
 claim_so ops c p (of_claim.Refuted at) valid is = refuted_at_first_break ops c p at is
 claim_so ops c p (of_claim.Pending n) valid is = pending_needs (known (blocks_in c ops)) p _ n is

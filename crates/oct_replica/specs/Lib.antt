@@ -5,6 +5,7 @@ pub use Rattle.oct_record.specs.Removals
 pub use Rattle.oct_record.specs.States
 pub use Rattle.oct_record.specs.Taking
 pub mod Beside
+pub mod Complete
 pub mod Computing
 pub mod Headline
 pub mod Kept

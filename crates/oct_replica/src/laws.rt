@@ -1,5 +1,6 @@
 //! What holds of any replicas, whatever was handed to them, lost, repeated, reordered or cut.
 
+ghost use Rattle.oct_replica.specs.Complete.{GamesAreShown, BlocksAreShown, ClaimsAreShown, NotesAreShown, ForksAreShown, AuthorsAreShown};
 ghost use Rattle.oct_replica.specs.Headline.{UnionIsPrinted, SpelledIsPrinted, SameIsPrinted, ShownValuesAreNimValues, NimValuesAreTheSequence, RefutedAtFirstWrong, RefutedAtFirstBreak, ProvedPeriodsHold};
 ghost use Rattle.oct_replica.specs.Shown.{GameLinesAreSo, LinesAreSo};
 ghost use Rattle.oct_replica.specs.World.{DeliveriesAreTaken, EachIsIssued, NoForks, EqualClocksEqualSets, EqualClocksEqualCatalogues, AbroadIsSaved};
@@ -26,6 +27,19 @@ pub fn same_operations_same_bytes()
 pub fn lines_tell_what_is_so()
     ensures games { GameLinesAreSo }
     ensures all { LinesAreSo }
+{}
+
+/// A catalogue leaves nothing out. Each game of which the set has a block or a claim has its known length, and each nim-value
+/// up to it. Each block has its line, which says pending exactly where the block starts beyond the known length and the known
+/// nim-values prove no claim of its game in the set. Each claim has its line, which says pending exactly where they neither
+/// prove nor break it. So has each note that nothing removes, each dot with two contents or more, and each author.
+pub fn lines_leave_nothing_out()
+    ensures games { GamesAreShown }
+    ensures blocks { BlocksAreShown }
+    ensures claims { ClaimsAreShown }
+    ensures notes { NotesAreShown }
+    ensures forks { ForksAreShown }
+    ensures authors { AuthorsAreShown }
 {}
 
 /// A delivery in the world of replicas leaves what a replica has that took in the same operations.

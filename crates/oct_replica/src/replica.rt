@@ -115,7 +115,7 @@ impl<A: Allocator + Copy> Replica<A> {
     /// Takes in the operations that the bytes spell, and says how many of them are new. The answer is `Version` exactly
     /// where the first four bytes are no tag of a delta, and `Refused` exactly for any other bytes that are no delta; then
     /// nothing changes. Where memory is refused, the answer says how many operations, from the first on, are in, held
-    /// before or not; no other was added.
+    /// before or not; no other was added, and one more was due.
     pub fn take(&mut self, bytes: &[u8]) -> Result<u32, TakeError>
         ensures ok { OnOk result (self.new ≡ with_all self.old (operations_of bytes.now)) }
         ensures new { IfOk result (λ new. new ≡ count_new self.old.ops (listed (operations_of bytes.now))) }
@@ -128,7 +128,7 @@ impl<A: Allocator + Copy> Replica<A> {
     }
 
     /// Takes in the operations of a list, and says how many of them are new. Where memory is refused, the answer says how
-    /// many operations, from the first on, are in, held before or not; no other was added.
+    /// many operations, from the first on, are in, held before or not; no other was added, and one more was due.
     pub fn take_list(&mut self, list: OpList<A>) -> Result<u32, TakeError>
         requires { length list < 2 ^ 32 }
         ensures ok { OnOk result (self.new ≡ with_all self.old (set_of list)) }
@@ -138,12 +138,14 @@ impl<A: Allocator + Copy> Replica<A> {
         take_list(self, list)
     }
 
-    /// Takes in the operations of another replica; the author stays. After a refusal the set is one between the old set and
+    /// Takes in the operations of another replica; the author stays. Memory can be refused only where the other has an operation
+    /// that is not here. After a refusal the set is one between the old set and
     /// the union.
     pub fn join(&mut self, other: &Replica<A>) -> Result<(), AllocError>
         ensures ok { OnOk result (self.new.ops ≡ union self.old.ops other.now.ops) }
         ensures author { self.new.author ≡ self.old.author }
         ensures between { IsBetween IsSubset self.old.ops self.new.ops (union self.old.ops other.now.ops) }
+        ensures absent { OnErr result (¬ IsSubset other.now.ops self.old.ops) }
     {
         join(self, &other.said)
     }

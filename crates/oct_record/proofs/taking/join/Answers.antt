@@ -3,7 +3,7 @@ use Rattle.std.proofs.lemmas.Result.{err_from_is_err_and}
 use Rattle.oct_ops.specs.Operations.{IsSubset, listed, union}
 use Rattle.oct_ops.specs.OrderLaws.{op_cmp_total, op_cmp_exact}
 use Rattle.oct_join.specs.Order.{IsBetween}
-use Rattle.oct_join.proofs.SetMerging.{joins_start, joins_next, joins_done, joins_between}
+use Rattle.oct_join.proofs.SetMerging.{joins_start, joins_next, joins_done, joins_between, joins_lack}
 use Rattle.oct_record.specs.Content.{RecordContent}
 use Rattle.oct_record.proofs.taking.join.Goals as goal
 
@@ -27,6 +27,11 @@ pub returns-in_err-add-clause-between : goal.returns-in_err-add-clause-between
 returns-in_err-add-clause-between g c =
     subst (λ (r : RecordContent). IsBetween IsSubset (g.H.Holder.content c.args.holder.now).ops r.ops (union (g.H.Holder.content c.args.holder.now).ops c.args.other.now.ops)) (sym c.in_err-add.ensures.err)
     (joins_between op_cmp_total op_cmp_exact (g.H.Holder.content c.args.holder.now).ops c.args.other.now.ops (g.H.Holder.content c.loop-op.holder).ops c.loop-op.op-iterator c.loop-op.invariant.along)
+
+pub returns-in_err-add-clause-absent : goal.returns-in_err-add-clause-absent
+returns-in_err-add-clause-absent g c =
+    rw (err_from_is_err_and c.from_residual.result c.from_residual.ensures.1).1
+    (joins_lack op_cmp_total op_cmp_exact _ _ (g.H.Holder.content c.loop-op.holder).ops _ _ _ c.in-Some.ensures.steps c.in_err-add.ensures.absent c.loop-op.invariant.along)
 
 pub returns-clause-ok : goal.returns-clause-ok
 returns-clause-ok g c = joins_done op_cmp_total op_cmp_exact (g.H.Holder.content c.args.holder.now).ops c.args.other.now.ops (g.H.Holder.content c.loop-op.holder).ops c.loop-op.op-iterator c.in-None.ensures.steps.0 c.loop-op.invariant.along

@@ -1,5 +1,5 @@
 use Rattle.std.proofs.Common.{◌≡◌, ℕ, ◌+◌, ◌∷◌, refl, sym, subst, ◌∙◌}
-use Rattle.oct_record.proofs.Along.{TakesAlong, takes_start, takes_new, takes_held, takes_cut, takes_done}
+use Rattle.oct_record.proofs.Along.{TakesAlong, takes_start, takes_new, takes_held, takes_cut, takes_done, takes_short}
 use Rattle.oct_record.proofs.taking.take_each.Goals as goal
 use Rattle.oct_record.proofs.taking.take_each.Goals.{then-is_new, else-is_new}
 
@@ -26,7 +26,8 @@ loop-next-preserved g c =
     ]
 
 pub returns-in_default-clause-err : goal.returns-in_default-clause-err
-returns-in_default-clause-err g c = record { within = c.loop-next.invariant.most; held = c.loop-next.invariant.held }
+returns-in_default-clause-err g c =
+    takes_short (g.H.Holder.content c.args.holder.now) (g.H.Holder.content c.loop-next.holder) c.args.ops c.loop-next.ops c.loop-next.done c.loop-next.new c.loop-next.invariant c.in_default.ensures.due
 
 pub returns-in_default-next-clause-ok : goal.returns-in_default-next-clause-ok
 returns-in_default-next-clause-ok g c =
