@@ -1,5 +1,5 @@
 -- A table of the values of all bytes as hexadecimal digits.
-use Rattle.std.proofs.Common.{arith, ◌≡◌, ℕ, zero, suc, ◌<◌, ◌==◌, ◌&&◌, Bool, true, false, List, slice_index, if◌then◌else◌, Option, Some, None, eq-eqb, eqb-true, sym, ap, ◌∙◌, inl, inr}
+use Rattle.std.proofs.Common.{arith, ◌≡◌, ℕ, zero, suc, ◌<◌, ◌==◌, ◌&&◌, Bool, true, false, List, slice_index, if◌then◌else◌, Option, Some, None, eqb-true, sym, ap, ◌∙◌, inl, inr}
 use Rattle.std.proofs.lemmas.Bool.{and_parts, cases_lt, true≢false}
 use Rattle.hex.specs.Hex.{hex_digit_value}
 

@@ -1,5 +1,5 @@
 -- Delta files that are taken one after another.
-use Rattle.std.proofs.Common.{◌≡◌, ℕ, suc, ◌+◌, ◌<◌, ◌≤◌, add-one, get_or, Bool, true, cond, List, [], ◌∷◌, map, length, drop, Option, Some, None, Result, Err, inl, inr, refl, sym, ap, subst, ◌∙◌}
+use Rattle.std.proofs.Common.{rules, ◌≡◌, ℕ, suc, ◌+◌, ◌<◌, ◌≤◌, add-one, get_or, true, cond, List, [], ◌∷◌, map, length, drop, Option, Some, None, Result, Err, inl, inr, refl, sym, ap, subst, ◌∙◌}
 use Rattle.std.specs.Prelude.{◌↔◌, IsErrOf, IsSome, is_none, is_some}
 use Rattle.std.specs.List.{All, AllByRecursion}
 use Rattle.std.proofs.lemmas.Bool.{or_cases}
@@ -67,6 +67,14 @@ taken_next s file rest = sym (union_assoc op_cmp_total op_cmp_exact s (operation
 passed_over : (place : ℕ) (file : Bytes) (rest : List Bytes) → IsSome (read_delta file) → first_refused place (file ∷ rest) ≡ first_refused (place + 1) rest
 passed_over place file rest read = ap (λ b. cond b (first_refused (place + 1) rest) (Some (fault.Union place (delta_refusal file)))) read
 
+-- where none of these is refused, the first is a delta
+read_first : (place : ℕ) (file : Bytes) (rest : List Bytes) → first_refused place (file ∷ rest) ≡ None → IsSome (read_delta file)
+read_first place file rest none = by (read_delta file) none
+  where
+    by : (m : Option (List Operation)) → cond (is_some m) (first_refused (place + 1) rest) (Some (fault.Union place (delta_refusal file))) ≡ None → IsSome m
+    by None e = absurd cc
+    by (Some ops) e = search rules
+
 -- why bytes that are no delta are not taken
 pub why : (file : Bytes) (r : Result ℕ TakeError) (cause : TakeError) → r ≡ Err cause → IsNoDelta cause
     → IsErrOf r Version ↔ (format_at file ≡ None) → IsErrOf r Refused ↔ (IsSome (format_at file) × ((ops : List Operation) → ¬ IsDeltaText file ops))
@@ -105,10 +113,12 @@ module _ {V : Type 0} (bytes_of : V → Bytes) (files : List V) where
     passed r so_far read = sym (ap (first_refused (i + 1)) split ∙ passed_over (i + 1) bytes (map bytes_of (drop (i + 1) files)) read) ∙ so_far
 
     pub refused_there : (e : Fault) → read_delta bytes ≡ None → e ≡ fault.Union (i + 1) (delta_refusal bytes)
-        → first_refused (i + 1) (map bytes_of (drop i files)) ≡ first_refused 1 (map bytes_of files) → united_files (map bytes_of files) ≡ Err e
+        → first_refused (i + 1) (map bytes_of (drop i files)) ≡ first_refused 1 (map bytes_of files) → first_refused 1 (map bytes_of files) ≡ Some e
     refused_there e unread named so_far =
-        ap (λ o. unless o (operations_of_all (map bytes_of files)) >>= λ ops. delta_of (listed ops))
-        (sym so_far ∙ ap (first_refused (i + 1)) split ∙ stopped_at (i + 1) bytes (map bytes_of (drop (i + 1) files)) e unread named)
+        sym so_far ∙ ap (first_refused (i + 1)) split ∙ stopped_at (i + 1) bytes (map bytes_of (drop (i + 1) files)) e unread named
+
+    pub read_here : first_refused (i + 1) (map bytes_of (drop i files)) ≡ None → IsSome (read_delta bytes)
+    read_here none = read_first (i + 1) bytes (map bytes_of (drop (i + 1) files)) (sym (ap (first_refused (i + 1)) split) ∙ none)
 
   pub all_taken : (i : ℕ) (s : Operations) → length files ≤ i → union s (operations_of_all (map bytes_of (drop i files))) ≡ operations_of_all (map bytes_of files)
       → first_refused (i + 1) (map bytes_of (drop i files)) ≡ first_refused 1 (map bytes_of files) → united_files (map bytes_of files) ≡ delta_of (listed s)

@@ -1,10 +1,10 @@
 -- Blocks of the next nim-values make them known.
-use Rattle.std.proofs.Common.{arith, inl, inr, ◌⊎◌, ◌≡◌, ℕ, zero, suc, ◌+◌, ◌-◌, ◌*◌, ◌<◌, ◌≤◌, Bool, true, false, cond, min, List, length, Option, Some, Result, Ok, Err, refl, sym, ap, subst, ◌∙◌, nat_le, length-drop}
-use Rattle.std.proofs.lemmas.Bool.{cases_lt, le-leb, lt-leb, or_left, true≢false}
+use Rattle.std.proofs.Common.{arith, inl, inr, ◌≡◌, ℕ, zero, suc, ◌+◌, ◌-◌, ◌*◌, ◌≤◌, Bool, true, false, cond, min, List, length, Some, Result, Ok, Err, refl, sym, ap, subst, ◌∙◌, length-drop}
+use Rattle.std.proofs.lemmas.Bool.{cases_lt, or_left, true≢false}
 use Rattle.std.proofs.lemmas.Cmp.{tied_itself}
 use Rattle.std.specs.List.{list_any}
 use Rattle.std.specs.Ordering.{eq_by_cmp, is_eq}
-use Rattle.oct_code.specs.Code.{Code, code_cmp, code_eq}
+use Rattle.oct_code.specs.Code.{Code, code_eq}
 use Rattle.oct_code.specs.CodeOrder.{code_cmp_total}
 use Rattle.oct_code.specs.declared.limits.TheConstants.{LIMIT}
 use Rattle.oct_mex.specs.NimValues.{nim_values}
@@ -24,11 +24,11 @@ use Rattle.oct_replica.specs.Computing.{next_block}
 use Rattle.oct_record.specs.Content.{RecordContent}
 use Rattle.oct_record.specs.Taking.{has_number, next_op}
 use Rattle.oct_record.specs.declared.error.IssueError.TheVariants as issue
-use Rattle.oct_replica.proofs.Members.{any-In, any_source, Has-insert, Has-listed, In-listed, insert-keeps}
+use Rattle.oct_replica.proofs.Members.{any-In, any_source, Has-listed, In-listed, insert-keeps}
 use Rattle.oct_replica.proofs.Settled.{In-filter_map, In-filter_map_source}
-use Rattle.oct_verify.specs.Filing.{Filing, blocks_in, filing_cmp}
+use Rattle.oct_verify.specs.Filing.{Filing, blocks_in}
 use Rattle.oct_verify.specs.FilingLaws.{filing_cmp_total, filing_cmp_exact}
-use Rattle.oct_verify.specs.Known.{end, is_shown, is_true, known, shows}
+use Rattle.oct_verify.specs.Known.{end, is_shown, is_true, shows}
 use Rattle.oct_verify.specs.Next.{next_values}
 use Rattle.oct_verify.proofs.KnownLaws.{known_is, shows-place}
 use Rattle.oct_verify.proofs.Verdicts.{next_is_true}

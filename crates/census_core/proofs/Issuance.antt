@@ -1,10 +1,10 @@
 -- Blocks of the next nim-values, one after another.
-use Rattle.std.proofs.Common.{arith, ◌≡◌, ℕ, zero, suc, ◌+◌, ◌-◌, ◌<◌, ◌≤◌, true, false, cond, min, Result, Ok, Err, refl, sym, ap, ◌∙◌, nat_le}
+use Rattle.std.proofs.Common.{arith, ◌≡◌, ℕ, zero, suc, ◌+◌, ◌-◌, ◌<◌, ◌≤◌, cond, min, Ok, Err, refl, sym, ap, ◌∙◌, nat_le}
 use Rattle.std.proofs.lemmas.Bool.{le-leb, lt-leb}
 use Rattle.oct_code.specs.Code.{Code}
 use Rattle.oct_ops.specs.declared.limits.TheConstants.{MAX_ITEMS}
 use Rattle.oct_record.specs.Content.{RecordContent}
-use Rattle.census_core.specs.Extending.{Extended, extended_by, extended_to, known_in, with_values}
+use Rattle.census_core.specs.Extending.{extended_by, extended_to, known_in, with_values}
 use Rattle.census_core.specs.Steps.{◌>>=◌}
 use Rattle.census_core.specs.declared.fault.Fault.{Fault}
 

@@ -1,5 +1,5 @@
 -- A line whose end is in the buffer.
-use Rattle.std.proofs.Common.{arith, ◌≡◌, ◌≢◌, ℕ, ◌+◌, ◌-◌, ◌<◌, ◌≤◌, List, [], ◌++◌, All, take, get_or, get_or-take, length, length-take-le, Option, eq-eqb, eqb-true, sym, ap, subst, ◌∙◌}
+use Rattle.std.proofs.Common.{arith, ◌≡◌, ◌≢◌, ℕ, ◌+◌, ◌-◌, ◌<◌, ◌≤◌, List, [], All, take, get_or, get_or-take, length, length-take-le, Option, eq-eqb, eqb-true, sym, ap, ◌∙◌}
 use Rattle.std.specs.Prelude.{IfSome}
 use Rattle.std.specs.Io.{IsEmptyOrEndsWith, StartsWith}
 use Rattle.std.specs.Io.BufRead.{take_through, DropsConsumable, DropsThrough}

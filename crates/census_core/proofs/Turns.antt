@@ -1,5 +1,5 @@
 -- Games that have their turns one after another.
-use Rattle.std.proofs.Common.{◌≡◌, ℕ, suc, ◌+◌, ◌<◌, List, [], ◌∷◌, ◌++◌, length, drop, get_or, Result, Ok, Err, sym, ap, ◌∙◌, add-one, drop-cons}
+use Rattle.std.proofs.Common.{◌≡◌, ℕ, suc, ◌+◌, ◌<◌, List, [], ◌∷◌, ◌++◌, length, drop, get_or, Result, Ok, sym, ap, ◌∙◌, add-one, drop-cons}
 use Rattle.oct_code.specs.Code.{Code}
 use Rattle.oct_record.specs.Content.{RecordContent}
 use Rattle.census_core.specs.Steps.{◌>>=◌}

@@ -1,5 +1,5 @@
 -- What is known of games after blocks of their next nim-values were issued.
-use Rattle.std.specs.Prelude.{◌≡◌, ◌≤◌, ℕ, zero, suc, ◌+◌, ◌-◌, ◌&&◌, nat_le, min, List, [], ◌∷◌, ◌++◌, codes, Result, Ok, Err, if◌then◌else◌}
+use Rattle.std.specs.Prelude.{◌≡◌, ◌≤◌, ℕ, zero, suc, ◌+◌, ◌-◌, ◌&&◌, nat_le, min, List, [], ◌++◌, codes, Result, Ok, Err, if◌then◌else◌}
 use Rattle.oct_code.specs.Code.{Code}
 use Rattle.oct_code.specs.CodeText.{code_text}
 use Rattle.oct_code.specs.declared.limits.TheConstants.{LIMIT}

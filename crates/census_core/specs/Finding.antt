@@ -1,5 +1,5 @@
 -- The periods that are found among the known nim-values of games.
-use Rattle.std.specs.Prelude.{ℕ, List, [], ◌++◌, codes, Option, Some, None, Result, Ok, if◌then◌else◌}
+use Rattle.std.specs.Prelude.{ℕ, List, ◌++◌, codes, Option, Some, None, Result, Ok, if◌then◌else◌}
 use Rattle.std.specs.List.{flat_map}
 use Rattle.oct_code.specs.Code.{Code}
 use Rattle.oct_code.specs.CodeText.{code_text}

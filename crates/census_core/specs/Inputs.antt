@@ -1,5 +1,7 @@
 -- Why an input is not read, and why its lines are not folded.
 use Rattle.std.specs.Prelude.{◌≡◌, ◌⊎◌}
+use Rattle.std.specs.declared.io.ErrorKind.{ErrorKind}
+use Rattle.std.specs.declared.io.ErrorKind.TheVariants as kind
 use Rattle.census_core.specs.declared.fault.Fault.{Fault}
 use Rattle.census_core.specs.declared.fault.Fault.TheVariants as fault
 
@@ -13,3 +15,8 @@ IsInputFault e = ⊥
 -- or a write fails
 abbrev pub IsFoldFault : Fault → Type 0
 IsFoldFault e = IsInputFault e ⊎ (e ≡ fault.Write)
+
+-- the fault of a read that failed with an error of this kind
+abbrev pub read_fault : ErrorKind → Fault
+read_fault kind.OutOfMemory = fault.OutOfMemory
+read_fault _ = fault.Read

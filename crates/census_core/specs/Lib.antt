@@ -2,6 +2,7 @@ pub mod Asking
 pub mod Claiming
 pub mod Codes
 pub mod Extending
+pub mod FaultTexts
 pub mod Finding
 pub mod Folded
 pub mod Imported

@@ -1,5 +1,6 @@
 -- What each command gives, by the bytes of its files.
-use Rattle.std.specs.Prelude.{Result, map}
+use Rattle.std.specs.Prelude.{◌==◌, Option, Some, None, Result, map, if◌then◌else◌}
+use Rattle.std.specs.Result.{result_err}
 use Rattle.oct_delta.specs.Text.{Bytes}
 use Rattle.census_core.specs.Asking as asking
 use Rattle.census_core.specs.Claiming as claiming
@@ -11,6 +12,7 @@ use Rattle.census_core.specs.States as states
 use Rattle.census_core.specs.Viewing as viewing
 use Rattle.census_core.specs.Replies.{Answer}
 use Rattle.census_core.specs.declared.fault.Fault.{Fault}
+use Rattle.census_core.specs.declared.fault.Fault.TheVariants.{Zero}
 use Rattle.census_core.specs.declared.request.Request.{Request}
 use Rattle.census_core.specs.declared.request.Request.TheVariants.{Init, Import, Claim, Compute, Extend, Find, Survey, Period, Note, Unnote, Merge, Delta, Value, Move, Page, Show, Bfile, Plot, Json, Report}
 
@@ -37,3 +39,10 @@ performed (Bfile code) state file = viewing.bfile state code.items
 performed (Plot code) state file = viewing.plot state code.items
 performed Json state file = viewing.json state
 performed Report state file = viewing.report state
+
+-- the fault that the numbers of a command show, whatever its files hold
+abbrev pub number_fault : Request → Option Fault
+number_fault (Init id) = if id == 0 then Some Zero else None
+number_fault (Extend count codes) = result_err (extending.wanted count)
+number_fault (Survey count codes) = result_err (extending.wanted count)
+number_fault request = None

@@ -1,7 +1,7 @@
 //! Commands over the bytes of their files.
 
-ghost use Rattle.std.specs.Prelude.{◌≡◌, ◌≢◌, Ok, Err, IfOk, IfErr};
-ghost use Rattle.census_core.specs.Performed.{performed};
+ghost use Rattle.std.specs.Prelude.{◌≡◌, ◌≢◌, Ok, Err, IfOk, IfErr, IfSome};
+ghost use Rattle.census_core.specs.Performed.{number_fault, performed};
 ghost use Rattle.census_core.specs.Replies.{answer_of};
 
 use crate::asking::{Question, answer, delta, page};
@@ -21,10 +21,11 @@ use std::alloc::Global;
 /// does not look at `state`; only `Import`, `Claim` and `Merge` look at `file`. After a fault nothing is to be written.
 ///
 /// The first fault is answered: `Number`, then `Load`, then the command's own in the order in which it reads its words, then `Issue`, then
-/// `TooMany`. `OutOfMemory` may come before any of them.
+/// `TooMany`. `OutOfMemory` may come before any of them but those of a number alone, `Number` and the `Zero` of `Init`.
 pub fn perform(alloc: Global, request: &Request, state: &[u8], file: &[u8]) -> Result<Reply, Fault>
     ensures ok { IfOk result (λ reply. performed request.now state.now file.now ≡ Ok (answer_of reply)) }
     ensures err { IfErr result (λ e. e ≢ Fault.OutOfMemory → performed request.now state.now file.now ≡ Err e) }
+    ensures numbers { IfSome (number_fault request.now) (λ e. result ≡ Err e) }
 {
     perform_watched(alloc, request, state, file, &mut Silent)
 }
@@ -39,6 +40,7 @@ pub fn perform_watched<P: Progress>(
 ) -> Result<Reply, Fault>
     ensures ok { IfOk result (λ reply. performed request.now state.now file.now ≡ Ok (answer_of reply)) }
     ensures err { IfErr result (λ e. e ≢ Fault.OutOfMemory → performed request.now state.now file.now ≡ Err e) }
+    ensures numbers { IfSome (number_fault request.now) (λ e. result ≡ Err e) }
 {
     match request {
         Request::Init { id } => init(alloc, *id),

@@ -8,92 +8,64 @@ use oct_replica::{ComputeError, IssueError, LoadError, RemovalError, TakeError};
 use oct_sync::{SyncError, Unwritten};
 use oct_views::BfileError;
 use std::alloc::AllocError;
-use thiserror::Error;
 
 /// Why a command ended early. Its text is its name, and behind it the name of the cause, where there is one. A cause is
 /// never want of memory: that is `OutOfMemory`.
-#[derive(Clone, Copy, Debug, PartialEq, Eq, Drop, Error)]
+#[derive(Clone, Copy, Debug, PartialEq, Eq, Drop)]
 pub enum Fault {
     /// A word is no number of its range.
-    #[error("Number")]
     Number,
     /// The words are those of no command, or one is not UTF-8.
-    #[error("Words")]
     Words,
     /// There is something in the place of a new state file.
-    #[error("Exists")]
     Exists,
     /// A file can't be read, written, locked or renamed.
-    #[error("File")]
     File,
     /// The file that is to be written is the state file.
-    #[error("Same")]
     Same,
     /// An input or a file has more than `INPUT_LIMIT` bytes.
-    #[error("TooLong")]
     TooLong,
     /// The state file holds no state.
-    #[error("Load {0:?}")]
     Load(LoadError),
     /// The author of a new state is 0.
-    #[error("Zero")]
     Zero,
     /// The state file became another author's during a session.
-    #[error("Author")]
     Author,
     /// The file is no JSON text.
-    #[error("Json")]
     Json,
     /// The JSON value is no block.
-    #[error("Import {0:?}")]
     Import(ImportError),
     /// The file is no b-file. The line is counted from 1.
-    #[error("Bfile {0}")]
     Bfile(BfileError),
     /// The word is no code.
-    #[error("Code {0:?}")]
     Code(CodeError),
     /// No block is computed.
-    #[error("Compute {0:?}")]
     Compute(ComputeError),
     /// The numbers are no period claim.
-    #[error("Period {0:?}")]
     Period(PeriodError),
     /// The words are no note.
-    #[error("Note {0:?}")]
     Note(NoteError),
     /// No notes are removed.
-    #[error("Removal {0:?}")]
     Removal(RemovalError),
     /// The file is no delta.
-    #[error("Merge {0:?}")]
     Merge(TakeError),
     /// A file of a union is no delta. Its place is counted from 1.
-    #[error("Union {place} {cause:?}")]
     Union { place: u64, cause: TakeError },
     /// The catalogue has no such page.
-    #[error("NoPage")]
     NoPage,
     /// The address can't be bound, accepted on or connected to.
-    #[error("Net")]
     Net,
     /// The session ended early.
-    #[error("Sync {0:?}")]
     Sync(SyncError),
     /// No operation is issued.
-    #[error("Issue {0:?}")]
     Issue(IssueError),
     /// There are more operations than a delta counts.
-    #[error("TooMany")]
     TooMany,
     /// Standard input failed.
-    #[error("Read")]
     Read,
     /// Standard output failed, or took no byte.
-    #[error("Write")]
     Write,
     /// A request for memory was refused.
-    #[error("OutOfMemory")]
     OutOfMemory,
 }
 

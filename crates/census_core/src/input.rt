@@ -2,7 +2,8 @@
 
 ghost use Rattle.std.specs.Prelude.{◌≡◌, ◌⊎◌, ◌+◌, ◌<◌, ◌≤◌, ◌^◌, length, vec_len, IfOk, OnOk, IfSome, IfErr, IsErrOf};
 ghost use Rattle.std.specs.Io.KnownBytes.{IsAtEnd};
-ghost use Rattle.census_core.specs.Inputs.{IsInputFault};
+ghost use Rattle.std.specs.IoError.{error_kind};
+ghost use Rattle.census_core.specs.Inputs.{IsInputFault, read_fault};
 
 use crate::fault::Fault;
 use std::alloc::Allocator;
@@ -32,9 +33,10 @@ pub fn read_whole<A: Allocator, R: Read>(
     }
 }
 
-/// The fault of a read that failed.
+/// The fault of a read that failed: `OutOfMemory` exactly where its error is of that kind, and else `Read`.
 pub(crate) fn read_fault(error: &Error) -> Fault
-    ensures { (result ≡ Fault.Read) ⊎ (result ≡ Fault.OutOfMemory) }
+    ensures is { result ≡ read_fault (error_kind error.now) }
+    ensures either { (result ≡ Fault.Read) ⊎ (result ≡ Fault.OutOfMemory) }
 {
     match error.kind() {
         ErrorKind::OutOfMemory => Fault::OutOfMemory,

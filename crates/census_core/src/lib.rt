@@ -16,6 +16,7 @@ mod codes;
 mod command;
 mod extending;
 mod fault;
+mod fault_text;
 mod finding;
 mod fold;
 mod hexadecimal;

@@ -61,10 +61,11 @@ pub(crate) fn save(
     })
 }
 
-/// A new state of the author.
+/// A new state of the author. `Zero` is answered before any memory is asked for.
 pub(crate) fn init(alloc: Global, id: u32) -> Result<Reply, Fault>
     ensures ok { IfOk result (λ reply. init id ≡ Ok (answer_of reply)) }
     ensures err { IfErr result (λ e. e ≢ Fault.OutOfMemory → init id ≡ Err e) }
+    ensures zero { id ≡ 0 → result ≡ Err Fault.Zero }
 {
     let Ok(said) = Record::new(alloc, id) else {
         return Err(Fault::Zero);

@@ -2,7 +2,7 @@
 
 ghost use Rattle.std.specs.Prelude.{◌≡◌, ◌≢◌, ◌≤◌, [], Ok, Err, IfOk, IfErr, map};
 ghost use Rattle.oct_code.specs.declared.limits.TheConstants.{LIMIT};
-ghost use Rattle.census_core.specs.Extending.{in_turns};
+ghost use Rattle.census_core.specs.Extending.{in_turns, wanted};
 ghost use Rattle.census_core.specs.Finding.{turn_of};
 ghost use Rattle.census_core.specs.Replies.{answer_of};
 ghost use Rattle.census_core.specs.Turns.{in_turn};
@@ -29,7 +29,8 @@ pub(crate) enum Aim {
     Survey,
 }
 
-/// Makes so many values of each game known, by blocks of the next ones, and does with it what is aimed at.
+/// Makes so many values of each game known, by blocks of the next ones, and does with it what is aimed at. `Number` is
+/// answered before any memory is asked for.
 pub(crate) fn give_turns<P: Progress>(
     alloc: Global,
     state: &[u8],
@@ -40,6 +41,7 @@ pub(crate) fn give_turns<P: Progress>(
 ) -> Result<Reply, Fault>
     ensures ok { IfOk result (λ reply. in_turns (turn_of aim) state.now count (map (λ word. word.items) codes.now) ≡ Ok (answer_of reply)) }
     ensures err { IfErr result (λ e. e ≢ Fault.OutOfMemory → in_turns (turn_of aim) state.now count (map (λ word. word.items) codes.now) ≡ Err e) }
+    ensures number { IfErr (wanted count) (λ e. result ≡ Err e) }
 {
     check_count(count)?;
     let mut replica = load_replica(alloc, state)?;

@@ -1,4 +1,4 @@
-use Rattle.std.proofs.Common.{◌≡◌, ◌++◌, drop, map}
+use Rattle.std.proofs.Common.{◌≡◌, drop, map}
 use Rattle.census_core.specs.Codes.{codes_of}
 use Rattle.census_core.proofs.CodeTexts.{after}
 use Rattle.census_core.proofs.codes.read_codes.Given as goal

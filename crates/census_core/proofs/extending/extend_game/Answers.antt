@@ -1,6 +1,5 @@
 use Rattle.std.proofs.Common.{arith, ◌≤◌, ◌+◌, ◌-◌, ◌∙◌}
 use Rattle.std.proofs.lemmas.Result.{err_from_is_err_and}
-use Rattle.oct_code.specs.declared.limits.TheConstants.{LIMIT}
 use Rattle.census_core.specs.Extending.{known_in}
 use Rattle.census_core.proofs.Issuance.{all_issued, enough, refused, went_on}
 use Rattle.census_core.proofs.extending.extend_game.Goals as goal

@@ -1,7 +1,6 @@
-use Rattle.std.proofs.Common.{rules, arith, ◌≡◌, ◌+◌, ◌*◌, ◌++◌, ◌∷◌, [], ap, subst, sym, ◌∙◌}
-use Rattle.std.proofs.lemmas.Grind.{common_steps}
+use Rattle.std.proofs.Common.{rules, arith, ◌+◌, ap, subst, sym}
 use Rattle.std.specs.Prelude.{is_some}
-use Rattle.census_core.proofs.DigitPairs.{HasRead, all_read, high_is_none, low_is_none, none_read, one_more}
+use Rattle.census_core.proofs.DigitPairs.{HasRead, all_read, high_is_none, low_is_none, one_more}
 use Rattle.census_core.proofs.hexadecimal.decode_text.Goals as goal
 
 pub returns-in_default-clause-spelled : goal.returns-in_default-clause-spelled

@@ -1,5 +1,5 @@
-use Rattle.std.proofs.Common.{rules, arith, ◌≡◌, ◌+◌, ◌++◌, take, sym, ap, subst, ◌∙◌}
-use Rattle.std.specs.Io.BufRead.{take_through, DropsConsumable, FillKeeps}
+use Rattle.std.proofs.Common.{◌++◌, ap, subst, ◌∙◌}
+use Rattle.std.specs.Io.BufRead.{FillKeeps}
 use Rattle.std.proofs.lemmas.Option.{IfSome_then}
 use Rattle.census_core.proofs.LineEnds.{line_is_shown}
 use Rattle.census_core.proofs.taken.take_buffered.Goals as goal
