@@ -379,7 +379,8 @@ impl<A: Allocator + Copy> Replica<A> {
     pub fn into_record(self) -> Record<A>
         ensures { result ≡ self }
     {
-        self.said
+        let Replica { said, .. } = self;
+        said
     }
 
     // Puts in an operation that others hold too, and says whether it is new. The record and the operation's game share it. Memory
