@@ -1,5 +1,5 @@
 -- Games beside a set, after an insertion.
-use Rattle.std.proofs.Common.{◌≡◌, Bool, true, false, not, ◌&&◌, ◌||◌, cond, List, [], ◌∷◌, Option, Some, None, IsSome, refl, sym, ap, ◌∙◌, subst}
+use Rattle.std.proofs.Common.{◌≡◌, Bool, true, false, ◌||◌, cond, List, [], ◌∷◌, Option, Some, None, IsSome, refl, sym, ap, ◌∙◌, subst}
 use Rattle.std.specs.Prelude.{IfSome}
 use Rattle.std.specs.List.{list_any, filter, filter_map, cons_option}
 use Rattle.std.specs.Ordering.{eq_by_cmp, is_eq}
@@ -10,13 +10,11 @@ use Rattle.oct_code.specs.CodeOrder.{code_cmp_exact, code_cmp_total}
 use Rattle.oct_ops.specs.Body as kind
 use Rattle.oct_ops.specs.Body.{Body, Operation}
 use Rattle.oct_ops.specs.Operation.{Dot, Block, Period}
-use Rattle.oct_ops.specs.Operations.{Operations, contains, empty, insert, listed, remove}
-use Rattle.oct_ops.specs.Order.{op_cmp}
+use Rattle.oct_ops.specs.Operations.{Operations, empty, insert, listed}
 use Rattle.oct_ops.specs.OrderLaws.{op_cmp_total, op_cmp_exact}
 use Rattle.oct_ops.specs.Sets as sets
-use Rattle.oct_ops.specs.SetLaws.{contains-insert, contains-remove, listed-empty, listed-insert, same_set}
+use Rattle.oct_ops.specs.SetLaws.{listed-empty, listed-insert}
 use Rattle.oct_ops.specs.Games.{of_code}
-use Rattle.oct_notes.specs.Notes.{concerns_notes, notes_of}
 use Rattle.oct_verify.specs.Filing.{filing_cmp}
 use Rattle.oct_verify.specs.FilingLaws.{filing_cmp_total, filing_cmp_exact}
 use Rattle.oct_period.specs.Claims.{claim_cmp}
@@ -24,7 +22,7 @@ use Rattle.oct_period.specs.ClaimLaws.{claim_cmp_total, claim_cmp_exact}
 use Rattle.oct_period.specs.GameContent.{GameContent}
 use Rattle.oct_pages.specs.Catalogue.{blocks_of, block_in, claims_of, claim_in, if_some, under}
 use Rattle.oct_replica.specs.Beside.{Games, content_in, has_game, game_in, AreBeside, HasOwnCode, new_game, game_at, after, with_block, with_period, filed}
-use Rattle.oct_replica.proofs.Inserting.{insert_option, filter_map-insert, if_true, filter-map, any-insert}
+use Rattle.oct_replica.proofs.Inserting.{insert_option, filter_map-insert, any-insert}
 
 -- ---- the empty set
 

@@ -3,9 +3,8 @@ use Rattle.std.specs.Prelude.{◌≡◌, Bool, Option, Some, None, IfSome, cond,
 use Rattle.std.specs.List.{list_any}
 use Rattle.std.specs.Ordering.{eq_by_cmp}
 use Rattle.oct_code.specs.Code.{Code, code_cmp}
-use Rattle.oct_ops.specs.Body.{Body, Operation}
+use Rattle.oct_ops.specs.Body.{Body}
 use Rattle.oct_ops.specs.Operation.{Dot}
-use Rattle.oct_ops.specs.Operations as set
 use Rattle.oct_ops.specs.Operations.{Operations, listed}
 use Rattle.oct_ops.specs.Sets as sets
 use Rattle.oct_ops.specs.Games.{game_of_body, of_code}

@@ -1,5 +1,5 @@
 -- What a replica makes for its author to issue: the next nim-values of a game.
-use Rattle.std.specs.Prelude.{◌≡◌, ℕ, ◌-◌, ◌==◌, min, nat_lt, if◌then◌else◌, List, Option, Some, None}
+use Rattle.std.specs.Prelude.{ℕ, ◌-◌, ◌==◌, min, nat_lt, if◌then◌else◌, List, Option, Some, None}
 use Rattle.oct_code.specs.Code.{Code}
 use Rattle.oct_code.specs.declared.limits.TheConstants.{LIMIT}
 use Rattle.oct_ops.specs.Operation.{Block, claimed}

@@ -1,8 +1,7 @@
 -- What is proved or refuted stays so when operations are added.
-use Rattle.std.specs.Prelude.{◌≡◌, ◌≢◌, ℕ, true, List, map}
+use Rattle.std.specs.Prelude.{◌≡◌, ◌≢◌, ℕ, List, map}
 use Rattle.std.specs.List.{IsAmong}
 use Rattle.oct_code.specs.Code.{Code}
-use Rattle.oct_ops.specs.Body.{Operation}
 use Rattle.oct_ops.specs.Operation.{Dot, Block, Period}
 use Rattle.oct_ops.specs.Operations.{Operations, IsSubset, listed}
 use Rattle.oct_ops.specs.Valid.{IsPeriod}

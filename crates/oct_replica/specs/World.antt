@@ -1,5 +1,5 @@
 -- Replicas that issue, save, send, take and restart, in any order.
-use Rattle.std.specs.Prelude.{◌≡◌, ℕ, zero, suc, ◌+◌, ◌-◌, ◌^◌, ◌≤◌, Bool, true, false, not, ◌&&◌, ◌==◌, nat_lt, List, [], ◌∷◌, ◌++◌, take, replicate, Option, Some, None, slice_get, slice_set, ◌⊎◌, ◌≢◌}
+use Rattle.std.specs.Prelude.{◌≡◌, ℕ, zero, suc, ◌-◌, ◌≤◌, Bool, true, false, not, ◌&&◌, ◌==◌, List, [], ◌∷◌, ◌++◌, take, replicate, Option, Some, None, slice_get, slice_set, ◌⊎◌, ◌≢◌}
 use Rattle.std.specs.List.{list_any, fold, IsAmong}
 use Rattle.oct_ops.specs.Operations.{Operations, empty, insert, contains, listed, insert_all, set_of, union}
 use Rattle.oct_ops.specs.Body.{Body, Operation}
