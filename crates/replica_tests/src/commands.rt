@@ -8,7 +8,8 @@ use crate::texts::{
 use census_core::{Fault, ImportError, Reply, Request, number, perform, rejoin};
 use oct_code::CodeError;
 use oct_ops::{NoteError, PeriodError};
-use oct_replica::{ComputeError, IssueError, LoadError, RemovalError, Replica, TakeError};
+use oct_record::Record;
+use oct_replica::{ComputeError, IssueError, LoadError, RemovalError, TakeError};
 use oct_sync::SyncError;
 use oct_views::BfileError;
 use std::alloc::{AllocError, Global};
@@ -628,7 +629,7 @@ fn is_union(rt: &(impl Abort + AllocGlobal), reply: &Reply, text: &str, state: &
 // A session leaves what is told.
 fn leaves(rt: &(impl Abort + AllocGlobal), union: Union) {
     let (file, held, wanted) = union;
-    let loaded = Replica::load(rt.alloc(), &bytes(rt, held));
+    let loaded = Record::load(rt.alloc(), &bytes(rt, held));
     let loaded = loaded.ok().expect(rt, held);
     match (rejoin(rt.alloc(), &bytes(rt, file), &loaded), wanted) {
         (Ok(reply), Ok((text, state))) => is_union(rt, &reply, text, state),

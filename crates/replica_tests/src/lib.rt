@@ -10,6 +10,8 @@ mod commands;
 #[cfg(test)]
 mod fold;
 #[cfg(test)]
+mod records;
+#[cfg(test)]
 mod replica;
 #[cfg(test)]
 mod runs;

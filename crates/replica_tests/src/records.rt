@@ -1,0 +1,49 @@
+//! Records: the operations of each game, the notes, and an operation that is taken out again.
+
+use crate::texts::{EARLY, FIRST, NEXT, TURNS, bytes};
+use oct_code::Code;
+use oct_record::Record;
+use std::alloc::Global;
+use std::process::Abort;
+
+// A record that took in each of the deltas.
+fn record_of(rt: &(impl Abort + AllocGlobal), deltas: &[&str]) -> Record<Global> {
+    let mut said = Record::new(rt.alloc(), 7).ok().expect(rt, "a record");
+    for delta in deltas {
+        let new = said.take(&bytes(rt, delta));
+        assert!(rt; matches!(new, Ok(1..)), "{delta} brings nothing: {new:?}");
+    }
+    said
+}
+
+// So many blocks and claims are of the game of this code.
+fn has_of_game(rt: &impl Abort, said: &Record<Global>, code: &str, wanted: usize) {
+    let parsed = Code::parse(code.as_bytes()).ok().expect(rt, code);
+    let held = match said.game(parsed) {
+        Some(held) => held.len(),
+        None => 0,
+    };
+    assert_eq!(rt; held, wanted, "of {code}");
+}
+
+#[test]
+fn a_record_tells_its_games_and_notes_apart(rt: HostRuntime) {
+    let said = record_of(&rt, &[FIRST, NEXT, EARLY, TURNS]);
+    assert_eq!(rt; said.len(), 5, "operations in all");
+    assert_eq!(rt; said.store().len(), 5, "operations lent");
+    has_of_game(&rt, &said, "0.77", 2);
+    has_of_game(&rt, &said, "0.3", 2);
+    has_of_game(&rt, &said, "0.07", 0);
+    assert_eq!(rt; said.notes().len(), 1, "notes");
+}
+
+#[test]
+fn what_is_taken_out_is_of_no_game(rt: HostRuntime) {
+    let mut said = record_of(&rt, &[FIRST]);
+    let first = said.store().iter().next().expect(&rt, "an operation");
+    let first = first.copy(rt.alloc()).ok().expect(&rt, "a copy");
+    assert!(rt; said.remove(&first), "it was there");
+    assert!(rt; !said.remove(&first), "it is there no more");
+    assert!(rt; said.is_empty(), "nothing is left");
+    has_of_game(&rt, &said, "0.77", 0);
+}
