@@ -7,9 +7,8 @@ use crate::texts::{
 };
 use census_core::{Fault, ImportError, Reply, Request, number, perform, rejoin};
 use oct_code::CodeError;
-use oct_ops::{NoteError, PeriodError};
-use oct_replica::{ComputeError, IssueError, LoadError, RemovalError, Replica, TakeError};
-use oct_sync::SyncError;
+use oct_ops::PeriodError;
+use oct_replica::{ComputeError, LoadError, RemovalError, Replica, TakeError};
 use oct_views::BfileError;
 use std::alloc::{AllocError, Global};
 use std::process::Abort;
@@ -564,35 +563,6 @@ fn words_are_numbers(rt: HostRuntime) {
     for word in ["", "+1", "4294967296", "1 ", "0x1"] {
         assert_eq!(rt; number(word, most), None, "{word:?}");
     }
-}
-
-/// Faults, and their texts and statuses.
-const FAULTS: &[(Fault, &str, u8)] = &[
-    (Fault::Code(CodeError::Digit), "Code Digit", 1),
-    (Fault::Load(LoadError::Version), "Load Version", 1),
-    (Fault::Import(ImportError::Shape), "Import Shape", 1),
-    (Fault::Compute(ComputeError::AtLimit), "Compute AtLimit", 1),
-    (Fault::Period(PeriodError::Zero), "Period Zero", 1),
-    (Fault::Note(NoteError::Name), "Note Name", 1),
-    (Fault::Removal(RemovalError::NoNote), "Removal NoNote", 1),
-    (Fault::Merge(TakeError::Refused), "Merge Refused", 1),
-    (Fault::Issue(IssueError::LastNumber), "Issue LastNumber", 1),
-    (Fault::Sync(SyncError::Order), "Sync Order", 1),
-    (Fault::Sync(SyncError::Cut), "Sync Cut", 3),
-    (Fault::NoPage, "NoPage", 1),
-    (Fault::Number, "Number", 2),
-    (Fault::Exists, "Exists", 3),
-    (Fault::OutOfMemory, "OutOfMemory", 4),
-];
-
-#[test]
-fn faults_are_named(rt: HostRuntime) -> Result<(), Fail> {
-    for &(fault, text, status) in FAULTS {
-        let shown = format!(in rt.alloc(); "{fault}")?;
-        assert_eq!(rt; shown.as_str(), text);
-        assert_eq!(rt; fault.status(), status, "the status of {text}");
-    }
-    Ok(())
 }
 
 /// A state file, the state that a session holds, and what is saved then, with its text.
