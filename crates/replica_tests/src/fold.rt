@@ -189,6 +189,7 @@ fn folds_over(
     let mut sink = Sink {
         expected: FIRST_SHOWN.as_bytes(),
         room,
+        is_flushed: true,
     };
     let folded = fold_lines(rt.alloc(), &mut source, &mut sink);
     assert_eq!(rt; folded, answer, "{kind:?} with room for {room} bytes");
@@ -197,6 +198,10 @@ fn folds_over(
         count,
         written,
         "bytes written: {kind:?} with room for {room} bytes"
+    );
+    assert!(rt;
+        sink.is_flushed || folded.is_err(),
+        "bytes left in the writer with room for {room} bytes"
     );
 }
 
@@ -228,11 +233,13 @@ impl Read for Source<'_> {
     }
 }
 
-/// Takes the bytes that it expects one at a time, as long as there is room, and then none.
+/// Takes the bytes that it expects one at a time, as long as there is room, and then none. It notes whether all that it took
+/// was flushed.
 #[derive(Clone, Copy)]
 struct Sink {
     expected: &'static [u8],
     room: usize,
+    is_flushed: bool,
 }
 
 impl Write for Sink {
@@ -242,10 +249,12 @@ impl Write for Sink {
         }
         self.room -= 1;
         self.expected = &self.expected[1..];
+        self.is_flushed = false;
         Ok(1)
     }
 
     fn flush(&mut self) -> io::Result<()> {
+        self.is_flushed = true;
         Ok(())
     }
 }

@@ -10,6 +10,8 @@ mod commands;
 #[cfg(test)]
 mod fold;
 #[cfg(test)]
+mod progress;
+#[cfg(test)]
 mod records;
 #[cfg(test)]
 mod replica;

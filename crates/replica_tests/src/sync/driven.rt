@@ -43,14 +43,16 @@ impl Read for Source<'_> {
 }
 
 /// Takes the bytes that it expects, at most so many a write, and fails or takes none at the write after so many others. It
-/// notes whether others came.
+/// notes whether others came, and whether all that it took was flushed; it may fail to flush.
 #[derive(Clone, Copy)]
 struct Sink<'a> {
     expected: &'a [u8],
     most: usize,
     left: u32,
     fails: bool,
+    flushes: bool,
     is_right: bool,
+    is_flushed: bool,
 }
 
 impl Write for Sink<'_> {
@@ -70,10 +72,15 @@ impl Write for Sink<'_> {
             return Ok(0);
         }
         self.expected = rest;
+        self.is_flushed = false;
         Ok(count)
     }
 
     fn flush(&mut self) -> io::Result<()> {
+        if !self.flushes {
+            return Err(io::Error::from(ErrorKind::BrokenPipe));
+        }
+        self.is_flushed = true;
         Ok(())
     }
 }
@@ -94,7 +101,9 @@ fn sink_of(side: &Side) -> Sink<'_> {
         most: usize::MAX,
         left: u32::MAX,
         fails: false,
+        flushes: true,
         is_right: true,
+        is_flushed: true,
     }
 }
 
@@ -139,12 +148,17 @@ fn case_of(side: &Side, number: u32) -> Case<'_> {
     (source, sink, answer)
 }
 
-// The side is answered as it should be over the case, and where it is done, it shows what it should and all is read and
-// written.
+// The side is answered as it should be over the case, and all that it wrote was flushed before the next read. Where it is
+// done, it shows what it should and all is read and written.
 fn is_answered(rt: &(impl Abort + AllocGlobal), side: &Side, number: u32) {
     let (mut source, mut sink, wanted) = case_of(side, number);
     let (answer, replica) = drives(rt, side, &mut source, &mut sink);
     assert_eq!(rt; answer, wanted, "{} in case {number}", side.name);
+    assert!(rt;
+        sink.is_flushed || answer == Err(SyncError::Write),
+        "{} leaves bytes in the writer in case {number}",
+        side.name
+    );
     if answer.is_ok() {
         let left = (source.bytes.len(), sink.expected.len());
         assert_eq!(rt;
@@ -169,6 +183,15 @@ fn keeps_what_came(rt: &(impl Abort + AllocGlobal), side: &Side) {
     assert_eq!(rt; sent, side.first, "bytes that {} sent", side.name);
 }
 
+// The side is answered `Write` where its writer fails to flush.
+fn is_refused_unflushed(rt: &(impl Abort + AllocGlobal), side: &Side) {
+    let mut source = source_of(side);
+    let mut sink = sink_of(side);
+    sink.flushes = false;
+    let (answer, _) = drives(rt, side, &mut source, &mut sink);
+    assert_eq!(rt; answer, Err(SyncError::Write), "{}", side.name);
+}
+
 #[test]
 fn devices_may_be_slow_or_end_or_fail(rt: HostRuntime) {
     for role in [Role::Client, Role::Server] {
@@ -176,6 +199,7 @@ fn devices_may_be_slow_or_end_or_fail(rt: HostRuntime) {
         for number in 0..92u32 {
             is_answered(&rt, &side, number);
         }
+        is_refused_unflushed(&rt, &side);
     }
     keeps_what_came(&rt, &Side::client(&rt));
 }

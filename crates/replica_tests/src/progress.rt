@@ -1,0 +1,66 @@
+//! Who is told how far a command is.
+
+use crate::texts::{EMPTY_STATE, bytes};
+use census_core::{Progress, Request, perform_watched};
+use oct_code::Code;
+use std::alloc::{AllocError, Global};
+use std::process::Abort;
+
+/// The code of a game, how many of its values are known, and how many are wanted.
+type Tale = (&'static str, u32, u32);
+
+/// What is told of two games of which 1,030 values are wanted, where those of heap 0 are known: once before each block.
+const TOLD: &[Tale] = &[
+    ("0.137", 1, 1_030),
+    ("0.137", 1_025, 1_030),
+    ("0.77", 1, 1_030),
+    ("0.77", 1_025, 1_030),
+];
+
+/// Expects to be told this, and notes whether something else came.
+#[derive(Clone, Copy)]
+struct Listener {
+    expected: &'static [Tale],
+    is_right: bool,
+}
+
+impl Progress for Listener {
+    fn tell(&mut self, code: Code, known: u32, wanted: u32) {
+        match self.expected {
+            [tale, rest @ ..] if is_told(*tale, code, known, wanted) => self.expected = rest,
+            _ => self.is_right = false,
+        }
+    }
+}
+
+// This is what is told.
+fn is_told(tale: Tale, code: Code, known: u32, wanted: u32) -> bool {
+    let (name, known_then, wanted_then) = tale;
+    Code::parse(name.as_bytes()) == Ok(code) && known_then == known && wanted_then == wanted
+}
+
+// The request for the values of both games.
+fn both_extended(alloc: Global) -> Result<Request, AllocError> {
+    let mut codes = Vec::new(alloc);
+    for name in ["0.137", "0.77"] {
+        codes.push(Vec::from_slice(alloc, name.as_bytes())?)?;
+    }
+    Ok(Request::Extend {
+        count: 1_030,
+        codes,
+    })
+}
+
+#[test]
+fn each_block_is_told_before(rt: HostRuntime) {
+    let request = both_extended(rt.alloc()).ok().expect(&rt, "a request");
+    let state = bytes(&rt, EMPTY_STATE);
+    let mut listener = Listener {
+        expected: TOLD,
+        is_right: true,
+    };
+    let reply = perform_watched(rt.alloc(), &request, &state, b"", &mut listener);
+    assert!(&rt; reply.is_ok(), "refused");
+    assert!(&rt; listener.is_right, "something else is told");
+    assert!(&rt; listener.expected.is_empty(), "less is told");
+}
