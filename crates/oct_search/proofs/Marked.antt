@@ -81,6 +81,17 @@ marked_round c g n heaps end next x y has adds =
       ]);
     }
 
+-- or a value of an option
+pub marked_value : (c : Code) (g : ℕ → ℕ) (n : ℕ) (heaps : List ℕ) (end v : ℕ) (x y : List Bool) → HasMarked c g n heaps end x → IsOptionValue c g n v
+    → AddsMarks x y (λ w. w ≡ v) → HasMarked c g n heaps end y
+marked_value c g n heaps end v x y has option adds =
+    let size : length y ≡ length x = adds.size in
+    record {
+      sound = λ w l m. elim ((adds.marked w (omega arith)).0 m) [ inl old ↦ has.sound w (omega arith) old | inr e ↦ subst (IsOptionValue c g n) (sym e) option ];
+      listed = λ w r l o. (adds.marked w (omega arith)).1 (inl (has.listed w r (omega arith) o));
+      pairs = λ w r l o. (adds.marked w (omega arith)).1 (inl (has.pairs w r (omega arith) o));
+    }
+
 -- the first value that is not marked is the mex, if each option of two heaps that has it would be marked
 pub marked_mex : (c : Code) (values heaps : List ℕ) (end m : ℕ) (marks : List Bool) → IsTableFor values (length marks)
     → HasMarked c (slice_index values) (length values) heaps end marks

@@ -79,8 +79,8 @@ fn mark_pairs(values: &[u16], rest: usize, from: usize, end: usize, marks: &mut 
     }
 }
 
-// Marks a value.
-fn mark(marks: &mut [bool], value: u16)
+/// Marks a value.
+pub(crate) fn mark(marks: &mut [bool], value: u16)
     requires { value < length marks.old }
     ensures { AddsMarks marks.old marks.new (λ v. v ≡ value) }
 {

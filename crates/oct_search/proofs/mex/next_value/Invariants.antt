@@ -1,4 +1,4 @@
-use Rattle.std.proofs.Common.{◌-◌, ◌<◌, ◌≤◌, ℕ, length, slice_index}
+use Rattle.std.proofs.Common.{◌+◌, ◌-◌, ◌<◌, ◌≤◌, ℕ, length, slice_index}
 use Rattle.oct_mex.specs.Marks.{IsMarked}
 use Rattle.oct_search.specs.Marked.{HasMarked}
 use Rattle.oct_search.proofs.mex.next_value.Given as goal
@@ -12,5 +12,6 @@ invariant-loop-end l = record {
   unmarked : l.least < length l.marks → IsMarked l.marks l.least → ⊥;
 }
 
+-- values that may be sought, and pairs that may be marked
 abbrev pub decreases-loop-end : goal.decreases-loop-end
-decreases-loop-end l = length l.values - l.end
+decreases-loop-end l = (length l.marks - l.least) + (length l.values - l.end)
