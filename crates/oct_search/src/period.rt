@@ -13,6 +13,9 @@ use std::simd::prelude::*;
 // How many values are compared at a time.
 const LANES: usize = 16;
 
+// So many values more than an eighth let expect a period.
+const TAIL: usize = 64;
+
 /// The least period that the first nim-values of a game show so far that it holds for ever (Guy and Smith 1956), and the
 /// least heap from which on it is so shown, at least 1; none where they show no period. Takes no memory.
 ///
@@ -45,6 +48,28 @@ pub(crate) fn find_period(code: &Code, values: &[u16]) -> Option<SeenPeriod>
         }
     }
     None
+}
+
+/// How many values it takes to show the least period that an eighth of the values, the last ones, let expect; 0 where they
+/// let expect none. This says when to look again, and nothing else, so that no clause speaks of it.
+pub(crate) fn expected_need(code: &Code, values: &[u16]) -> usize
+    requires { length values.now ≤ MOST }
+{
+    let digits = code.len();
+    let tail = values.len() / 8 + TAIL;
+    let mut failed = 0;
+    let mut later = 0;
+    for period in 1..values.len().saturating_sub(tail) {
+        let last = values.len() - tail - period;
+        match break_by(values, last, period, failed, later) {
+            None => return 2 * (first_start(values, last, period) + period) + digits,
+            Some(heap) => {
+                failed = heap;
+                later = heap + period;
+            }
+        }
+    }
+    0
 }
 
 // A heap from `start` on whose value does not come again one period later. The two heaps are tried first.

@@ -8,7 +8,7 @@ ghost use Rattle.oct_search.specs.declared.error.SearchError.TheVariants.{PastVa
 
 use crate::error::SearchError;
 use crate::mex::next_value;
-use crate::period::find_period;
+use crate::period::{expected_need, find_period};
 use crate::rare::Rare;
 use oct_code::Code;
 use oct_mex::SeenPeriod;
@@ -155,8 +155,24 @@ impl<A: Allocator + Copy> Search<A> {
         find_period(&self.code, &self.values)
     }
 
+    // How many values there are when a period is looked for next: a quarter more, or as many as the period takes that they
+    // let expect, where that is not much more.
+    fn next_look(&self) -> usize
+        ensures { self.now.len < result }
+    {
+        let len = self.values.len();
+        let next = FIRST_LOOK.max(len + len / 4);
+        let need = expected_need(&self.code, &self.values);
+        if len < need && need < next + len / 2 {
+            need
+        } else {
+            next
+        }
+    }
+
     /// Computes nim-values until they show a period, as `find_period` says, or those of `count` heaps are known. A period is
-    /// looked for at lengths that grow by a quarter, and at the end. A refusal is as that of `extend`.
+    /// looked for at lengths that grow by a quarter, where the values let expect one at the length that shows it, and at the
+    /// end. A refusal is as that of `extend`.
     pub fn search(&mut self, count: usize) -> Result<Option<SeenPeriod>, SearchError>
         requires { count ≤ MOST }
         ensures code { self.new.code ≡ self.old.code }
@@ -168,8 +184,7 @@ impl<A: Allocator + Copy> Search<A> {
     {
         let mut found = self.find_period();
         while found.is_none() && self.len() < count {
-            let next = self.len() + self.len() / 4;
-            self.extend(count.min(next.max(FIRST_LOOK)))?;
+            self.extend(count.min(self.next_look()))?;
             found = self.find_period();
         }
         Ok(found)
