@@ -1,0 +1,4 @@
+pub mod Listed
+pub mod Marked
+pub mod Next
+pub mod Walks

@@ -1,0 +1,14 @@
+use Rattle.std.proofs.Common.{◌≡◌, ◌-◌, ◌≤◌, max}
+use Rattle.oct_search.specs.Found.{IsFound}
+use Rattle.oct_search.proofs.search.Search.search.Given as goal
+
+abbrev pub invariant-loop-self : goal.invariant-loop-self
+invariant-loop-self g l = record {
+  code : l.self.code ≡ l.initial.self.code;
+  more : l.initial.self.len ≤ l.self.len;
+  most : l.self.len ≤ max l.count l.initial.self.len;
+  found : IsFound l.self.code l.self.len l.found;
+}
+
+abbrev pub decreases-loop-self : goal.decreases-loop-self
+decreases-loop-self g l = l.count - l.self.len

@@ -1,0 +1,104 @@
+//! A table that marks the nim-values of options.
+
+ghost use Rattle.std.specs.Prelude.{◌≡◌, ℕ, ◌+◌, ◌<◌, ◌≤◌, length, min, slice_index};
+ghost use Rattle.oct_code.specs.Code as octal;
+ghost use Rattle.oct_mex.specs.Marks.{AddsMarks, IsBelow, IsMarked, IsOneHeapBy, IsPairBy, IsPairValue, IsRareBy, IsRarePair, IsTableFor};
+
+use oct_code::Code;
+
+/// Marks the nim-values of the options that leave at most one heap, or a heap of the list.
+pub(crate) fn mark_listed_options(code: &Code, values: &[u16], heaps: &[u32], marks: &mut [bool])
+    requires table { IsTableFor values.now (length marks.old) }
+    ensures { AddsMarks marks.old marks.new (IsBelow (IsRareBy code.now (slice_index values.now) (length values.now) heaps.now) (min (octal.len code.now) (length values.now) + 1)) }
+{
+    for removed in 0..code.len().min(values.len()) + 1 {
+        mark_one_heap(code, values, removed, marks);
+        if code.allows(removed, 2) {
+            mark_listed_pairs(values, heaps, values.len() - removed, marks);
+        }
+    }
+}
+
+/// Marks the nim-values of the options whose smaller heap is not empty and in the range.
+pub(crate) fn mark_pair_options(
+    code: &Code,
+    values: &[u16],
+    from: usize,
+    end: usize,
+    marks: &mut [bool],
+)
+    requires some { 1 ≤ from }
+    requires ordered { from ≤ end }
+    requires table { IsTableFor values.now (length marks.old) }
+    ensures { AddsMarks marks.old marks.new (IsBelow (IsPairBy code.now (slice_index values.now) (length values.now) from end) (min (octal.len code.now) (length values.now) + 1)) }
+{
+    for removed in 0..code.len().min(values.len()) + 1 {
+        if code.allows(removed, 2) {
+            mark_pairs(values, values.len() - removed, from, end, marks);
+        }
+    }
+}
+
+// Marks the nim-value of the option that removes so many beans and leaves at most one heap.
+fn mark_one_heap(code: &Code, values: &[u16], removed: usize, marks: &mut [bool])
+    requires held { removed ≤ length values.now }
+    requires few { removed ≤ octal.len code.now }
+    requires table { IsTableFor values.now (length marks.old) }
+    ensures { AddsMarks marks.old marks.new (IsOneHeapBy code.now (slice_index values.now) (length values.now) removed) }
+{
+    let rest = values.len() - removed;
+    if removed > 0 && code.allows(removed, u32::from(rest > 0)) {
+        mark(marks, values[0] ^ values[rest]);
+    }
+}
+
+// Marks the nim-values of the pairs of heaps that are not empty, have so many beans, and one of which is in the list.
+fn mark_listed_pairs(values: &[u16], heaps: &[u32], rest: usize, marks: &mut [bool])
+    requires held { rest ≤ length values.now }
+    requires table { IsTableFor values.now (length marks.old) }
+    ensures { AddsMarks marks.old marks.new (IsRarePair (slice_index values.now) heaps.now rest (length heaps.now)) }
+{
+    for heap in heaps {
+        let heap = *heap as usize;
+        if 0 < heap && heap < rest {
+            mark(marks, values[heap] ^ values[rest - heap]);
+        }
+    }
+}
+
+// Marks the nim-values of the pairs of heaps that have so many beans, the smaller one in the range.
+fn mark_pairs(values: &[u16], rest: usize, from: usize, end: usize, marks: &mut [bool])
+    requires some { 1 ≤ from }
+    requires ordered { from ≤ end }
+    requires held { rest ≤ length values.now }
+    requires table { IsTableFor values.now (length marks.old) }
+    ensures { AddsMarks marks.old marks.new (IsPairValue (slice_index values.now) rest from end) }
+{
+    for a in from..end.min(rest / 2 + 1) {
+        mark(marks, values[a] ^ values[rest - a]);
+    }
+}
+
+/// Marks a value.
+pub(crate) fn mark(marks: &mut [bool], value: u16)
+    requires { value < length marks.old }
+    ensures { AddsMarks marks.old marks.new (λ v. v ≡ value) }
+{
+    marks[usize::from(value)] = true;
+}
+
+/// The first place that is not marked, or the table's length, where all places before one are marked.
+pub(crate) fn first_unmarked(marks: &[bool], from: usize) -> usize
+    requires within { from ≤ length marks.now }
+    requires marked { (v : ℕ) → v < from → IsMarked marks.now v }
+    ensures within { result ≤ length marks.now }
+    ensures marked { (v : ℕ) → v < result → IsMarked marks.now v }
+    ensures unmarked { result < length marks.now → IsMarked marks.now result → ⊥ }
+{
+    for at in from..marks.len() {
+        if !marks[at] {
+            return at;
+        }
+    }
+    marks.len()
+}

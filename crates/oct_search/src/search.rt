@@ -1,0 +1,192 @@
+//! A search for the period of a game.
+
+ghost use Rattle.std.specs.Prelude.{◌≡◌, ◌+◌, ◌^◌, ◌<◌, ◌≤◌, max, IfErr, IfOk, OnErr, OnOk, SomeIff};
+ghost use Rattle.oct_mex.specs.NimValues.{nim_values, nim_value};
+ghost use Rattle.oct_mex.specs.Periods.{IsPeriodicFrom};
+ghost use Rattle.oct_search.specs.Found.{IsFound};
+ghost use Rattle.oct_search.specs.declared.error.SearchError.TheVariants.{PastValue};
+
+use crate::error::SearchError;
+use crate::mex::next_value;
+use crate::period::{expected_need, find_period};
+use crate::rare::Rare;
+use oct_code::Code;
+use oct_mex::SeenPeriod;
+use std::alloc::Allocator;
+use std::marker::Model;
+
+/// The most nim-values that are computed: those of the heaps 0 to `MOST - 1`.
+pub const MOST: usize = 4_294_967_296;
+
+// Fewer values are not searched for a period.
+const FIRST_LOOK: usize = 64;
+
+/// The nim-values of the heaps 0, 1, .. of a game, as far as they are computed.
+#[derive(Drop)]
+pub struct Search<A: Allocator + Copy> {
+    code: Code,
+    values: Vec<u16, A>,
+    marks: Vec<bool, A>,
+    // The part of the table of marks that is used: a power of two above each value.
+    used: usize,
+    rare: Rare<A>,
+}
+
+impl<A: Allocator + Copy> Model for Search<A> {
+    ghost use Rattle.oct_search.specs.Known.{Known};
+    ghost use Rattle.oct_search.specs.Fields.{known_of, IsStored};
+
+    ghost Value = { Known };
+
+    ghost view = { known_of };
+
+    ghost invariant = { IsStored };
+}
+
+impl<A: Allocator + Copy> Search<A> {
+    /// No value of the game of a code. Takes no memory.
+    pub fn new(alloc: A, code: Code) -> Search<A>
+        ensures { result ≡ record { code = code; len = 0 } }
+    {
+        Search {
+            code,
+            values: Vec::new(alloc),
+            marks: Vec::new(alloc),
+            used: 1,
+            rare: Rare::new(alloc),
+        }
+    }
+
+    /// The code of the game.
+    pub fn code(&self) -> Code
+        ensures { result ≡ self.now.code }
+    {
+        self.code
+    }
+
+    /// How many nim-values are computed, at most `MOST`.
+    pub fn len(&self) -> usize
+        ensures len { result ≡ self.now.len }
+        ensures limited { result ≤ MOST }
+    {
+        self.values.len()
+    }
+
+    /// The nim-values of the heaps 0, 1, .., as far as they are computed.
+    pub fn as_slice(&self) -> &[u16]
+        ensures { result.now ≡ nim_values self.now.code self.now.len }
+    {
+        self.values.as_slice()
+    }
+
+    /// The nim-value of a heap, if it is computed.
+    pub fn value(&self, heap: usize) -> Option<u16>
+        ensures { SomeIff result (heap < self.now.len) (nim_value self.now.code heap) }
+    {
+        self.values.get(heap).copied()
+    }
+
+    /// The nim-value of a heap of any size, by a period that holds and is computed to its end.
+    pub fn value_by(&self, seen: SeenPeriod, heap: u64) -> u16
+        requires some { 1 ≤ seen.period }
+        requires within { seen.start + seen.period ≤ self.now.len }
+        requires holds { IsPeriodicFrom self.now.code seen.start seen.period }
+        ensures { result ≡ nim_value self.now.code heap }
+    {
+        let heap = heap as usize;
+        if heap < seen.start {
+            self.values[heap]
+        } else {
+            self.values[seen.start + (heap - seen.start) % seen.period]
+        }
+    }
+
+    /// Computes the nim-values of `count` heaps. Where memory is refused, or the next nim-value is above 65,535, those
+    /// before it stand.
+    pub fn extend(&mut self, count: usize) -> Result<(), SearchError>
+        requires { count ≤ MOST }
+        ensures code { self.new.code ≡ self.old.code }
+        ensures more { self.old.len ≤ self.new.len }
+        ensures ok { OnOk result (self.new.len ≡ max count self.old.len) }
+        ensures short { OnErr result (self.new.len < count) }
+        ensures past { IfErr result (λ fault. fault ≡ PastValue → 2 ^ 16 ≤ nim_value self.new.code self.new.len) }
+    {
+        for _ in self.values.len()..count {
+            self.push_next()?;
+        }
+        Ok(())
+    }
+
+    // Adds the next value. A refusal leaves the values as they are.
+    fn push_next(&mut self) -> Result<(), SearchError>
+        requires { self.old.len < MOST }
+        ensures ok { OnOk result (self.new ≡ record self.old { len = self.old.len + 1 }) }
+        ensures err { OnErr result (self.new ≡ self.old) }
+        ensures past { IfErr result (λ fault. fault ≡ PastValue → 2 ^ 16 ≤ nim_value self.new.code self.new.len) }
+    {
+        self.rare.follow(&self.code, &self.values, self.used)?;
+        self.rare.heaps.reserve(1)?;
+        self.values.reserve(1)?;
+        self.marks.resize(self.used, false)?;
+        let value = next_value(
+            &self.code,
+            &self.values,
+            self.rare.mask,
+            &self.rare.heaps,
+            &mut self.marks,
+        );
+        let Ok(stored) = u16::try_from(value) else {
+            return Err(SearchError::PastValue);
+        };
+        self.values.push_reserved(stored);
+        self.rare.note(&self.values);
+        if value == self.used {
+            self.used *= 2;
+        }
+        Ok(())
+    }
+
+    /// The least period that the values show so far that it holds for ever: twice the heap from which on it is seen, twice
+    /// the period and the number of digits are at most as many as the values. That heap is the least that serves, from 1 on.
+    /// `None` where they show no period.
+    pub fn find_period(&self) -> Option<SeenPeriod>
+        ensures { IsFound self.now.code self.now.len result }
+    {
+        find_period(&self.code, &self.values)
+    }
+
+    // How many values there are when a period is looked for next: a quarter more, or as many as the period takes that they
+    // let expect, where that is not much more.
+    fn next_look(&self) -> usize
+        ensures { self.now.len < result }
+    {
+        let len = self.values.len();
+        let next = FIRST_LOOK.max(len + len / 4);
+        let need = expected_need(&self.code, &self.values);
+        if len < need && need < next + len / 2 {
+            need
+        } else {
+            next
+        }
+    }
+
+    /// Computes nim-values until they show a period, as `find_period` says, or those of `count` heaps are known. A period is
+    /// looked for at lengths that grow by a quarter, where the values let expect one at the length that shows it, and at the
+    /// end. A refusal is as that of `extend`.
+    pub fn search(&mut self, count: usize) -> Result<Option<SeenPeriod>, SearchError>
+        requires { count ≤ MOST }
+        ensures code { self.new.code ≡ self.old.code }
+        ensures more { self.old.len ≤ self.new.len }
+        ensures most { self.new.len ≤ max count self.old.len }
+        ensures found { IfOk result (λ found. IsFound self.new.code self.new.len found) }
+        ensures all { IfOk result (λ found. found ≡ None → self.new.len ≡ max count self.old.len) }
+        ensures past { IfErr result (λ fault. fault ≡ PastValue → 2 ^ 16 ≤ nim_value self.new.code self.new.len) }
+    {
+        let mut found = self.find_period();
+        while found.is_none() && self.len() < count {
+            self.extend(count.min(self.next_look()))?;
+            found = self.find_period();
+        }
+        Ok(found)
+    }
+}
