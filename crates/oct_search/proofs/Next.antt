@@ -1,5 +1,5 @@
 -- The next nim-value, and the values with it.
-use Rattle.std.proofs.Common.{◌≡◌, ℕ, ◌+◌, ◌*◌, ◌<◌, ◌++◌, ◌∷◌, [], List, length, slice_index, sym, ap, ◌∙◌, arith}
+use Rattle.std.proofs.Common.{◌≡◌, ℕ, ◌<◌, List, length, slice_index, sym, ap, ◌∙◌}
 use Rattle.oct_code.specs.Code.{Code}
 use Rattle.oct_mex.specs.Mex.{IsMex}
 use Rattle.oct_mex.specs.NimValues.{IsOptionValue, nim_value, nim_values}

@@ -1,5 +1,5 @@
 -- Options of two heaps, by the pairs of heaps that have so many beans.
-use Rattle.std.proofs.Common.{◌≡◌, ℕ, ◌+◌, ◌-◌, ◌/◌, ◌≤◌, IsTrue, arith, subst}
+use Rattle.std.proofs.Common.{ℕ, ◌+◌, ◌-◌, ◌/◌, ◌≤◌, IsTrue, arith, subst}
 use Rattle.oct_code.specs.Code.{Code, len, allows}
 use Rattle.oct_mex.specs.Marks.{IsPairBy, IsPairValue}
 use Rattle.oct_mex.proofs.Marking.{pair_option}

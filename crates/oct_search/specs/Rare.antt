@@ -1,5 +1,5 @@
 -- Rare and common heaps.
-use Rattle.std.specs.Prelude.{◌≡◌, ℕ, ◌+◌, ◌%◌, ◌<◌, ◌≤◌, ◌==◌, if◌then◌else◌, Bool, true, false, IsTrue, List, slice_index, bit_and, count_ones, Contains}
+use Rattle.std.specs.Prelude.{◌≡◌, ℕ, ◌+◌, ◌%◌, ◌<◌, ◌≤◌, ◌==◌, if◌then◌else◌, Bool, true, IsTrue, List, slice_index, bit_and, count_ones, Contains}
 use Rattle.oct_code.specs.Code.{Code, len, allows}
 use Rattle.oct_search.specs.declared.mask.Mask.{Mask}
 

@@ -1,13 +1,13 @@
 //! The search for the period of an octal game, as far as memory goes.
 //!
 //! The nim-values of many octal games repeat from some heap on, and a finite look can prove it: where they repeat with a
-//! period from a heap on up to twice that heap, twice the period and the number of digits, they do so for ever (Guy and
-//! Smith 1956; Winning Ways, chapter 4). Most periods begin far beyond the 65,536 heaps that `oct_mex` has for a game.
+//! period from a heap on, up to twice that heap, twice the period and the number of digits together, they do so for ever
+//! (Guy and Smith 1956; Winning Ways, chapter 4). Many periods begin far beyond the 65,536 heaps that `oct_mex` has for a game.
 //! A `Search` computes up to 2^32 values and finds the least period that they prove:
 //!
 //!     let mut search = Search::new(alloc, code);        // 0.16
 //!     search.search(1_000_000)?                         // period 149,459 from heap 105,351
-//!     search.value_by(seen, 10_000_000_000)             // the nim-value of a heap of ten milliards
+//!     search.value_by(seen, 10_000_000_000)             // the nim-value of a heap of 10^10 beans
 //!
 //! A heap of n has some n / 2 options for each digit that allows two heaps, so that n values take n * n steps by the rule.
 //! In most games few heaps have to be looked at (Berlekamp's sparse spaces; Gangolli and Plambeck 1989; Flammenkamp's

@@ -180,6 +180,7 @@ impl<A: Allocator + Copy> Search<A> {
         ensures most { self.new.len ≤ max count self.old.len }
         ensures found { IfOk result (λ found. IsFound self.new.code self.new.len found) }
         ensures all { IfOk result (λ found. found ≡ None → self.new.len ≡ max count self.old.len) }
+        ensures short { OnErr result (self.new.len < count) }
         ensures past { IfErr result (λ fault. fault ≡ PastValue → 2 ^ 16 ≤ nim_value self.new.code self.new.len) }
     {
         let mut found = self.find_period();

@@ -1,4 +1,4 @@
-use Rattle.std.proofs.Common.{◌≡◌, ◌-◌, ◌/◌, ◌+◌, ◌<◌, IsTrue, length, slice_index, inl, inr, refl, sym, ◌∙◌, subst, arith}
+use Rattle.std.proofs.Common.{◌-◌, ◌/◌, ◌+◌, IsTrue, length, slice_index, inl, inr, refl, sym, ◌∙◌, subst, arith}
 use Rattle.std.proofs.lemmas.Bool.{cases_eq, false≢true}
 use Rattle.oct_code.specs.Code.{allows}
 use Rattle.oct_mex.specs.Marks.{IsPairValue}

@@ -1,4 +1,4 @@
-use Rattle.std.proofs.Common.{ℕ, ◌<◌, length, slice_index}
+use Rattle.std.proofs.Common.{◌<◌, length, slice_index}
 use Rattle.oct_search.specs.Marked.{IsLatePair}
 use Rattle.oct_search.proofs.pairs.has_pair.Given as goal
 

@@ -1,4 +1,3 @@
-use Rattle.std.proofs.Common.{length}
 use Rattle.oct_search.specs.Rare.{ListsRare}
 use Rattle.oct_search.proofs.rare.list_rare.Given as goal
 

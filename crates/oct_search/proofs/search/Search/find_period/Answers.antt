@@ -1,4 +1,4 @@
-use Rattle.std.proofs.Common.{◌≡◌, ℕ, Option, Some, None, IfSome, MatchOption, ap, subst₂, ◌∙◌}
+use Rattle.std.proofs.Common.{ℕ, Option, Some, None, IfSome, MatchOption, ap, subst₂, ◌∙◌}
 use Rattle.oct_code.specs.Code.{Code}
 use Rattle.oct_mex.specs.Periods.{IsPeriodicFrom, IsShown, NoneIsShown, NoneIsShownBefore}
 use Rattle.oct_mex.specs.declared.period.SeenPeriod.{SeenPeriod}
