@@ -34,6 +34,8 @@ mod pairs;
 mod period;
 mod rare;
 mod search;
+#[cfg(test)]
+mod tests;
 
 pub use error::SearchError;
 pub use oct_mex::SeenPeriod;

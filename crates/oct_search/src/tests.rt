@@ -1,0 +1,69 @@
+//! Periods of the literature, far beyond the limit of the games.
+
+use crate::search::Search;
+use oct_code::Code;
+use oct_mex::SeenPeriod;
+use std::process::Abort;
+
+// The search of a game finds this period, by so many values.
+fn finds(rt: &(impl Abort + AllocGlobal), code: &str, count: u32, wanted: SeenPeriod) {
+    let parsed = Code::parse(code.as_bytes()).ok().expect(rt, code);
+    let mut search = Search::new(rt.alloc(), parsed);
+    let seen = search.search(count as usize).ok().expect(rt, "memory");
+    let seen = seen.expect(rt, code);
+    assert_eq!(rt; seen.period, wanted.period, "the period of {code}");
+    assert_eq!(rt;
+        seen.start,
+        wanted.start,
+        "the heap from which {code} repeats"
+    );
+    assert!(rt;
+        search.len() <= count as usize,
+        "{code} takes more values than were asked for"
+    );
+    let heap = seen.start + 1_000 * seen.period;
+    let far = search.value_by(seen, heap as u64);
+    assert_eq!(rt;
+        search.value(seen.start),
+        Some(far),
+        "of {code} at heap {heap}"
+    );
+}
+
+#[test]
+fn periods_of_the_literature_are_found(rt: HostRuntime) {
+    let kayles = SeenPeriod {
+        start: 71,
+        period: 12,
+    };
+    finds(&rt, "0.77", 1_000, kayles);
+    let dawson = SeenPeriod {
+        start: 52,
+        period: 34,
+    };
+    finds(&rt, "0.137", 1_000, dawson);
+    let sixteen = SeenPeriod {
+        start: 105_351,
+        period: 149_459,
+    };
+    finds(&rt, "0.16", 1_000_000, sixteen);
+}
+
+#[test]
+fn what_is_not_searched_far_enough_shows_no_period(rt: HostRuntime) {
+    let kayles = Code::parse(b"0.77").ok().expect(&rt, "a code");
+    let mut search = Search::new(rt.alloc(), kayles);
+    assert!(&rt;
+        matches!(search.search(100), Ok(None)),
+        "a period by 100 values"
+    );
+    assert!(&rt; search.extend(167).is_ok(), "memory");
+    assert_eq!(&rt; search.len(), 167, "values");
+    assert_eq!(&rt; search.value(167), None, "one value more");
+    assert!(&rt;
+        search.find_period().is_none(),
+        "a period by one value too few"
+    );
+    assert!(&rt; search.extend(168).is_ok(), "memory");
+    assert!(&rt; search.find_period().is_some(), "no period");
+}
