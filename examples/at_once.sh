@@ -120,7 +120,8 @@ bad_peers() {
   ) &
   await faults 1 'census: peer '
   served_next 1
-  printf 'GET / HTTP/1.0\r\n\r\n' >"/dev/tcp/$host/$port" # rubbish
+  printf 'GET / HTTP/1.0\r\n\r\n' >rubbish
+  cat rubbish >"/dev/tcp/$host/$port" # in one write: the hub closes the connection at the first bytes that are no frame
   await faults 2 'census: peer '
   served_next 2
   printf '\0\0\0\x05\x01\0\0' >"/dev/tcp/$host/$port" # a clock that breaks off

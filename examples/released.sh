@@ -112,7 +112,7 @@ fi
 # One byte of a source is another, with the time of the file as it was; a source is gone; one has another name; one comes.
 source=crates/census_run/src/help.rt
 cp -p $source kept
-sed -i '1s/What/Whet/' $source
+sed -i '1s/The/Tha/' $source
 touch -r kept $source
 out_of_date
 rm $source

@@ -8,17 +8,25 @@ use Rattle.oct_delta.specs.Text.{Bytes}
 use Rattle.oct_delta.specs.declared.error.EncodeError.{EncodeError}
 use Rattle.oct_delta.specs.declared.error.EncodeError.TheVariants.{TooMany, OutOfMemory}
 use Rattle.oct_join.specs.Clock as clock
-use Rattle.oct_ops.specs.Operations.{listed}
+use Rattle.oct_ops.specs.Operations.{Operations, listed}
 use Rattle.oct_ops.specs.Valid.{IsOp}
+use Rattle.oct_pages.specs.GamesIn.{content_in}
 use Rattle.oct_record.specs.Content.{RecordContent}
-use Rattle.oct_store.specs.Summary.{beyond}
+use Rattle.oct_store.specs.Summary.{beyond, of_game}
+use Rattle.oct_views.specs.Bfile.{bfile_text}
+use Rattle.oct_views.specs.ByGame.{sheet_by}
+use Rattle.oct_views.specs.Plot as picture
+use Rattle.oct_views.specs.Sheet.{GameSheet, game_sheet}
+use Rattle.oct_views.proofs.GameLaws.{sheet_by-is}
 use Rattle.census_core.specs.Asking.{delta_of}
 use Rattle.census_core.specs.Codes.{code_of, read_code}
 use Rattle.census_core.specs.Lines.{number_line}
+use Rattle.census_core.specs.Questions.{told, told_of}
 use Rattle.census_core.specs.Refusals.{encode_fault}
 use Rattle.census_core.specs.Replies.{Answer, said}
 use Rattle.census_core.specs.Steps.{◌>>=◌, because}
 use Rattle.census_core.specs.Stored.{loaded}
+use Rattle.census_core.specs.declared.asking.Question as question
 use Rattle.census_core.specs.declared.fault.Fault.{Fault}
 use Rattle.census_core.specs.declared.fault.Fault.TheVariants as fault
 use Rattle.census_core.proofs.Wholes.{all_beyond}
@@ -31,6 +39,16 @@ game_said state word spelling r c text there coded spelled =
     ap (λ l. l >>= λ q. code_of word >>= λ d. done q d) there
     ∙ ap (λ d. because fault.Code d >>= λ e. done r e) coded
     ∙ ap (λ t. Ok (said t)) (sym spelled)
+
+-- what is told of a game, by its blocks and claims
+sheet_is : (ops : Operations) (c : Code) → sheet_by (content_in ops c) (listed (of_game ops c)) ≡ game_sheet (listed ops) c
+sheet_is ops c = sheet_by-is ops c (content_in ops c) (of_game ops c) refl refl
+
+pub told_is : (q : question.Question) (ops : Operations) (c : Code) → told_of q (content_in ops c) ≡ told q ops c
+told_is (question.TheVariants.Value heaps) ops c = refl
+told_is (question.TheVariants.Move heaps) ops c = refl
+told_is question.TheVariants.Bfile ops c = ap (λ (s : GameSheet). bfile_text s.values) (sheet_is ops c)
+told_is question.TheVariants.Plot ops c = ap (λ (s : GameSheet). picture.plot c s.values s.proved) (sheet_is ops c)
 
 -- a refusal of all operations
 pub delta_refused : (r : RecordContent) (t : clock.Clock) (cause : EncodeError) → t ≡ clock.empty → All IsOp (listed r.ops)

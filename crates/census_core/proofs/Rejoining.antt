@@ -1,10 +1,12 @@
 -- What a state file holds after a session.
-use Rattle.std.proofs.Common.{◌≡◌, ℕ, ◌-◌, ◌==◌, true, length, Ok, Err, if◌then◌else◌, sym, ap, ◌∙◌}
+use Rattle.std.proofs.Common.{arith, ◌≡◌, ℕ, ◌-◌, ◌==◌, true, length, Ok, Err, if◌then◌else◌, refl, sym, ap, ◌∙◌, eq-eqb}
 use Rattle.oct_delta.specs.Text.{Bytes}
 use Rattle.oct_ops.specs.Operations.{listed, union}
+use Rattle.oct_ops.specs.OrderLaws.{op_cmp_total, op_cmp_exact}
+use Rattle.oct_ops.specs.SetLaws.{union_same}
 use Rattle.oct_record.specs.Content.{RecordContent}
 use Rattle.census_core.specs.Lines.{union_line}
-use Rattle.census_core.specs.States.{rejoined, united}
+use Rattle.census_core.specs.States.{rejoined, unchanged, united}
 use Rattle.census_core.specs.Steps.{◌>>=◌}
 use Rattle.census_core.specs.Stored.{loaded, saved}
 use Rattle.census_core.specs.declared.fault.Fault.TheVariants.{Author}
@@ -16,3 +18,11 @@ rejoin_saves state held kept new text before all load same ops author fewer more
     ∙ ap (λ b. if b then united kept held.ops else Err Author) same
     ∙ (λ i. saved (record { author = sym author i; ops = sym ops i }) (union_line (length (listed (sym ops i)) - length (listed kept.ops)) (length (listed (sym ops i)))))
     ∙ ap (saved new) ((λ i. union_line (sym more i - sym fewer i) (sym more i)) ∙ sym line)
+
+-- where the file says what is held, it stays as it is
+pub rejoin_same : (state : Bytes) (held : RecordContent) → loaded state ≡ Ok held → rejoined state held ≡ saved held (unchanged held)
+rejoin_same state held load =
+    let count = length (listed held.ops) in
+    let none : 0 ≡ count - count = omega (arith) in
+    rejoin_saves state held held held (unchanged held) count count load (eq-eqb _ _ refl) (sym (union_same op_cmp_total op_cmp_exact held.ops)) refl refl refl
+    (ap (λ new. union_line new count) none)

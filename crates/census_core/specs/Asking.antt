@@ -8,6 +8,7 @@ use Rattle.oct_ops.specs.Operations.{Operations, listed}
 use Rattle.oct_pages.specs.Catalogue.{Text, catalogue, has_page}
 use Rattle.oct_pages.specs.Catalogue as catalogue
 use Rattle.oct_period.specs.Claims.{claims_in}
+use Rattle.oct_period.specs.GameContent.{GameContent}
 use Rattle.oct_period.specs.Periods.{position_value}
 use Rattle.oct_period.specs.Winning.{wins}
 use Rattle.oct_period.specs.declared.unknown.Unknown.{Unknown}
@@ -21,11 +22,13 @@ use Rattle.census_core.specs.Stored.{loaded}
 use Rattle.census_core.specs.declared.fault.Fault.{Fault}
 use Rattle.census_core.specs.declared.fault.Fault.TheVariants.{NoPage, TooMany}
 
--- the value of a position, by the blocks and claims that the set has of its game
+-- the value of a position, by the blocks and claims of its game
+abbrev pub value_of : GameContent → List ℕ → Result ℕ Unknown
+value_of game heaps = position_value game.code (blocks_in game.blocks) (claims_in game.claims) heaps
+
+-- by those that the set has of it
 abbrev pub value_in : Operations → Code → List ℕ → Result ℕ Unknown
-value_in ops c heaps =
-    let game = content_in ops c in
-    position_value c (blocks_in game.blocks) (claims_in game.claims) heaps
+value_in ops c heaps = value_of (content_in ops c) heaps
 
 -- the value and who wins by the moves alone, or the first heap whose nim-value is not known
 abbrev pub value_text : Code → List ℕ → Result ℕ Unknown → Text

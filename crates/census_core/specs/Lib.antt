@@ -10,10 +10,12 @@ pub mod Inputs
 pub mod Issuing
 pub mod Lines
 pub mod Moving
+pub mod OneByOne
 pub mod Performed
 pub mod Questions
 pub mod Refusals
 pub mod Replies
+pub mod Searching
 pub mod States
 pub mod Statuses
 pub mod Steps

@@ -5,6 +5,7 @@ use Rattle.oct_delta.specs.Text.{Bytes}
 use Rattle.oct_ops.specs.Operations.{Operations}
 use Rattle.oct_pages.specs.Catalogue.{Text, labelled}
 use Rattle.oct_period.specs.Claims.{claims_in}
+use Rattle.oct_period.specs.GameContent.{GameContent}
 use Rattle.oct_period.specs.Moving.{winning_move}
 use Rattle.oct_period.specs.declared.moving.Move.{Move}
 use Rattle.oct_period.specs.declared.unknown.Unknown.{Unknown}
@@ -17,11 +18,13 @@ use Rattle.census_core.specs.Steps.{◌>>=◌}
 use Rattle.census_core.specs.Stored.{loaded}
 use Rattle.census_core.specs.declared.fault.Fault.{Fault}
 
--- the first winning move of a position, by the blocks and claims that the set has of its game
+-- the first winning move of a position, by the blocks and claims of its game
+abbrev pub move_of : GameContent → List ℕ → Result (Option Move) Unknown
+move_of game heaps = winning_move game.code (blocks_in game.blocks) (claims_in game.claims) heaps
+
+-- by those that the set has of it
 abbrev pub move_in : Operations → Code → List ℕ → Result (Option Move) Unknown
-move_in ops c heaps =
-    let game = content_in ops c in
-    winning_move c (blocks_in game.blocks) (claims_in game.claims) heaps
+move_in ops c heaps = move_of (content_in ops c) heaps
 
 -- the heaps that are left: none, one, or two, the smaller one first
 abbrev pub left_text : ℕ → ℕ → Text

@@ -4,13 +4,14 @@ use Rattle.oct_code.specs.Code.{Code}
 use Rattle.oct_delta.specs.Text.{Bytes}
 use Rattle.oct_ops.specs.Operations.{Operations, listed}
 use Rattle.oct_pages.specs.Catalogue.{Text, catalogue}
-use Rattle.census_core.specs.Asking.{value_in, value_text}
+use Rattle.oct_period.specs.GameContent.{GameContent}
+use Rattle.census_core.specs.Asking.{value_in, value_of, value_text}
 use Rattle.census_core.specs.Codes.{code_of}
-use Rattle.census_core.specs.Moving.{move_in, move_text}
+use Rattle.census_core.specs.Moving.{move_in, move_of, move_text}
 use Rattle.census_core.specs.Replies.{Answer, said}
 use Rattle.census_core.specs.Steps.{◌>>=◌}
 use Rattle.census_core.specs.Stored.{loaded}
-use Rattle.census_core.specs.Viewing.{bfile_in, json_in, plot_in, report_in}
+use Rattle.census_core.specs.Viewing.{bfile_in, bfile_of, json_in, plot_in, plot_of, report_in}
 use Rattle.census_core.specs.declared.asking.Question as question
 use Rattle.census_core.specs.declared.fault.Fault.{Fault}
 use Rattle.census_core.specs.declared.viewing.View as view
@@ -20,6 +21,13 @@ told (question.TheVariants.Value heaps) ops c = value_text c heaps.now (value_in
 told (question.TheVariants.Move heaps) ops c = move_text heaps.now (move_in ops c heaps.now)
 told question.TheVariants.Bfile ops c = bfile_in ops c
 told question.TheVariants.Plot ops c = plot_in ops c
+
+-- the same, by the blocks and claims of the game
+abbrev pub told_of : question.Question → GameContent → Text
+told_of (question.TheVariants.Value heaps) game = value_text game.code heaps.now (value_of game heaps.now)
+told_of (question.TheVariants.Move heaps) game = move_text heaps.now (move_of game heaps.now)
+told_of question.TheVariants.Bfile game = bfile_of game
+told_of question.TheVariants.Plot game = plot_of game
 
 abbrev pub answered : question.Question → Bytes → Bytes → Result Answer Fault
 answered asked state word = do

@@ -13,12 +13,14 @@ use Rattle.oct_record.specs.declared.error.RemovalError.{RemovalError}
 use Rattle.oct_record.specs.declared.error.RemovalError.TheVariants as removal
 use Rattle.oct_record.specs.declared.error.TakeError.{TakeError}
 use Rattle.oct_record.specs.declared.error.TakeError.TheVariants as take
+use Rattle.oct_search.specs.declared.error.SearchError.{SearchError}
+use Rattle.oct_search.specs.declared.error.SearchError.TheVariants as search
 use Rattle.oct_sync.specs.declared.error.SyncError.{SyncError}
 use Rattle.oct_sync.specs.declared.error.SyncError.TheVariants as sync
 use Rattle.oct_views.specs.declared.bfile_error.BfileError.{BfileError}
 use Rattle.oct_views.specs.declared.bfile_error.BfileError.TheVariants as bfile
 use Rattle.census_core.specs.declared.fault.Fault.{Fault}
-use Rattle.census_core.specs.declared.fault.Fault.TheVariants.{Load, Import, Bfile, Compute, Note, Removal, Merge, Sync, Issue, TooMany, OutOfMemory}
+use Rattle.census_core.specs.declared.fault.Fault.TheVariants.{Load, Import, Bfile, Compute, Note, Removal, Merge, Sync, Issue, TooMany, PastValue, OutOfMemory}
 use Rattle.census_core.specs.declared.import_error.ImportError.{ImportError}
 use Rattle.census_core.specs.declared.import_error.ImportError.TheVariants as import
 
@@ -61,3 +63,7 @@ encode_fault encode.TooMany = TooMany
 abbrev pub sync_fault : SyncError → Fault
 sync_fault sync.OutOfMemory = OutOfMemory
 sync_fault cause = Sync cause
+
+abbrev pub search_fault : SearchError → Fault
+search_fault search.PastValue = PastValue
+search_fault search.OutOfMemory = OutOfMemory

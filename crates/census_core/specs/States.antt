@@ -48,3 +48,7 @@ abbrev pub rejoined : Bytes → RecordContent → Result Answer Fault
 rejoined state held = do
   kept ← loaded state
   if kept.author == held.author then united kept held.ops else Err Author
+
+-- the text of a session that brought nothing, where the state file says what is held: no operation is new there
+abbrev pub unchanged : RecordContent → Bytes
+unchanged held = union_line 0 (length (listed held.ops))

@@ -1,9 +1,16 @@
 -- What the commands give that show a census in other forms than the catalogue.
-use Rattle.std.specs.Prelude.{◌++◌, codes, Result, Ok}
+use Rattle.std.specs.Prelude.{ℕ, ◌++◌, List, codes, Option, option_map, Result, Ok}
 use Rattle.oct_code.specs.Code.{Code}
 use Rattle.oct_delta.specs.Text.{Bytes}
+use Rattle.oct_mex.specs.NimValues.{nim_values}
+use Rattle.oct_ops.specs.Operation.{Period}
 use Rattle.oct_ops.specs.Operations.{Operations, listed}
+use Rattle.oct_ops.specs.Sets as sets
 use Rattle.oct_pages.specs.Catalogue.{Text}
+use Rattle.oct_period.specs.Claims.{Claim, first_proved}
+use Rattle.oct_period.specs.GameContent.{GameContent}
+use Rattle.oct_verify.specs.Filing.{blocks_in}
+use Rattle.oct_verify.specs.Known.{known}
 use Rattle.oct_views.specs.Bfile.{bfile_text}
 use Rattle.oct_views.specs.Json.{document}
 use Rattle.oct_views.specs.Plot as picture
@@ -23,6 +30,20 @@ bfile_in ops c = let game = game_sheet (listed ops) c in bfile_text game.values
 -- and as a picture
 abbrev pub plot_in : Operations → Code → Text
 plot_in ops c = let game = game_sheet (listed ops) c in picture.plot c game.values game.proved
+
+-- the same, by the blocks and claims of the game
+abbrev pub known_values : GameContent → List ℕ
+known_values game = nim_values game.code (known (blocks_in game.blocks))
+
+abbrev pub bfile_of : GameContent → Text
+bfile_of game = bfile_text (known_values game)
+
+-- the first claim that is proved
+abbrev pub proved_of : GameContent → Option Period
+proved_of game = option_map (λ (p : Claim). p.1) (first_proved (blocks_in game.blocks) (sets.listed game.claims))
+
+abbrev pub plot_of : GameContent → Text
+plot_of game = picture.plot game.code (known_values game) (proved_of game)
 
 -- all that is known as a JSON document, on one line
 abbrev pub json_in : Operations → Text

@@ -4,24 +4,24 @@ ghost use Rattle.std.specs.Prelude.{◌≡◌, ◌≢◌, Ok, Err, IfOk, IfErr};
 ghost use Rattle.std.specs.List.{All};
 ghost use Rattle.oct_ops.specs.Operations.{listed};
 ghost use Rattle.oct_ops.specs.Valid.{IsOp};
-ghost use Rattle.census_core.specs.Asking.{delta, delta_of, page, page_of, value_text, value_in};
+ghost use Rattle.census_core.specs.Asking.{delta, delta_of, page, page_of, value_of, value_text};
 ghost use Rattle.census_core.specs.Lines.{outcome_line};
-ghost use Rattle.census_core.specs.Questions.{answered, told};
+ghost use Rattle.census_core.specs.Questions.{answered, told_of};
 ghost use Rattle.census_core.specs.Replies.{answer_of, said};
-ghost use Rattle.census_core.specs.Viewing.{bfile_in, plot_in};
+ghost use Rattle.census_core.specs.Viewing.{bfile_of, plot_of, proved_of};
 
 use crate::codes::read_code;
 use crate::fault::Fault;
 use crate::moving::move_text;
 use crate::reply::Reply;
-use crate::states::{load, load_replica};
+use crate::states::load;
 use crate::texts::number_line;
-use oct_code::Code;
 use oct_join::Clock;
-use oct_period::Outcome;
+use oct_ops::Period;
+use oct_pages::{game_of, write_page_of};
+use oct_period::{Game, Outcome, outcome_of};
 use oct_record::Record;
-use oct_replica::Replica;
-use oct_views::{GameSheet, write_bfile, write_plot};
+use oct_views::{write_bfile, write_plot};
 use std::alloc::{AllocError, Global};
 
 /// The reply of a text alone.
@@ -48,7 +48,7 @@ pub(crate) enum Question<'a> {
     Plot,
 }
 
-/// The answer to a question about a game.
+/// The answer to a question about a game. No other game is built.
 pub(crate) fn answer(
     alloc: Global,
     state: &[u8],
@@ -58,42 +58,38 @@ pub(crate) fn answer(
     ensures ok { IfOk result (λ reply. answered question.entry state.now code.now ≡ Ok (answer_of reply)) }
     ensures err { IfErr result (λ e. e ≢ Fault.OutOfMemory → answered question.entry state.now code.now ≡ Err e) }
 {
-    let replica = load_replica(alloc, state)?;
+    let held = load(alloc, state)?;
     let code = read_code(code)?;
-    let text = answer_text(alloc, &replica, code, question)?;
+    let game = game_of(&held, code)?;
+    let text = answer_text(alloc, &game, question)?;
     Ok(said(text))
 }
 
 // The text of the answer.
 fn answer_text(
     alloc: Global,
-    replica: &Replica<Global>,
-    code: Code,
+    game: &Game<Global>,
     question: Question<'_>,
 ) -> Result<Vec<u8>, AllocError>
-    ensures { IfOk result (λ text. text.items ≡ told question.entry replica.now.ops code) }
+    ensures { IfOk result (λ text. text.items ≡ told_of question.entry game.now) }
 {
     match question {
-        Question::Value(heaps) => value_text(alloc, replica, code, heaps),
-        Question::Move(heaps) => move_text(alloc, replica, code, heaps),
-        Question::Bfile => bfile_text(alloc, replica, code),
-        Question::Plot => plot_text(alloc, replica, code),
+        Question::Value(heaps) => value_text(alloc, game, heaps),
+        Question::Move(heaps) => move_text(alloc, game, heaps),
+        Question::Bfile => bfile_text(alloc, game),
+        Question::Plot => plot_text(alloc, game),
     }
 }
 
 // The lines of a position's value and of who wins it, or of the first heap whose nim-value is not known.
-fn value_text(
-    alloc: Global,
-    replica: &Replica<Global>,
-    code: Code,
-    heaps: &[u64],
-) -> Result<Vec<u8>, AllocError>
-    ensures { IfOk result (λ text. text.items ≡ value_text code heaps.now (value_in replica.now.ops code heaps.now)) }
+fn value_text(alloc: Global, game: &Game<Global>, heaps: &[u64]) -> Result<Vec<u8>, AllocError>
+    ensures { IfOk result (λ text. text.items ≡ value_text game.now.code heaps.now (value_of game.now heaps.now)) }
 {
-    match replica.value(code, heaps) {
+    let position = game.position_value(heaps);
+    match position {
         Ok(value) => {
             let mut text = number_line(alloc, b"value ", u64::from(value))?;
-            text.extend_from_slice(outcome_line(&replica.outcome(code, heaps)))?;
+            text.extend_from_slice(outcome_line(&outcome_of(position)))?;
             Ok(text)
         }
         Err(unknown) => number_line(alloc, b"unknown at ", unknown.index as u64),
@@ -112,25 +108,30 @@ fn outcome_line(outcome: &Outcome) -> &'static [u8]
 }
 
 // The known nim-values of a game as a b-file.
-fn bfile_text(alloc: Global, replica: &Replica<Global>, code: Code) -> Result<Vec<u8>, AllocError>
-    ensures { IfOk result (λ text. text.items ≡ bfile_in replica.now.ops code) }
+fn bfile_text(alloc: Global, game: &Game<Global>) -> Result<Vec<u8>, AllocError>
+    ensures { IfOk result (λ text. text.items ≡ bfile_of game.now) }
 {
-    let parts = replica.parts();
-    let game = GameSheet::of_code(alloc, &parts, code)?;
     let mut text = Vec::new(alloc);
-    write_bfile(game.values, &mut text)?;
+    write_bfile(game.ledger().known_values(), &mut text)?;
     Ok(text)
 }
 
 // The known nim-values of a game as a picture.
-fn plot_text(alloc: Global, replica: &Replica<Global>, code: Code) -> Result<Vec<u8>, AllocError>
-    ensures { IfOk result (λ text. text.items ≡ plot_in replica.now.ops code) }
+fn plot_text(alloc: Global, game: &Game<Global>) -> Result<Vec<u8>, AllocError>
+    ensures { IfOk result (λ text. text.items ≡ plot_of game.now) }
 {
-    let parts = replica.parts();
-    let game = GameSheet::of_code(alloc, &parts, code)?;
+    let code = game.code();
+    let proved = proved_period(game);
     let mut text = Vec::new(alloc);
-    write_plot(&code, game.values, &game.proved, &mut text)?;
+    write_plot(&code, game.ledger().known_values(), &proved, &mut text)?;
     Ok(text)
+}
+
+// The first claim of a game that is proved.
+fn proved_period(game: &Game<Global>) -> Option<Period>
+    ensures { result ≡ proved_of game.now }
+{
+    game.proved_claim().map(|claim| claim.period)
 }
 
 /// One page of the catalogue.
@@ -138,17 +139,17 @@ pub(crate) fn page(alloc: Global, state: &[u8], number: u32) -> Result<Reply, Fa
     ensures ok { IfOk result (λ reply. page state.now number ≡ Ok (answer_of reply)) }
     ensures err { IfErr result (λ e. e ≢ Fault.OutOfMemory → page state.now number ≡ Err e) }
 {
-    let replica = load_replica(alloc, state)?;
-    page_reply(alloc, &replica, number)
+    let held = load(alloc, state)?;
+    page_reply(alloc, &held, number)
 }
 
-// The reply of one page of the replica's catalogue.
-fn page_reply(alloc: Global, replica: &Replica<Global>, number: u32) -> Result<Reply, Fault>
-    ensures ok { IfOk result (λ reply. page_of (listed replica.now.ops) number ≡ Ok (answer_of reply)) }
-    ensures err { IfErr result (λ e. e ≢ Fault.OutOfMemory → page_of (listed replica.now.ops) number ≡ Err e) }
+// The reply of one page of the catalogue of what is held.
+fn page_reply(alloc: Global, held: &Record<Global>, number: u32) -> Result<Reply, Fault>
+    ensures ok { IfOk result (λ reply. page_of (listed held.now.ops) number ≡ Ok (answer_of reply)) }
+    ensures err { IfErr result (λ e. e ≢ Fault.OutOfMemory → page_of (listed held.now.ops) number ≡ Err e) }
 {
     let mut text = Vec::new(alloc);
-    if !replica.page(number, &mut text)? {
+    if !write_page_of(held, number, &mut text)? {
         return Err(Fault::NoPage);
     }
     Ok(said(text))

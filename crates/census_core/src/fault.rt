@@ -5,6 +5,7 @@ use oct_code::CodeError;
 use oct_delta::EncodeError;
 use oct_ops::{NoteError, PeriodError};
 use oct_replica::{ComputeError, IssueError, LoadError, RemovalError, TakeError};
+use oct_search::SearchError;
 use oct_sync::{SyncError, Unwritten};
 use oct_views::BfileError;
 use std::alloc::AllocError;
@@ -61,6 +62,8 @@ pub enum Fault {
     Issue(IssueError),
     /// There are more operations than a delta counts.
     TooMany,
+    /// A nim-value of a search is above 65,535.
+    PastValue,
     /// Standard input failed.
     Read,
     /// Standard output failed, or took no byte.
@@ -231,6 +234,20 @@ impl From<EncodeError> for Fault {
         match cause {
             EncodeError::TooMany => Fault::TooMany,
             EncodeError::OutOfMemory => Fault::OutOfMemory,
+        }
+    }
+}
+
+impl From<SearchError> for Fault {
+    ghost use Rattle.std.specs.Prelude.{◌≡◌};
+    ghost use Rattle.census_core.specs.Refusals.{search_fault};
+
+    ghost from_gives = { λ cause fault. fault ≡ search_fault cause };
+
+    fn from(cause: SearchError) -> Fault {
+        match cause {
+            SearchError::PastValue => Fault::PastValue,
+            SearchError::OutOfMemory => Fault::OutOfMemory,
         }
     }
 }

@@ -54,6 +54,7 @@ fn fault_name(fault: Fault) -> &'static str
         Fault::Sync(_) => "Sync",
         Fault::Issue(_) => "Issue",
         Fault::TooMany => "TooMany",
+        Fault::PastValue => "PastValue",
         Fault::Read => "Read",
         Fault::Write => "Write",
         Fault::OutOfMemory => "OutOfMemory",

@@ -9,6 +9,7 @@ ghost use Rattle.census_core.specs.Inputs.{IsFoldFault, IsInputFault};
 use crate::fault::Fault;
 use crate::input::INPUT_LIMIT;
 use crate::taken::{Intake, take_lines};
+use oct_pages::write_catalogue_of;
 use oct_sync::write_out;
 use std::alloc::Allocator;
 use std::io::{BufReader, Read, Write};
@@ -16,7 +17,7 @@ use std::io::{BufReader, Read, Write};
 // How many bytes are asked for at a time.
 const READ_AHEAD: usize = 65_536;
 
-/// Reads the input to its end, a line at a time, lets one replica take each line that is the hexadecimal text of a delta,
+/// Reads the input to its end, a line at a time, takes in each line that is the hexadecimal text of a delta,
 /// writes the catalogue of all their operations, and says how many other lines were not empty. Nothing is written before the
 /// whole input was read; after `Write` a prefix of the catalogue was written.
 pub fn fold_lines<A: Allocator + Copy, R: Read, W: Write>(
@@ -45,7 +46,7 @@ pub fn fold_intake<A: Allocator + Copy, R: Read, W: Write>(
     writer: &mut W,
 ) -> Result<Intake<A>, Fault>
     ensures text { OnOk result (IfSome (R.remaining reader.old) (λ input. Appends (W.contents writer.old) (W.contents writer.new) (folded input))) }
-    ensures taken { IfOk result (λ intake. IfSome (R.remaining reader.old) (λ input. intake.replica.ops ≡ taken input)) }
+    ensures taken { IfOk result (λ intake. IfSome (R.remaining reader.old) (λ input. intake.said.ops ≡ taken input)) }
     ensures refused { IfOk result (λ intake. IfSome (R.remaining reader.old) (λ input. intake.refused ≡ refused input)) }
     ensures fits { OnOk result (IfSome (R.remaining reader.old) (λ input. length input ≤ INPUT_LIMIT)) }
     ensures prefix { IsErrOf result Fault.Write → IfSome (R.remaining reader.old) (λ input. AppendsPrefix (W.contents writer.old) (W.contents writer.new) (folded input)) }
@@ -55,14 +56,14 @@ pub fn fold_intake<A: Allocator + Copy, R: Read, W: Write>(
 {
     let intake = read_lines(alloc, reader)?;
     let mut text = Vec::new(alloc);
-    intake.replica.catalogue(&mut text)?;
+    write_catalogue_of(&intake.said, &mut text)?;
     write_out(writer, &text)?;
     Ok(intake)
 }
 
 // Goes over the lines of the whole input.
 fn read_lines<A: Allocator + Copy, R: Read>(alloc: A, reader: &mut R) -> Result<Intake<A>, Fault>
-    ensures taken { IfOk result (λ intake. IfSome (R.remaining reader.old) (λ input. intake.replica.ops ≡ taken input)) }
+    ensures taken { IfOk result (λ intake. IfSome (R.remaining reader.old) (λ input. intake.said.ops ≡ taken input)) }
     ensures refused { IfOk result (λ intake. IfSome (R.remaining reader.old) (λ input. intake.refused ≡ refused input)) }
     ensures fits { OnOk result (IfSome (R.remaining reader.old) (λ input. length input ≤ INPUT_LIMIT)) }
     ensures too_long { IsErrOf result Fault.TooLong → IfSome (R.remaining reader.old) (λ input. INPUT_LIMIT < length input) }

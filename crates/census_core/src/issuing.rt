@@ -10,10 +10,12 @@ use crate::codes::read_code;
 use crate::fault::Fault;
 use crate::import::import_block;
 use crate::reply::Reply;
-use crate::states::{load, load_replica, save};
+use crate::states::{load, save};
 use crate::texts::issued_line;
 use oct_ops::{Block, Body, Note, Period};
+use oct_pages::game_of;
 use oct_record::Record;
+use oct_replica::next_block;
 use serde_json::Value;
 use std::alloc::Global;
 
@@ -65,10 +67,10 @@ pub(crate) fn compute(alloc: Global, state: &[u8], code: &[u8], count: u32) -> R
     ensures ok { IfOk result (λ reply. compute state.now code.now count ≡ Ok (answer_of reply)) }
     ensures err { IfErr result (λ e. e ≢ Fault.OutOfMemory → compute state.now code.now count ≡ Err e) }
 {
-    let replica = load_replica(alloc, state)?;
+    let said = load(alloc, state)?;
     let code = read_code(code)?;
-    let block = replica.compute(code, count)?;
-    let said = replica.into_record();
+    let game = game_of(&said, code)?;
+    let block = next_block(game.ledger(), count)?;
     issue(alloc, said, state.len(), Body::Block(block))
 }
 

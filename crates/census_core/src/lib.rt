@@ -3,8 +3,9 @@
 //! - `fold_lines` reads lines of deltas, and writes the catalogue of what they say; `fold_intake` also gives what they came to.
 //! - `perform` does a `Request`, from the bytes of the state file and of another file to the `Reply` that is to be written;
 //!   `perform_watched` tells a `Progress` how far it is.
+//! - `search` says which period the nim-values of a game prove, computed until they prove one.
 //! - `unite` makes one delta of several files.
-//! - `rejoin` gives what a state file is to hold after a session.
+//! - `rejoin` gives what a state file is to hold after a session, and `unchanged` what is said after one that brought nothing.
 //! - `import_block` reads the block of a JSON value, and `number` a word of the command line.
 //! - `read_whole` reads all of a stream.
 //! - `Fault` says why a run ended early, and `laws` what holds of every state file.
@@ -27,13 +28,16 @@ mod issuing;
 pub mod laws;
 mod lines;
 mod moving;
+mod opened;
 mod progress;
 mod reply;
 mod request;
+mod searching;
 mod states;
 mod surveying;
 mod taken;
 mod texts;
+mod turning;
 mod unions;
 mod viewing;
 mod words;
@@ -47,7 +51,10 @@ pub use input::{INPUT_LIMIT, read_whole};
 pub use progress::Progress;
 pub use reply::Reply;
 pub use request::Request;
-pub use states::rejoin;
+pub use searching::{SEARCH_LIMIT, search};
+pub use states::{rejoin, unchanged};
+pub use surveying::Aim;
 pub use taken::Intake;
+pub use turning::Turns;
 pub use unions::unite;
 pub use words::number;

@@ -2,10 +2,11 @@
 
 ghost use Rattle.std.specs.Prelude.{◌≡◌, ◌≢◌, Ok, Err, IfOk, IfErr};
 ghost use Rattle.std.specs.List.{All};
+ghost use Rattle.oct_delta.specs.Text.{Bytes};
 ghost use Rattle.oct_ops.specs.Operations.{listed};
 ghost use Rattle.oct_ops.specs.Valid.{IsOp};
 ghost use Rattle.census_core.specs.Replies.{answer_of};
-ghost use Rattle.census_core.specs.States.{init, merge, rejoined};
+ghost use Rattle.census_core.specs.States.{init, merge, rejoined, unchanged};
 ghost use Rattle.census_core.specs.Stored.{loaded, saved};
 
 use crate::fault::Fault;
@@ -13,8 +14,7 @@ use crate::reply::Reply;
 use crate::texts::{number_line, union_line};
 use oct_delta::laws::texts_are_read;
 use oct_record::Record;
-use oct_replica::Replica;
-use std::alloc::Global;
+use std::alloc::{AllocError, Global};
 
 /// What a state's text says. No nim-value is computed.
 pub(crate) fn load(alloc: Global, state: &[u8]) -> Result<Record<Global>, Fault>
@@ -25,17 +25,6 @@ pub(crate) fn load(alloc: Global, state: &[u8]) -> Result<Record<Global>, Fault>
     texts_are_read();
     let said = Record::load(alloc, state)?;
     Ok(said)
-}
-
-/// What a state's text says, with all that follows from it.
-pub(crate) fn load_replica(alloc: Global, state: &[u8]) -> Result<Replica<Global>, Fault>
-    ensures ok { IfOk result (λ replica. loaded state.now ≡ Ok replica) }
-    ensures valid { IfOk result (λ replica. All IsOp (listed replica.ops)) }
-    ensures err { IfErr result (λ e. e ≢ Fault.OutOfMemory → loaded state.now ≡ Err e) }
-{
-    texts_are_read();
-    let replica = Replica::load(alloc, state)?;
-    Ok(replica)
 }
 
 // How much a state's text may grow by what a command issues, before more memory is asked for.
@@ -103,4 +92,13 @@ pub fn rejoin(alloc: Global, state: &[u8], held: &Record<Global>) -> Result<Repl
     let all = kept.len();
     let text = union_line(alloc, all - before, all)?;
     save(alloc, &kept, state.len(), text)
+}
+
+/// The text of a session that brought nothing, where the state file says what is held: that no operation is new to the file, and
+/// how many there are. It is the text of `rejoin` over such a file, which would write what stands there. The error is want of memory.
+pub fn unchanged(alloc: Global, held: &Record<Global>) -> Result<Vec<u8>, AllocError>
+    ensures text { IfOk result (λ text. text.items ≡ unchanged held.now) }
+    ensures rejoined { IfOk result (λ text. (state : Bytes) → loaded state ≡ Ok held.now → rejoined state held.now ≡ saved held.now text.items) }
+{
+    union_line(alloc, 0, held.len())
 }

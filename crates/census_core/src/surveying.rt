@@ -13,16 +13,16 @@ use crate::fault::Fault;
 use crate::finding::survey_known;
 use crate::progress::Progress;
 use crate::reply::Reply;
-use crate::states::{load_replica, save};
+use crate::states::{load, save};
 use crate::texts::extended_line;
 use oct_code::Code;
-use oct_record::Holder;
-use oct_replica::Replica;
+use oct_pages::game_of;
+use oct_record::Record;
 use std::alloc::Global;
 
 /// What is done with a game whose wanted values are known.
 #[derive(Clone, Copy)]
-pub(crate) enum Aim {
+pub enum Aim {
     /// It is said how many blocks were issued.
     Extend,
     /// The period that they prove is said and claimed.
@@ -44,49 +44,50 @@ pub(crate) fn give_turns<P: Progress>(
     ensures number { IfErr (wanted count) (λ e. result ≡ Err e) }
 {
     check_count(count)?;
-    let mut replica = load_replica(alloc, state)?;
+    let mut said = load(alloc, state)?;
     let codes = read_codes(alloc, codes)?;
-    let text = turns(alloc, &mut replica, count, &codes, aim, progress)?;
-    save(alloc, replica.said(), state.len(), text)
+    let text = turns(alloc, &mut said, count, &codes, aim, progress)?;
+    save(alloc, &said, state.len(), text)
 }
 
 // Gives each game its turn, and a line.
 fn turns<P: Progress>(
     alloc: Global,
-    replica: &mut Replica<Global>,
+    said: &mut Record<Global>,
     count: u32,
     codes: &[Code],
     aim: Aim,
     progress: &mut P,
 ) -> Result<Vec<u8>, Fault>
     requires { count ≤ LIMIT }
-    ensures ok { IfOk result (λ text. in_turn (turn_of aim count) codes.now (record { replica = replica.old; text = [] }) ≡ Ok (record { replica = replica.new; text = text.items })) }
-    ensures err { IfErr result (λ e. e ≢ Fault.OutOfMemory → in_turn (turn_of aim count) codes.now (record { replica = replica.old; text = [] }) ≡ Err e) }
+    ensures ok { IfOk result (λ text. in_turn (turn_of aim count) codes.now (record { replica = said.old; text = [] }) ≡ Ok (record { replica = said.new; text = text.items })) }
+    ensures err { IfErr result (λ e. e ≢ Fault.OutOfMemory → in_turn (turn_of aim count) codes.now (record { replica = said.old; text = [] }) ≡ Err e) }
 {
     let mut text = Vec::new(alloc);
     for code in codes {
-        let line = turn(alloc, replica, count, *code, aim, progress)?;
+        let line = turn(alloc, said, count, *code, aim, progress)?;
         text.extend_from_slice(&line)?;
     }
     Ok(text)
 }
 
-// Gives a game its turn.
-fn turn<P: Progress>(
+/// Gives a game its turn. It is built, and dropped at the end.
+pub(crate) fn turn<P: Progress>(
     alloc: Global,
-    replica: &mut Replica<Global>,
+    said: &mut Record<Global>,
     count: u32,
     code: Code,
     aim: Aim,
     progress: &mut P,
 ) -> Result<Vec<u8>, Fault>
     requires { count ≤ LIMIT }
-    ensures ok { IfOk result (λ text. turn_of aim count code replica.old ≡ Ok (record { replica = replica.new; text = text.items })) }
-    ensures err { IfErr result (λ e. e ≢ Fault.OutOfMemory → turn_of aim count code replica.old ≡ Err e) }
+    ensures ok { IfOk result (λ text. turn_of aim count code said.old ≡ Ok (record { replica = said.new; text = text.items })) }
+    ensures err { IfErr result (λ e. e ≢ Fault.OutOfMemory → turn_of aim count code said.old ≡ Err e) }
 {
-    let issued = extend_game(replica, code, count, progress)?;
+    let mut game = game_of(said, code)?;
+    let issued = extend_game(said, &mut game, code, count, progress)?;
     match aim {
-        Aim::Extend => Ok(extended_line(alloc, code, replica.known(code), issued)?),
-        Aim::Survey => survey_known(alloc, replica, code),
+        Aim::Extend => Ok(extended_line(alloc, code, game.ledger().known(), issued)?),
+        Aim::Survey => survey_known(alloc, said, &mut game, code),
     }
 }

@@ -3,7 +3,7 @@
 ghost use Rattle.std.specs.Prelude.{◌≡◌, ◌⊎◌, ◌+◌, ◌++◌, Ok, true, false, ◌<◌, ◌≤◌, ◌^◌, cond, is_some, length, vec_len, IfOk, OnOk, IfSome, IfErr, IsErrOf};
 ghost use Rattle.std.specs.Io.BufRead.{take_through, DropsThrough};
 ghost use Rattle.std.specs.Io.KnownBytes.{Keeps};
-ghost use Rattle.oct_ops.specs.Operations.{empty, set_of, union};
+ghost use Rattle.oct_ops.specs.Operations.{set_of, union};
 ghost use Rattle.oct_delta.specs.Decoding.{read_delta};
 ghost use Rattle.oct_delta.specs.Taken.{operations_of};
 ghost use Rattle.census_core.specs.Folded.{is_refused, refused, taken, taken_of_line};
@@ -13,17 +13,18 @@ use crate::fault::Fault;
 use crate::hexadecimal::decode_text;
 use crate::input::read_fault;
 use crate::lines::text_of_line;
+use crate::unions::nothing;
 use memchr::memchr;
 use oct_delta::laws::texts_are_read;
-use oct_replica::{Replica, TakeError};
+use oct_record::{Record, TakeError};
 use std::alloc::Allocator;
 use std::io::{BufRead, ErrorKind};
 
 /// What the lines of an input come to.
 #[derive(Drop)]
 pub struct Intake<A: Allocator + Copy> {
-    /// The replica that took them.
-    pub replica: Replica<A>,
+    /// What they said. Its author issues nothing, and no catalogue shows it.
+    pub said: Record<A>,
     /// How many filled lines it did not take.
     pub refused: u64,
 }
@@ -34,14 +35,14 @@ pub(crate) fn take_lines<A: Allocator + Copy, B: BufRead>(
     input: &mut B,
     limit: u64,
 ) -> Result<Intake<A>, Fault>
-    ensures taken { IfOk result (λ intake. IfSome (B.remaining input.old) (λ x. intake.replica.ops ≡ taken x)) }
+    ensures taken { IfOk result (λ intake. IfSome (B.remaining input.old) (λ x. intake.said.ops ≡ taken x)) }
     ensures refused { IfOk result (λ intake. IfSome (B.remaining input.old) (λ x. intake.refused ≡ refused x)) }
     ensures fits { OnOk result (IfSome (B.remaining input.old) (λ x. length x ≤ limit)) }
     ensures too_long { IsErrOf result Fault.TooLong → IfSome (B.remaining input.old) (λ x. limit < length x) }
     ensures faults { IfErr result IsInputFault }
 {
     let mut intake = Intake {
-        replica: reader_of_lines(alloc),
+        said: nothing(alloc),
         refused: 0,
     };
     let mut line = Vec::new(alloc);
@@ -106,16 +107,6 @@ fn take_buffered<A: Allocator, B: BufRead>(
     Ok(true)
 }
 
-/// A replica without operations. Its author issues nothing, and no catalogue shows it.
-pub(crate) fn reader_of_lines<A: Allocator + Copy>(alloc: A) -> Replica<A>
-    ensures { result.ops ≡ empty }
-{
-    match Replica::new(alloc, 1) {
-        Ok(replica) => replica,
-        Err(_) => unreachable!(),
-    }
-}
-
 // Takes the operations of the line, or counts it where it spells none. What it spells stands in the vector after.
 fn take_line<A: Allocator + Copy>(
     intake: &mut Intake<A>,
@@ -123,7 +114,7 @@ fn take_line<A: Allocator + Copy>(
     bytes: &mut Vec<u8, A>,
 ) -> Result<(), Fault>
     requires { intake.old.refused + 1 < 2 ^ 64 }
-    ensures taken { OnOk result (intake.new.replica.ops ≡ union intake.old.replica.ops (set_of (taken_of_line line.now))) }
+    ensures taken { OnOk result (intake.new.said.ops ≡ union intake.old.said.ops (set_of (taken_of_line line.now))) }
     ensures counted { OnOk result (intake.new.refused ≡ cond (is_refused line.now) (intake.old.refused + 1) intake.old.refused) }
     ensures kind { IfErr result (λ e. e ≡ Fault.OutOfMemory) }
 {
@@ -131,20 +122,20 @@ fn take_line<A: Allocator + Copy>(
         intake.refused += 1;
         return Ok(());
     }
-    if !take_bytes(&mut intake.replica, bytes)? {
+    if !take_bytes(&mut intake.said, bytes)? {
         intake.refused += 1;
     }
     Ok(())
 }
 
 // Takes the operations that the bytes spell, and says whether they are a delta.
-fn take_bytes<A: Allocator + Copy>(replica: &mut Replica<A>, bytes: &[u8]) -> Result<bool, Fault>
-    ensures taken { OnOk result (replica.new.ops ≡ union replica.old.ops (operations_of bytes.now)) }
+fn take_bytes<A: Allocator + Copy>(said: &mut Record<A>, bytes: &[u8]) -> Result<bool, Fault>
+    ensures taken { OnOk result (said.new.ops ≡ union said.old.ops (operations_of bytes.now)) }
     ensures spelled { IfOk result (λ is_delta. is_delta ≡ is_some (read_delta bytes.now)) }
     ensures kind { IfErr result (λ e. e ≡ Fault.OutOfMemory) }
 {
     texts_are_read();
-    match replica.take(bytes) {
+    match said.take(bytes) {
         Ok(_) => Ok(true),
         Err(TakeError::Version | TakeError::Refused) => Ok(false),
         Err(TakeError::OutOfMemory { done: _ }) => Err(Fault::OutOfMemory),

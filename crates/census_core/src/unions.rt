@@ -15,7 +15,7 @@ use crate::reply::Reply;
 use oct_delta::laws::texts_are_read;
 use oct_delta::{DeltaError, read_ops};
 use oct_record::{Record, TakeError};
-use std::alloc::{AllocError, Global};
+use std::alloc::{AllocError, Allocator, Global};
 
 /// The union of delta files as one delta, and a text that counts its operations. No file gives the delta of no operation.
 ///
@@ -77,8 +77,8 @@ fn take_file(all: &mut Record<Global>, file: &[u8]) -> Result<(), AllocError>
     }
 }
 
-// A record without operations. Its author issues nothing.
-fn nothing(alloc: Global) -> Record<Global>
+/// A record without operations. Its author issues nothing.
+pub(crate) fn nothing<A: Allocator + Copy>(alloc: A) -> Record<A>
     ensures { result.ops ≡ empty }
 {
     match Record::new(alloc, 1) {

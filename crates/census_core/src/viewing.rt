@@ -10,9 +10,10 @@ ghost use Rattle.census_core.specs.Viewing.{json_in, report_in};
 use crate::asking::said;
 use crate::fault::Fault;
 use crate::reply::Reply;
-use crate::states::load_replica;
-use oct_replica::Replica;
-use oct_views::{Sheet, write_json, write_report};
+use crate::states::load;
+use oct_pages::write_catalogue_of;
+use oct_record::Record;
+use oct_views::{write_json, write_report};
 use std::alloc::{AllocError, Global};
 
 /// A view of all that is known.
@@ -31,50 +32,46 @@ pub(crate) fn show(alloc: Global, state: &[u8], view: View) -> Result<Reply, Fau
     ensures ok { IfOk result (λ reply. shown view state.now ≡ Ok (answer_of reply)) }
     ensures err { IfErr result (λ e. e ≢ Fault.OutOfMemory → shown view state.now ≡ Err e) }
 {
-    let replica = load_replica(alloc, state)?;
-    let text = view_text(alloc, &replica, view)?;
+    let held = load(alloc, state)?;
+    let text = view_text(alloc, &held, view)?;
     Ok(said(text))
 }
 
-// The text of the view.
-fn view_text(alloc: Global, replica: &Replica<Global>, view: View) -> Result<Vec<u8>, AllocError>
-    ensures { IfOk result (λ text. text.items ≡ shown_in view replica.now.ops) }
+// The text of the view. It has one game in memory at a time.
+fn view_text(alloc: Global, held: &Record<Global>, view: View) -> Result<Vec<u8>, AllocError>
+    ensures { IfOk result (λ text. text.items ≡ shown_in view held.now.ops) }
 {
     match view {
-        View::Catalogue => catalogue_text(alloc, replica),
-        View::Json => json_text(alloc, replica),
-        View::Report => report_text(alloc, replica),
+        View::Catalogue => catalogue_text(alloc, held),
+        View::Json => json_text(alloc, held),
+        View::Report => report_text(alloc, held),
     }
 }
 
 // The catalogue.
-fn catalogue_text(alloc: Global, replica: &Replica<Global>) -> Result<Vec<u8>, AllocError>
-    ensures { IfOk result (λ text. text.items ≡ catalogue (listed replica.now.ops)) }
+fn catalogue_text(alloc: Global, held: &Record<Global>) -> Result<Vec<u8>, AllocError>
+    ensures { IfOk result (λ text. text.items ≡ catalogue (listed held.now.ops)) }
 {
     let mut text = Vec::new(alloc);
-    replica.catalogue(&mut text)?;
+    write_catalogue_of(held, &mut text)?;
     Ok(text)
 }
 
 // The document, and the end of its line.
-fn json_text(alloc: Global, replica: &Replica<Global>) -> Result<Vec<u8>, AllocError>
-    ensures { IfOk result (λ text. text.items ≡ json_in replica.now.ops) }
+fn json_text(alloc: Global, held: &Record<Global>) -> Result<Vec<u8>, AllocError>
+    ensures { IfOk result (λ text. text.items ≡ json_in held.now.ops) }
 {
-    let parts = replica.parts();
-    let sheet = Sheet::new(alloc, &parts)?;
     let mut text = Vec::new(alloc);
-    write_json(alloc, &sheet, &mut text)?;
+    write_json(alloc, held, &mut text)?;
     text.extend_from_slice(b"\n")?;
     Ok(text)
 }
 
 // The page.
-fn report_text(alloc: Global, replica: &Replica<Global>) -> Result<Vec<u8>, AllocError>
-    ensures { IfOk result (λ text. text.items ≡ report_in replica.now.ops) }
+fn report_text(alloc: Global, held: &Record<Global>) -> Result<Vec<u8>, AllocError>
+    ensures { IfOk result (λ text. text.items ≡ report_in held.now.ops) }
 {
-    let parts = replica.parts();
-    let sheet = Sheet::new(alloc, &parts)?;
     let mut text = Vec::new(alloc);
-    write_report(&sheet, &mut text)?;
+    write_report(held, &mut text)?;
     Ok(text)
 }

@@ -4,7 +4,7 @@ use census_core::{Fault, INPUT_LIMIT, read_whole};
 use oct_sync::write_out;
 use std::alloc::{AllocError, Global};
 use std::fs;
-use std::io::ErrorKind;
+use std::io::{ErrorKind, Read};
 use std::os::unix::fs::MetadataExt;
 use std::rt::Files;
 
@@ -14,7 +14,12 @@ pub(crate) fn read_file<R: Files + AllocGlobal>(rt: &R, path: &str) -> Result<Ve
     let Ok(mut file) = fs::open(rt, path) else {
         return Err(Fault::File);
     };
-    match read_whole(rt.alloc(), &mut file, INPUT_LIMIT) {
+    read_open(rt.alloc(), &mut file)
+}
+
+/// The same of an open file.
+pub(crate) fn read_open<F: Read>(alloc: Global, file: &mut F) -> Result<Vec<u8>, Fault> {
+    match read_whole(alloc, file, INPUT_LIMIT) {
         Err(Fault::Read) => Err(Fault::File),
         done => done,
     }

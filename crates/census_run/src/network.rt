@@ -2,8 +2,9 @@
 
 use crate::connection::{Connection, Patience};
 use crate::files::read_file;
+use crate::kept::Kept;
 use crate::state_file::StateFile;
-use census_core::{Fault, rejoin};
+use census_core::{Fault, rejoin, unchanged};
 use oct_record::Record;
 use oct_sync::{Role, drive, write_out};
 use std::alloc::Global;
@@ -52,8 +53,9 @@ where
 }
 
 /// Serves so many connections to the address, one after another, and says where it listens and how each session ended.
-/// What ends a session early does not end the hub. The fault is that of the state, as it is read first; then `Net`, also
-/// where no connection can be taken any more; and `Write`.
+/// What ends a session early does not end the hub. What the state says is kept in memory between sessions: its file is
+/// read again where another stands in its place, or a session brought something, and written where one did. The fault is
+/// that of the state, as it is read first; then `Net`, also where no connection can be taken any more; and `Write`.
 pub(crate) fn hub<R, O, E>(
     rt: &R,
     place: Place<'_>,
@@ -66,7 +68,7 @@ where
     O: Write,
     E: Write,
 {
-    load(rt, place.state)?;
+    let mut kept = Some(Kept::read(rt, place.state)?);
     let listener = bound(rt, place.address)?;
     let Ok(address) = listener.local_addr() else {
         return Err(Fault::Net);
@@ -75,7 +77,7 @@ where
     write_out(output, line.as_bytes())?;
     for _ in 0..peers {
         let (stream, peer) = accepted(&listener)?;
-        match host(rt, place, &stream) {
+        match host(rt, place, &mut kept, &stream) {
             Ok(text) => say(rt.alloc(), peer, &text, output)?,
             Err(fault) => {
                 let _ = writeln!(errors, "census: peer {peer} {fault}");
@@ -85,13 +87,54 @@ where
     Ok(())
 }
 
-// Serves one connection of a hub. The text is that of the union.
-fn host<R>(rt: &R, place: Place<'_>, stream: &TcpStream) -> Result<Vec<u8>, Fault>
+// Serves one connection of a hub. The text is that of the union. Nothing is kept where the session brought something: the
+// state's file has it then.
+fn host<R>(
+    rt: &R,
+    place: Place<'_>,
+    kept: &mut Option<Kept>,
+    stream: &TcpStream,
+) -> Result<Vec<u8>, Fault>
 where
     R: Files<File = File> + AllocGlobal + Clock,
 {
-    let said = load(rt, place.state)?;
-    meet(rt, Role::Server, place, said, stream)
+    let mut held = current(rt, place.state, kept.take())?;
+    let before = held.said.len();
+    let ended = exchange(rt, Role::Server, place.patience, &mut held.said, stream);
+    if held.said.len() != before {
+        return settle(rt, place.state, &held.said, ended);
+    }
+    let text = settle_unchanged(rt, place.state, &held, ended);
+    *kept = Some(held);
+    text
+}
+
+// What the state says now: what is kept of it, where that is of the file that stands there.
+fn current<R>(rt: &R, state: &str, kept: Option<Kept>) -> Result<Kept, Fault>
+where
+    R: Files<File = File> + AllocGlobal,
+{
+    match kept {
+        Some(kept) if kept.stands(rt, state) => Ok(kept),
+        _ => Kept::read(rt, state),
+    }
+}
+
+// What a session leaves that brought nothing: the file as it is, unless it is another one by now.
+fn settle_unchanged<R>(
+    rt: &R,
+    state: &str,
+    held: &Kept,
+    ended: Result<(), Fault>,
+) -> Result<Vec<u8>, Fault>
+where
+    R: Files<File = File> + AllocGlobal,
+{
+    ended?;
+    if held.stands(rt, state) {
+        return Ok(unchanged(rt.alloc(), &held.said)?);
+    }
+    save(rt, state, &held.said)
 }
 
 // Says how a session ended.
@@ -143,10 +186,24 @@ fn meet<R>(
 where
     R: Files<File = File> + AllocGlobal + Clock,
 {
-    match exchange(rt, role, place.patience, &mut said, stream) {
-        Ok(()) => save(rt, place.state, &said),
+    let ended = exchange(rt, role, place.patience, &mut said, stream);
+    settle(rt, place.state, &said, ended)
+}
+
+// Saves what is held after a session that ended so, also after a fault of the session. The text is that of the union.
+fn settle<R>(
+    rt: &R,
+    state: &str,
+    said: &Record<Global>,
+    ended: Result<(), Fault>,
+) -> Result<Vec<u8>, Fault>
+where
+    R: Files<File = File> + AllocGlobal,
+{
+    match ended {
+        Ok(()) => save(rt, state, said),
         Err(Fault::Sync(fault)) => {
-            let _ = save(rt, place.state, &said);
+            let _ = save(rt, state, said);
             Err(Fault::Sync(fault))
         }
         Err(fault) => Err(fault),

@@ -2,12 +2,18 @@
 
 use crate::command_line::command;
 use crate::files::{exists, is_same_file, read_file, write_file};
+use crate::help::first_screen;
+use crate::manual::manual_page;
 use crate::network::{hub, serve, sync};
 use crate::progress_line::ProgressLine;
 use crate::state_file::StateFile;
 use crate::task::{Task, read_task};
-use census_core::{Fault, Progress, Reply, Request, fold_intake, perform, perform_watched, unite};
+use crate::turns::{Games, give_turns};
+use census_core::{
+    Fault, Progress, Reply, Request, fold_intake, perform, perform_watched, search, unite,
+};
 use clap::error::ErrorKind;
+use oct_code::Code;
 use oct_sync::write_out;
 use std::alloc::Global;
 use std::convert::AsStr;
@@ -49,7 +55,10 @@ where
     E: Write,
 {
     let alloc = rt.alloc();
-    let Ok(command) = command(alloc) else {
+    let Ok(screen) = first_screen(alloc) else {
+        return refuse(errors, Fault::OutOfMemory);
+    };
+    let Ok(command) = command(alloc, &screen) else {
         return refuse(errors, Fault::OutOfMemory);
     };
     match command.try_get_matches_from(words) {
@@ -110,6 +119,14 @@ where
 {
     match task {
         Task::Fold => fold(rt.alloc(), input, output, errors),
+        Task::Search { count, codes } => {
+            let mut progress = ProgressLine::new(rt, errors, is_watched);
+            search_each(rt, *count, codes, output, &mut progress)
+        }
+        Task::Manual => {
+            let page = manual_page(rt.alloc())?;
+            Ok(write_out(output, page.as_bytes())?)
+        }
         Task::Init { state, id } => init(rt, state, *id, output),
         Task::Change {
             state,
@@ -117,7 +134,10 @@ where
             request,
         } => {
             let mut progress = ProgressLine::new(rt, errors, is_watched);
-            change(rt, state, *read, request, output, &mut progress)
+            match Games::of(state, request) {
+                Some(games) => give_turns(rt, games, output, &mut progress),
+                None => change(rt, state, *read, request, output, &mut progress),
+            }
         }
         Task::Union { out, deltas } => union(rt, out, deltas, output),
         Task::Ask {
@@ -148,6 +168,27 @@ fn fold<I: Read, O: Write, E: Write>(
     let _ = writeln!(errors, "refused {}", intake.refused);
     // The program ends here: to give back each operation first would take a fifth of the time.
     mem::forget(intake);
+    Ok(())
+}
+
+// Searches for the period of each game, and prints its line before it goes on to the next.
+fn search_each<R, O, E>(
+    rt: &R,
+    count: u64,
+    codes: &[Code],
+    output: &mut O,
+    progress: &mut ProgressLine<'_, R, E>,
+) -> Result<(), Fault>
+where
+    R: AllocGlobal + Clock,
+    O: Write,
+    E: Write,
+{
+    for code in codes {
+        let searched = search(rt.alloc(), *code, count, progress);
+        progress.clear();
+        write_out(output, &searched?)?;
+    }
     Ok(())
 }
 

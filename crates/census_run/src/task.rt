@@ -1,12 +1,12 @@
 //! What a command line asks for.
 
-use crate::command_line::{CommandName, command_named};
 use crate::connection::Patience;
 use crate::network::Place;
+use crate::table::{Asked, Does, row_named};
 use crate::words::{self, Choice, Word};
-use census_core::{Fault, Request, number};
+use census_core::{Fault, Request, SEARCH_LIMIT, number};
 use clap::ArgMatches;
-use oct_code::LIMIT;
+use oct_code::{Code, LIMIT};
 use std::alloc::Global;
 use std::time::Duration;
 
@@ -15,6 +15,13 @@ use std::time::Duration;
 pub(crate) enum Task<'a> {
     /// The catalogue of the lines of standard input.
     Fold,
+    /// The period of each game, by at most so many values.
+    Search {
+        count: u64,
+        codes: Vec<Code>,
+    },
+    /// The page of the manual.
+    Manual,
     /// A new state file of this author.
     Init {
         state: &'a str,
@@ -52,90 +59,81 @@ pub(crate) enum Task<'a> {
     },
 }
 
-/// What the matches of a command line ask for. The fault is `Number` where a word is no number of its range, `Words` where
-/// one is missing, and `OutOfMemory`.
+/// What the matches of a command line ask for. The fault is `Number` where a word is no number of its range, `Code` where a
+/// word of a search is no code, `Words` where one is missing, and `OutOfMemory`.
 pub(crate) fn read_task<'a>(alloc: Global, matches: &ArgMatches<'a>) -> Result<Task<'a>, Fault> {
     let Some((name, found)) = matches.subcommand() else {
         return Err(Fault::Words);
     };
-    match command_named(name) {
-        Some(command) => task_of(alloc, command, found),
+    match row_named(name) {
+        Some(row) => task_of(alloc, row.does, found),
         None => Err(Fault::Words),
     }
 }
 
-// What a command asks for with these words.
-fn task_of<'a>(
-    alloc: Global,
-    command: CommandName,
-    found: &ArgMatches<'a>,
-) -> Result<Task<'a>, Fault> {
-    match command {
-        CommandName::Fold => Ok(Task::Fold),
-        CommandName::Init => Ok(Task::Init {
+// What a command that does this asks for with these words.
+fn task_of<'a>(alloc: Global, does: Does, found: &ArgMatches<'a>) -> Result<Task<'a>, Fault> {
+    match does {
+        Does::Fold => Ok(Task::Fold),
+        Does::Search => Ok(Task::Search {
+            count: value_count(found)?,
+            codes: games(alloc, found)?,
+        }),
+        Does::Manual => Ok(Task::Manual),
+        Does::Init => Ok(Task::Init {
             state: word(found, words::STATE)?,
             id: number_of(found, words::ID)?,
         }),
-        CommandName::Import => change(found, Some(words::FILE), Request::Import),
-        CommandName::Claim => change(found, Some(words::BFILE), claim(alloc, found)?),
-        CommandName::Merge => change(found, Some(words::DELTA), Request::Merge),
-        CommandName::Union => Ok(Task::Union {
+        Does::Change { read, request } => Ok(Task::Change {
+            state: word(found, words::STATE)?,
+            read: maybe_word(found, read)?,
+            request: request_of(alloc, request, found)?,
+        }),
+        Does::Ask { written, request } => Ok(Task::Ask {
+            state: word(found, words::STATE)?,
+            written: maybe_word(found, written)?,
+            request: request_of(alloc, request, found)?,
+        }),
+        Does::Union => Ok(Task::Union {
             out: word(found, words::UNION)?,
             deltas: repeated(alloc, found, words::DELTAS)?,
         }),
-        CommandName::Compute => change(found, None, compute(alloc, found)?),
-        CommandName::Extend => change(found, None, extend(alloc, found)?),
-        CommandName::Find => ask(found, None, find(alloc, found)?),
-        CommandName::Survey => change(found, None, survey(alloc, found)?),
-        CommandName::Period => change(found, None, period(alloc, found)?),
-        CommandName::Note => change(found, None, note(alloc, found)?),
-        CommandName::Unnote => change(found, None, unnote(alloc, found)?),
-        CommandName::Delta => ask(found, Some(words::OUT), Request::Delta),
-        CommandName::Value => ask(found, None, value(alloc, found)?),
-        CommandName::Move => ask(found, None, winning_move(alloc, found)?),
-        CommandName::Page => ask(found, None, page(found)?),
-        CommandName::Show => ask(found, None, Request::Show),
-        CommandName::Bfile => ask(found, None, bfile(alloc, found)?),
-        CommandName::Plot => ask(found, None, plot(alloc, found)?),
-        CommandName::Json => ask(found, None, Request::Json),
-        CommandName::Report => ask(found, None, Request::Report),
-        CommandName::Serve => Ok(Task::Serve {
+        Does::Serve => Ok(Task::Serve {
             place: place(found, None)?,
         }),
-        CommandName::Sync => Ok(Task::Sync {
+        Does::Sync => Ok(Task::Sync {
             place: place(found, None)?,
         }),
-        CommandName::Hub => Ok(Task::Hub {
+        Does::Hub => Ok(Task::Hub {
             place: place(found, Some(seconds(found, words::LONGEST)?))?,
             peers: peers(found)?,
         }),
     }
 }
 
-// A command that changes a state file.
-fn change<'a>(
-    found: &ArgMatches<'a>,
-    read: Option<Word>,
-    request: Request,
-) -> Result<Task<'a>, Fault> {
-    Ok(Task::Change {
-        state: word(found, words::STATE)?,
-        read: maybe_word(found, read)?,
-        request,
-    })
-}
-
-// A command that reads a state file.
-fn ask<'a>(
-    found: &ArgMatches<'a>,
-    written: Option<Word>,
-    request: Request,
-) -> Result<Task<'a>, Fault> {
-    Ok(Task::Ask {
-        state: word(found, words::STATE)?,
-        written: maybe_word(found, written)?,
-        request,
-    })
+// The request that these words make.
+fn request_of(alloc: Global, asked: Asked, found: &ArgMatches<'_>) -> Result<Request, Fault> {
+    match asked {
+        Asked::Import => Ok(Request::Import),
+        Asked::Claim => claim(alloc, found),
+        Asked::Merge => Ok(Request::Merge),
+        Asked::Compute => compute(alloc, found),
+        Asked::Extend => extend(alloc, found),
+        Asked::Find => find(alloc, found),
+        Asked::Survey => survey(alloc, found),
+        Asked::Period => period(alloc, found),
+        Asked::Note => note(alloc, found),
+        Asked::Unnote => unnote(alloc, found),
+        Asked::Delta => Ok(Request::Delta),
+        Asked::Value => value(alloc, found),
+        Asked::Move => winning_move(alloc, found),
+        Asked::Page => page(found),
+        Asked::Show => Ok(Request::Show),
+        Asked::Bfile => bfile(alloc, found),
+        Asked::Plot => plot(alloc, found),
+        Asked::Json => Ok(Request::Json),
+        Asked::Report => Ok(Request::Report),
+    }
 }
 
 // Where a state meets its peers; a session lasts no longer than this, where it is said.
@@ -294,6 +292,14 @@ fn heap_count(found: &ArgMatches<'_>) -> Result<u32, Fault> {
     }
 }
 
+// How many values of a game are searched at most.
+fn value_count(found: &ArgMatches<'_>) -> Result<u64, Fault> {
+    match number(word(found, words::VALUES)?, SEARCH_LIMIT) {
+        Some(count) if count >= 1 => Ok(count),
+        _ => Err(Fault::Number),
+    }
+}
+
 // A word that stands once or more.
 fn repeated<'a>(alloc: Global, found: &ArgMatches<'a>, which: Word) -> Result<Vec<&'a str>, Fault> {
     let Some(words) = found.get_strs(which.name) else {
@@ -317,6 +323,16 @@ fn codes(alloc: Global, found: &ArgMatches<'_>) -> Result<Vec<Vec<u8>>, Fault> {
         codes.push(code).or(Err(Fault::OutOfMemory))?;
     }
     Ok(codes)
+}
+
+// The games of the codes.
+fn games(alloc: Global, found: &ArgMatches<'_>) -> Result<Vec<Code>, Fault> {
+    let mut games = Vec::new(alloc);
+    for word in repeated(alloc, found, words::CODES)? {
+        let game = Code::parse(word.as_bytes())?;
+        games.push(game).or(Err(Fault::OutOfMemory))?;
+    }
+    Ok(games)
 }
 
 // The heaps of a position.

@@ -104,6 +104,12 @@ pub(crate) const HEAPS: Word = Word {
     times: Times::One,
 };
 
+pub(crate) const VALUES: Word = Word {
+    name: "COUNT",
+    meaning: "How many values of each game at most, 1 to 4294967296",
+    times: Times::One,
+};
+
 pub(crate) const E: Word = Word {
     name: "E",
     meaning: "The heap from which on the values repeat, 1 to 65536",

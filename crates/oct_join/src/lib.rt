@@ -12,7 +12,8 @@
 //! - `Join` is what a content has to offer: an order on contents, and a `join` that leaves the least upper bound.
 //! - `gather` leaves the bound of many contents, whatever they are.
 //! - `Clock` is the first such content: for each author a number, of which the greater one stays.
-//! - `OpSet` is the second: a finite set of operations, which grows by union. `Ops` gives them in their order.
+//! - `OpSet` is the second: a finite set of operations, which grows by union. `Ops` gives them in their order, and
+//!   `SharedOps` what refers to them.
 #![tactic(auto)]
 
 mod clock;
@@ -20,8 +21,10 @@ mod join;
 mod op_set;
 mod ops;
 mod shared;
+mod shared_ops;
 
 pub use clock::Clock;
 pub use join::{Join, gather};
 pub use op_set::OpSet;
 pub use ops::Ops;
+pub use shared_ops::SharedOps;

@@ -1,6 +1,6 @@
 //! A finite set of operations.
 
-ghost use Rattle.std.specs.Prelude.{◌≡◌, ◌↔◌, ◌⊎◌, ◌≤◌, MatchOption, nat_le, not, false, true, length, IsTrue, IfOk, IfErr, OnOk, OnErr};
+ghost use Rattle.std.specs.Prelude.{◌≡◌, ◌↔◌, ◌⊎◌, ◌≤◌, nat_le, not, false, true, length, IsTrue, IfOk, IfErr, OnOk, OnErr};
 ghost use Rattle.std.specs.List.{All, Any};
 ghost use Rattle.oct_join.specs.SetBounds.{subset_order, union_bound};
 ghost use Rattle.oct_ops.specs.Operations.{empty, insert, remove, contains, listed, union, IsSubset};
@@ -10,6 +10,7 @@ ghost use Rattle.oct_ops.specs.OrderLaws.{op_cmp_total, op_cmp_exact};
 use crate::join::Join;
 use crate::ops::Ops;
 use crate::shared::Shared;
+use crate::shared_ops::SharedOps;
 use chunked::{Chunks, Place, Probe, Test};
 use oct_ops::Op;
 use std::alloc::{AllocError, Allocator};
@@ -156,28 +157,6 @@ impl<A: Allocator + Copy> OpSet<A> {
         Ok(true)
     }
 
-    /// Puts the operation in, and gives what shares it if it is new. Memory can be refused only for one that is not there;
-    /// then the set stays as it is.
-    pub fn insert_shared(&mut self, op: Op<A>) -> Result<Option<Rc<Op<A>, A>>, AllocError>
-        ensures added { IfOk result (λ shared. MatchOption shared (contains self.old op ≡ true) (λ shared. (contains self.old op ≡ false) × (shared.value ≡ op))) }
-        ensures ok { OnOk result (self.new ≡ insert self.old op) }
-        ensures err { OnErr result (self.new ≡ self.old) }
-        ensures absent { OnErr result (contains self.old op ≡ false) }
-    {
-        let sought = Sought { op: &op };
-        let Err(place) = self.ops.search(&sought) else {
-            return Ok(None);
-        };
-        let place = self.ops.room_at(place)?;
-        let Ok(shared) = Rc::new(self.alloc, op) else {
-            return Err(AllocError);
-        };
-        let kept = shared.clone()?;
-        let entry = Shared::new(kept);
-        self.ops.insert(place, entry);
-        Ok(Some(shared))
-    }
-
     /// Puts in a copy of the operation, unless it is there. Memory can be refused only for one that is not there; then the
     /// set stays as it is.
     pub fn add(&mut self, op: &Op<A>) -> Result<(), AllocError>
@@ -231,6 +210,14 @@ impl<A: Allocator + Copy> OpSet<A> {
         ensures { result ≡ listed self.now }
     {
         Ops::new(self.ops.iter())
+    }
+
+    /// What refers to the operations, in their order, to be shared with others.
+    pub fn iter_shared(&self) -> SharedOps<'_, A>
+        ensures { result ≡ listed self.now }
+    {
+        let shared = self.ops.iter();
+        SharedOps::new(shared)
     }
 }
 

@@ -3,6 +3,7 @@ use Rattle.std.proofs.Common.{◌≡◌, ℕ, ◌+◌, ◌-◌, Bool, true, fals
 use Rattle.std.specs.Prelude.{IsTrue, nat_lt}
 use Rattle.std.specs.List.{flat_map, list_all, list_any, cons_option}
 use Rattle.std.specs.Cmp.{first_so, second_so}
+use Rattle.std.specs.Map.{keys_of}
 use Rattle.oct_code.specs.Code.{Code}
 use Rattle.oct_mex.specs.NimValues.{nim_values}
 use Rattle.oct_ops.specs.Body.{Operation}
@@ -20,7 +21,7 @@ use Rattle.oct_period.specs.GameContent.{GameContent}
 use Rattle.oct_period.specs.Periods.{first_break, is_proved, status_at}
 use Rattle.oct_period.specs.declared.status.PeriodStatus.{PeriodStatus}
 use Rattle.oct_pages.specs.Groups.{lines_by}
-use Rattle.oct_pages.specs.Catalogue.{blocks_of, claims_of, game_lines, game_text, block_text, period_text, values_lines}
+use Rattle.oct_pages.specs.Catalogue.{Text, blocks_of, claims_of, game_lines, game_text, block_text, period_text, values_lines}
 use Rattle.oct_pages.specs.Parts.{IsGameOf, claims_set, filings_of}
 use Rattle.oct_pages.proofs.Held.{each_held}
 use Rattle.oct_pages.proofs.Members.{any-map, any-listed}
@@ -89,6 +90,9 @@ game_lines-is ops c game group is blocks claims =
     ++ map (λ (p : Claim). period_text p.0 p.1 (by_known (known_here i) p.1)) (sym claims i)
 
 -- the lines of the games of these entries
-pub entries_games : (ops : List Operation) (entries : List (Code × GameContent)) → flat_map (λ (e : Code × GameContent). game_lines ops e.0) entries ≡ flat_map (game_lines ops) (map (λ (e : Code × GameContent). e.0) entries)
+abbrev pub entries_lines : {V : Type 0} → List Operation → List (Code × V) → List Text
+entries_lines ops entries = flat_map (λ e. game_lines ops e.0) entries
+
+pub entries_games : {V : Type 0} (ops : List Operation) (entries : List (Code × V)) → entries_lines ops entries ≡ flat_map (game_lines ops) (keys_of entries)
 entries_games ops [] = refl
 entries_games ops (e ∷ entries) = ap (λ l. game_lines ops e.0 ++ l) (entries_games ops entries)

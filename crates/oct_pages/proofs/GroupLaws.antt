@@ -155,6 +155,15 @@ added_first old code q new o none pushed =
 abbrev pub lent_ops : List (Bor Operation) → List Operation
 lent_ops = map (λ o. o.now)
 
+-- those that were lent, and those that are left, make up all
+pub lent_next : (held new : List (Bor Operation)) (o : Bor Operation) (rest next all : List Operation) → new ≡ held ++ o ∷ [] → rest ≡ o.now ∷ next → lent_ops held ++ rest ≡ all → lent_ops new ++ next ≡ all
+lent_next held new o rest next all pushed step so_far =
+    ap (λ xs. lent_ops xs ++ next) pushed ∙ ap (λ l. l ++ next) (map-end held o)
+    ∙ append_assoc (lent_ops held) (o.now ∷ []) next ∙ ap (λ l. lent_ops held ++ l) (sym step) ∙ so_far
+
+pub lent_all : (held : List (Bor Operation)) (rest all : List Operation) → rest ≡ [] → lent_ops held ++ rest ≡ all → lent_ops held ≡ all
+lent_all held rest all none so_far = sym (append-nil (lent_ops held)) ∙ ap (λ l. lent_ops held ++ l) (sym none) ∙ so_far
+
 -- what lines are of the first operation, and of the rest
 pub lines_next : {X : Type 0} (f : X → Text) (m : Option X) (rest : List X) → map f (cons_option m rest) ≡ map f (cons_option m []) ++ map f rest
 lines_next f None rest = refl

@@ -42,6 +42,11 @@ pub extended_grown : (result : Result (Unit {0}) AllocError) (old new more : Lis
 extended_grown (Ok u) old new more e = record { more = more; is = e }
 extended_grown (Err error) old new more e = record { more = []; is = e ∙ sym (append-nil old) }
 
+-- what follows from two facts, where there is no error
+pub both_ok : {X Y : Type 0} (r : Result X Y) {P Q R : Type 0} → (P → Q → R) → OnOk r P → OnOk r Q → OnOk r R
+both_ok (Ok x) f p q = f p q
+both_ok (Err e) f p q = tt
+
 -- two labelled texts after another text, one by one
 pub regrouped : (text first a second b : List ℕ) → text ++ (first ++ a) ++ (second ++ b) ≡ text ++ first ++ a ++ second ++ b
 regrouped text first a second b = ap (λ t. t ++ (second ++ b)) (sym (append_assoc text first a)) ∙ sym (append_assoc (text ++ first ++ a) second b)

@@ -5,6 +5,10 @@ pub mod Held
 pub mod Lines
 pub mod GameParts
 pub mod Members
+pub mod Building
+pub mod BuiltGames
+pub mod Keys
+pub mod RestLines
 pub mod GroupLaws
 pub mod NextGame
 mod Windows

@@ -68,8 +68,8 @@ fn append_game<A: Allocator + Copy>(
     }
 }
 
-// Appends what is shown of the lines of a game with these operations.
-fn append_game_lines<A: Allocator + Copy>(
+/// Appends what is shown of the lines of a game with these operations.
+pub(crate) fn append_game_lines<A: Allocator + Copy>(
     out: &mut Vec<u8, A>,
     window: &mut Window,
     code: &Code,

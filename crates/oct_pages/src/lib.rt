@@ -15,6 +15,8 @@
 //!
 //! - `write_catalogue` appends the text, `write_page` one page of it.
 //! - `Parts` is what they read: the operations, and beside them each game and the notes.
+//! - `write_catalogue_of` and `write_page_of` append the same from a record of what was said, for whoever keeps no games:
+//!   each game is built when its lines are due, and dropped after them. `game_of` builds one.
 //! - `groups_of` gives the operations of each game, of which `block_of_game` and `claim_of_game` know their kind.
 //! - `append_text`, `append_number`, `append_dot` and the rest of `words` append a part of a line.
 //!
@@ -23,6 +25,7 @@
 
 mod authors;
 mod blocks;
+mod built;
 mod catalogue;
 mod claims;
 mod games;
@@ -33,7 +36,8 @@ mod values;
 mod window;
 mod words;
 
-pub use catalogue::{Parts, write_catalogue, write_page};
+pub use built::game_of;
+pub use catalogue::{Parts, write_catalogue, write_catalogue_of, write_page, write_page_of};
 pub use games::{block_of_game, claim_of_game};
 pub use groups::{Groups, groups_of};
 pub use words::{

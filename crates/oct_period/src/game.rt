@@ -1,7 +1,8 @@
 //! What is known of a game.
 
-ghost use Rattle.std.specs.Prelude.{◌≡◌, true, false, Some, IfErr, IfOk, IfSome, OnErr, OnOk};
+ghost use Rattle.std.specs.Prelude.{◌≡◌, ◌+◌, ◌≤◌, length, true, false, Some, IfErr, IfOk, IfSome, OnErr, OnOk};
 ghost use Rattle.std.specs.Option.{IsSome};
+ghost use Rattle.oct_code.specs.declared.limits.TheConstants.{LIMIT};
 ghost use Rattle.oct_mex.specs.NimValues.{nim_value, position_value as nim_sum};
 ghost use Rattle.oct_mex.specs.Periods.{IsPeriodicFrom};
 ghost use Rattle.oct_ops.specs.Games.{game_of};
@@ -15,6 +16,8 @@ ghost use Rattle.oct_period.specs.Outcomes.{outcome, IsOutcomeOf};
 ghost use Rattle.oct_period.specs.Periods.{heap_value, position_value};
 ghost use Rattle.oct_period.specs.Proved.{IsProvedBy};
 ghost use Rattle.oct_verify.specs.Filing.{block_of, blocks_in};
+ghost use Rattle.oct_verify.specs.Known.{known};
+ghost use Rattle.oct_verify.specs.Next.{next_values};
 
 use crate::claim::PeriodClaim;
 use crate::far::verdict_by;
@@ -134,6 +137,17 @@ impl<A: Allocator + Copy> Game<A> {
         ensures { result.now ≡ ledger_of self.now }
     {
         &self.ledger
+    }
+
+    /// The nim-values of the next `count` heaps, from the known length on. What was computed is kept, so that a block of them is
+    /// compared without computing them again; it makes nothing known.
+    pub fn compute_next(&mut self, count: u32) -> Result<Vec<u32, A>, AllocError>
+        requires { known (blocks_in self.old.blocks) + count ≤ LIMIT }
+        ensures values { IfOk result (λ next. next.items ≡ next_values self.old.code (blocks_in self.old.blocks) count) }
+        ensures len { IfOk result (λ next. length next.items ≡ count) }
+        ensures same { self.new ≡ self.old }
+    {
+        self.ledger.compute_next(count)
     }
 
     /// The claims in the order of the operations.

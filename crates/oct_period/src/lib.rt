@@ -18,6 +18,7 @@
 //!   memory.
 //! - `find_period` looks for the claim of the least period that a ledger proves, which need not have been made.
 //! - `Move` is a move in a position; `Game::winning_move` looks for the first one after which the next player loses.
+//! - `outcome_of` says who wins a position of a nim-value that is known already.
 //! - `Unknown` names the first heap of a position whose nim-value is not known, and `Outcome` says who wins a position in
 //!   normal play, where that is known.
 //! - `laws` says what holds of all blocks and claims of a game.
@@ -46,4 +47,4 @@ pub use status::PeriodStatus;
 pub use unknown::Unknown;
 pub use values::{heap_value, position_value};
 pub use winner::Outcome;
-pub use winning::outcome;
+pub use winning::{outcome, outcome_of};

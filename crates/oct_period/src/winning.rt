@@ -28,8 +28,9 @@ pub fn outcome<A: Allocator + Copy>(
     outcome_of(position_value(ledger, claims, heaps))
 }
 
-/// Who wins a position of this nim-value.
-pub(crate) fn outcome_of(value: Result<u32, Unknown>) -> Outcome
+/// Who wins a position of this nim-value, in normal play; where it is not known, the first heap is named whose nim-value is not
+/// known.
+pub fn outcome_of(value: Result<u32, Unknown>) -> Outcome
     ensures { result ≡ outcome_by_value value }
 {
     match value {

@@ -1,10 +1,10 @@
 -- The operations of each game and the notes beside a set, after a change.
-use Rattle.std.proofs.Common.{◌≡◌, Bool, true, false, not, ◌&&◌, ◌||◌, cond, Some, None, refl, sym, ap, ◌∙◌}
-use Rattle.std.specs.Prelude.{unwrap_or}
-use Rattle.std.specs.List.{filter}
+use Rattle.std.proofs.Common.{◌≡◌, ◌≢◌, Bool, true, false, not, ◌&&◌, ◌||◌, cond, List, [], ◌∷◌, length, Option, Some, None, refl, sym, ap, ◌∙◌, subst}
+use Rattle.std.specs.Prelude.{IfSome, unwrap_or}
+use Rattle.std.specs.List.{filter, list_any}
 use Rattle.std.specs.Option.{option_eq}
-use Rattle.std.specs.Ordering.{eq_by_cmp}
-use Rattle.std.specs.Cmp.{Equal-is}
+use Rattle.std.specs.Ordering.{eq_by_cmp, is_eq}
+use Rattle.std.specs.Cmp.{Equal-is, tied_itself}
 use Rattle.std.proofs.lemmas.Bool.{false≢true}
 use Rattle.std.proofs.lemmas.Map.Views.{any-filter_same}
 use Rattle.oct_code.specs.Code.{Code, code_cmp, code_eq}
@@ -14,10 +14,11 @@ use Rattle.oct_ops.specs.Body.{Body, Operation}
 use Rattle.oct_ops.specs.Operations.{Operations, contains, empty, insert, keep, listed, remove, set_of}
 use Rattle.oct_ops.specs.Order.{op_cmp}
 use Rattle.oct_ops.specs.OrderLaws.{op_cmp_total, op_cmp_exact}
-use Rattle.oct_ops.specs.SetLaws.{contains-empty, contains-insert, contains-listed, contains-remove, contains-set_of, listed-empty, same_set}
+use Rattle.oct_ops.specs.SetLaws.{contains-empty, contains-insert, contains-listed, contains-remove, contains-set_of, listed-empty, listed-keep, same_set, set_of-listed}
 use Rattle.oct_ops.specs.Games.{game_of, game_of_body, of_code}
 use Rattle.oct_notes.specs.Notes.{concerns_notes}
-use Rattle.oct_record.specs.Index.{AreBeside, Index, filed, held_at, noted, unfiled, unnoted}
+use Rattle.oct_record.specs.Index.{AreBeside, AreFilled, Index, filed, has_game, held_at, index_of, noted, unfiled, unnoted}
+use Rattle.oct_store.specs.Summary.{of_game}
 
 -- ---- the operations of a set that pass a test
 
@@ -200,3 +201,89 @@ is_held false new told is = absurd (false≢true (sym is ∙ told))
 pub is_absent : (held new : Bool) → new ≡ not held → new ≡ true → held ≡ false
 is_absent true new told is = absurd (false≢true (sym told ∙ is))
 is_absent false new told is = refl
+
+-- ---- no game is found without operations
+
+pub insert_filled : (s : Operations) (o : Operation) → insert s o ≢ empty
+insert_filled s o none =
+    let has : contains (insert s o) o ≡ true =
+    contains-insert op_cmp_total op_cmp_exact s o o ∙ ap (λ b. b || contains s o) (ap is_eq (tied_itself op_cmp_total o)) in
+    false≢true (sym (contains-empty op_cmp_total op_cmp_exact o) ∙ ap (λ t. contains t o) (sym none) ∙ has)
+
+pub nothing_filled : (index : Index) → ((c : Code) → index c ≡ None) → AreFilled index
+nothing_filled index none c = subst (λ found. IfSome found (λ (held : Operations). held ≢ empty)) (sym (none c)) tt
+
+pub put_filled : (old new : Index) (code : Code) (mid : Operations) → mid ≢ empty → IsPut old new code mid → AreFilled old → AreFilled new
+put_filled old new code mid some put filled q = subst (λ found. IfSome found (λ (held : Operations). held ≢ empty)) (sym (put q)) (by (eq_by_cmp code_cmp code q))
+  where
+    by : (b : Bool) → IfSome (cond b (Some mid) (old q)) (λ (held : Operations). held ≢ empty)
+    by true = some
+    by false = filled q
+
+pub still_filled : (old new : Index) (code : Code) (held mid : Operations) → Some held ≡ old code → mid ≡ held → IsPut old new code mid → AreFilled old → AreFilled new
+still_filled old new code held mid found same put filled =
+    let some : held ≢ empty = subst (λ o. IfSome o (λ (s : Operations). s ≢ empty)) (sym found) (filled code) in
+    put_filled old new code mid (λ none. some (sym same ∙ none)) put filled
+
+pub none_listed : (s : Operations) → length (listed s) ≡ 0 → s ≡ empty
+none_listed s none = sym (set_of-listed op_cmp_total op_cmp_exact s) ∙ ap set_of (nil (listed s) none)
+  where
+    nil : (xs : List Operation) → length xs ≡ 0 → xs ≡ []
+    nil [] h = refl
+    nil (x ∷ xs) h = cc
+
+pub some_listed : (s : Operations) → (length (listed s) ≡ 0 → ⊥) → s ≢ empty
+some_listed s some none = some (ap (λ t. length (listed t)) none ∙ ap length (listed-empty op_cmp_total op_cmp_exact))
+
+-- a game that lost its last operation, and then goes
+module _ (old last new : Index) (code : Code) (mid : Operations) (put : IsPut old last code mid) (gone : (q : Code) → new q ≡ cond (eq_by_cmp code_cmp code q) None (last q)) where
+  gone_at : (q : Code) → new q ≡ cond (eq_by_cmp code_cmp code q) None (cond (eq_by_cmp code_cmp code q) (Some mid) (old q))
+  gone_at q = gone q ∙ ap (cond (eq_by_cmp code_cmp code q) None) (put q)
+
+  pub drop_same : mid ≡ empty → (q : Code) → held_at new q ≡ held_at last q
+  drop_same none q = ap (λ t. unwrap_or t empty) (gone_at q) ∙ by (eq_by_cmp code_cmp code q) ∙ ap (λ t. unwrap_or t empty) (sym (put q))
+    where
+      by : (b : Bool) → unwrap_or (cond b None (cond b (Some mid) (old q))) empty ≡ unwrap_or (cond b (Some mid) (old q)) empty
+      by true = sym none
+      by false = refl
+
+  pub drop_filled : AreFilled old → AreFilled new
+  drop_filled filled q = subst (λ found. IfSome found (λ (held : Operations). held ≢ empty)) (sym (gone_at q)) (by (eq_by_cmp code_cmp code q))
+    where
+      by : (b : Bool) → IfSome (cond b None (cond b (Some mid) (old q))) (λ (held : Operations). held ≢ empty)
+      by true = tt
+      by false = filled q
+
+-- ---- the games that have operations
+
+none_kept : (p : Operation → Bool) (xs : List Operation) → list_any p xs ≡ false → filter p xs ≡ []
+none_kept p [] h = refl
+none_kept p (x ∷ xs) h = by (p x) h (none_kept p xs)
+  where
+    by : (b : Bool) → (b || list_any p xs) ≡ false → (list_any p xs ≡ false → filter p xs ≡ []) → cond b (x ∷ filter p xs) (filter p xs) ≡ []
+    by true e rest = cc
+    by false e rest = rest e
+
+any_kept : (p : Operation → Bool) (xs : List Operation) → list_any p xs ≡ true → filter p xs ≢ []
+any_kept p [] h = λ _. false≢true h
+any_kept p (x ∷ xs) h = by (p x) h (any_kept p xs)
+  where
+    by : (b : Bool) → (b || list_any p xs) ≡ true → (list_any p xs ≡ true → filter p xs ≢ []) → cond b (x ∷ filter p xs) (filter p xs) ≢ []
+    by true e rest = λ none. cc
+    by false e rest = rest e
+
+pub index_is : (ops : Operations) (index : Index) → ((c : Code) → held_at index c ≡ of_game ops c) → AreFilled index → (c : Code) → index c ≡ index_of ops c
+index_is ops index games filled c = by (index c) (has_game ops c) refl refl
+  where
+    by : (found : Option Operations) (has : Bool) → index c ≡ found → has_game ops c ≡ has → index c ≡ index_of ops c
+    by None true is has =
+        let nothing : of_game ops c ≡ empty = sym (games c) ∙ ap (λ t. unwrap_or t empty) is in
+        absurd (any_kept (of_code c) (listed ops) has
+        (sym (listed-keep op_cmp_total op_cmp_exact (of_code c) ops) ∙ ap listed nothing ∙ listed-empty op_cmp_total op_cmp_exact))
+    by None false is has = is ∙ sym (ap (λ b. cond b (Some (of_game ops c)) None) has)
+    by (Some held) true is has =
+        is ∙ ap Some (ap (λ t. unwrap_or t empty) (sym is) ∙ games c) ∙ sym (ap (λ b. cond b (Some (of_game ops c)) None) has)
+    by (Some held) false is has =
+        let some : held ≢ empty = subst (λ o. IfSome o (λ (s : Operations). s ≢ empty)) is (filled c) in
+        let kept : held ≡ of_game ops c = ap (λ t. unwrap_or t empty) (sym is) ∙ games c in
+        absurd (some (kept ∙ ap set_of (none_kept (of_code c) (listed ops) has)))

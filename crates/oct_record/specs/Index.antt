@@ -1,9 +1,10 @@
 -- What is kept beside a set: the operations of each game, and the notes.
-use Rattle.std.specs.Prelude.{◌≡◌, Option, cond, unwrap_or}
+use Rattle.std.specs.Prelude.{◌≡◌, ◌≢◌, Bool, Option, Some, None, IfSome, cond, unwrap_or}
+use Rattle.std.specs.List.{list_any}
 use Rattle.oct_code.specs.Code.{Code}
 use Rattle.oct_ops.specs.Body.{Operation}
 use Rattle.oct_ops.specs.Games.{of_code}
-use Rattle.oct_ops.specs.Operations.{Operations, empty, insert, remove}
+use Rattle.oct_ops.specs.Operations.{Operations, empty, insert, listed, remove}
 use Rattle.oct_notes.specs.Notes.{concerns_notes, notes_of}
 use Rattle.oct_store.specs.Summary.{of_game}
 
@@ -14,6 +15,18 @@ Index = Code → Option Operations
 -- the operations that are found of a game
 abbrev pub held_at : Index → Code → Operations
 held_at index c = unwrap_or (index c) empty
+
+-- no game is found without operations
+abbrev pub AreFilled : Index → Type 0
+AreFilled index = (c : Code) → IfSome (index c) (λ (held : Operations). held ≢ empty)
+
+-- whether the set has a block or a claim of the game
+abbrev pub has_game : Operations → Code → Bool
+has_game ops c = list_any (of_code c) (listed ops)
+
+-- the operations of each game that has some
+abbrev pub index_of : Operations → Index
+index_of ops c = cond (has_game ops c) (Some (of_game ops c)) None
 
 -- these are the operations of each game of the set, and its notes
 pub record AreBeside (ops : Operations) (index : Index) (held : Operations) : Type 0 where

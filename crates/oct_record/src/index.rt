@@ -4,7 +4,7 @@ ghost use Rattle.std.specs.Prelude.{◌≡◌, Some, OnOk, OnErr};
 ghost use Rattle.std.specs.BTreeMap as tree;
 ghost use Rattle.oct_code.specs.Code as octal;
 ghost use Rattle.oct_ops.specs.Games.{game_of};
-ghost use Rattle.oct_record.specs.Index.{filed, held_at, noted, unfiled, unnoted};
+ghost use Rattle.oct_record.specs.Index.{filed, held_at, noted, unfiled, unnoted, AreFilled};
 
 use oct_code::Code;
 use oct_join::OpSet;
@@ -25,6 +25,7 @@ pub(crate) fn file<A: Allocator + Copy>(
     ensures notes { OnOk result (notes.new ≡ noted op.now.value notes.old) }
     ensures same_games { OnErr result ((q : octal.Code) → held_at (tree.get octal.code_cmp games.new) q ≡ held_at (tree.get octal.code_cmp games.old) q) }
     ensures same_notes { OnErr result (notes.new ≡ notes.old) }
+    ensures filled { AreFilled (tree.get octal.code_cmp games.old) → AreFilled (tree.get octal.code_cmp games.new) }
 {
     match op.body().code() {
         Some(code) => file_in_game(games, alloc, code, op),
@@ -42,6 +43,7 @@ fn file_in_game<A: Allocator + Copy>(
     requires { game_of op.now.value ≡ Some code }
     ensures ok { OnOk result ((q : octal.Code) → held_at (tree.get octal.code_cmp games.new) q ≡ filed op.now.value q (held_at (tree.get octal.code_cmp games.old) q)) }
     ensures err { OnErr result ((q : octal.Code) → held_at (tree.get octal.code_cmp games.new) q ≡ held_at (tree.get octal.code_cmp games.old) q) }
+    ensures filled { AreFilled (tree.get octal.code_cmp games.old) → AreFilled (tree.get octal.code_cmp games.new) }
 {
     if let Some(held) = games.get_mut(&code) {
         held.share(op)?;
@@ -55,7 +57,7 @@ fn file_in_game<A: Allocator + Copy>(
     }
 }
 
-/// Takes an operation out of its game, or out of the notes.
+/// Takes an operation out of its game, or out of the notes. A game without operations goes.
 pub(crate) fn unfile<A: Allocator + Copy>(
     games: &mut BTreeMap<Code, OpSet<A>, A>,
     notes: &mut Notes<A>,
@@ -63,6 +65,7 @@ pub(crate) fn unfile<A: Allocator + Copy>(
 )
     ensures games { (q : octal.Code) → held_at (tree.get octal.code_cmp games.new) q ≡ unfiled op.now q (held_at (tree.get octal.code_cmp games.old) q) }
     ensures notes { notes.new ≡ unnoted op.now notes.old }
+    ensures filled { AreFilled (tree.get octal.code_cmp games.old) → AreFilled (tree.get octal.code_cmp games.new) }
 {
     match op.body().code() {
         Some(code) => unfile_in_game(games, code, op),
@@ -70,16 +73,21 @@ pub(crate) fn unfile<A: Allocator + Copy>(
     }
 }
 
-// Takes the operation out of its game.
+// Takes the operation out of its game, which goes with its last one.
 fn unfile_in_game<A: Allocator + Copy>(
     games: &mut BTreeMap<Code, OpSet<A>, A>,
     code: Code,
     op: &Op<A>,
 )
     requires { game_of op.now ≡ Some code }
-    ensures { (q : octal.Code) → held_at (tree.get octal.code_cmp games.new) q ≡ unfiled op.now q (held_at (tree.get octal.code_cmp games.old) q) }
+    ensures games { (q : octal.Code) → held_at (tree.get octal.code_cmp games.new) q ≡ unfiled op.now q (held_at (tree.get octal.code_cmp games.old) q) }
+    ensures filled { AreFilled (tree.get octal.code_cmp games.old) → AreFilled (tree.get octal.code_cmp games.new) }
 {
-    if let Some(held) = games.get_mut(&code) {
-        held.remove(op);
+    let Some(held) = games.get_mut(&code) else {
+        return;
+    };
+    held.remove(op);
+    if held.is_empty() {
+        games.remove(&code);
     }
 }

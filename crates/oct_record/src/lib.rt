@@ -7,6 +7,7 @@
 //!     said.removal(b"kayles")?              // the removal of the notes of a name, to be issued
 //!     said.join(&other)?;                   // the union
 //!     said.game(kayles)                     // the blocks and claims of a game
+//!     said.games()                          // those of each game
 //!     said.save(&mut out)?;                 // `OGS1`, the author, and the delta of all operations
 //!     Record::load(alloc, &out)?            // the record again
 //!

@@ -1,7 +1,9 @@
 //! A record of what was said.
 
 ghost use Rattle.std.specs.Prelude.{◌≡◌, ◌↔◌, ◌+◌, ◌≤◌, ◌<◌, ◌^◌, ◌++◌, not, length, true, false, None, List, IsTrue, IsSome, IfSome, IfOk, IfErr, OnOk, OnErr, IsErrOf};
+ghost use Rattle.std.specs.BTreeMap as tree;
 ghost use Rattle.std.specs.Option.{is_some, option_copied, unwrap_or};
+ghost use Rattle.oct_code.specs.Code as octal;
 ghost use Rattle.oct_ops.specs.Body.{Operation};
 ghost use Rattle.oct_ops.specs.Operation.{dot_of, removing};
 ghost use Rattle.oct_ops.specs.Operations.{empty, insert, remove, contains, listed, set_of, union, IsSubset};
@@ -15,6 +17,7 @@ ghost use Rattle.oct_delta.specs.Taken.{operations_of};
 ghost use Rattle.oct_store.specs.Summary as summary;
 ghost use Rattle.oct_notes.specs.Notes.{live_dots, notes_of};
 ghost use Rattle.oct_record.specs.Content.{RecordContent};
+ghost use Rattle.oct_record.specs.Index.{index_of};
 ghost use Rattle.oct_record.specs.Removals.{removal_fault, RefusesRemoval};
 ghost use Rattle.oct_record.specs.States.{state_text, RefusesState};
 ghost use Rattle.oct_record.specs.Taking.{count_new, has_number, issue_error, next_op, with_all, IsCutBy, LeavesAt};
@@ -129,6 +132,13 @@ impl<A: Allocator + Copy> Record<A> {
         ensures { unwrap_or (option_copied result) empty ≡ summary.of_game self.now.ops code }
     {
         self.games.get(&code)
+    }
+
+    /// The blocks and claims of each game that has some, by the codes. Takes no memory.
+    pub fn games(&self) -> &BTreeMap<Code, OpSet<A>, A>
+        ensures { (q : octal.Code) → tree.get octal.code_cmp result.now q ≡ index_of self.now.ops q }
+    {
+        &self.games
     }
 
     /// Takes in the operations that the bytes spell, and says how many of them are new. The answer is `Version` exactly

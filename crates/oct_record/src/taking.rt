@@ -113,8 +113,8 @@ pub fn join<A: Allocator + Copy, H: Holder<A>>(
     ensures between { IsBetween IsSubset (H.content holder.old).ops (H.content holder.new).ops (union (H.content holder.old).ops other.now.ops) }
     ensures absent { OnErr result (¬ IsSubset other.now.ops (H.content holder.old).ops) }
 {
-    for op in other.store().iter() {
-        add(holder, op)?;
+    for op in other.store().iter_shared() {
+        holder.share(op)?;
     }
     Ok(())
 }

@@ -160,7 +160,7 @@ grown ops o c = record {
   claims = insert_option (sets.set_of (claims_of c (listed ops))) (claim_in c o);
 }
 
-content-insert : (ops : Operations) (o : Operation) (c : Code) → content_in (insert ops o) c ≡ grown ops o c
+pub content-insert : (ops : Operations) (o : Operation) (c : Code) → content_in (insert ops o) c ≡ grown ops o c
 content-insert ops o c =
     let rows = listed-insert op_cmp_total op_cmp_exact ops o in
     let blocks : sets.set_of {R = filing_cmp} (blocks_of c (listed (insert ops o))) ≡ insert_option (sets.set_of (blocks_of c (listed ops))) (block_in c o) =

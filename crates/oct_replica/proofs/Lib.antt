@@ -1,9 +1,9 @@
 pub mod Authors
-mod Beside
+pub mod Beside
 mod Complete
 mod Deliveries
 pub mod Headline
-mod Inserting
+pub mod Inserting
 mod Lines
 pub mod Members
 mod Parts

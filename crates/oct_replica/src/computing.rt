@@ -12,8 +12,10 @@ use oct_ops::{Block, MAX_ITEMS};
 use oct_verify::Ledger;
 use std::alloc::Allocator;
 
-/// The block of the next nim-values of a game, `count` of them or as many as the limit leaves.
-pub(crate) fn next_block<A: Allocator + Copy>(
+/// The block of the next nim-values of a game: from the known length on, `count` of them or as many as the limit leaves. It is
+/// true. The first refusal is `Zero`, exactly where `count` is 0; then `TooMany`, exactly where it is over 1,024; then `AtLimit`,
+/// exactly where the known length is `LIMIT`.
+pub fn next_block<A: Allocator + Copy>(
     ledger: &Ledger<A>,
     count: u32,
 ) -> Result<Block<A>, ComputeError>

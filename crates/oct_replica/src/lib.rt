@@ -15,7 +15,8 @@
 //!
 //! Beside the record a replica keeps each game up to date, so `take` costs only what the new operations cost, and `game`,
 //! `known`, `value`, `outcome`, `winning_move`, `find_period` and `claims_period` take no memory. Record and games agree at the end
-//! of every call, also of a refused one. Whoever asks nothing of the games holds the record alone (`oct_record`).
+//! of every call, also of a refused one. Whoever asks nothing of the games holds the record alone (`oct_record`), and whoever
+//! asks of one at a time builds it from the record (`oct_pages::game_of`).
 //!
 //! Replicas act apart, and what they send may be lost, repeated, reordered or cut; they stop and begin again from what
 //! they last saved. `specs/World` says what may happen in a world of such replicas, event by event, and what then holds
@@ -30,6 +31,7 @@ mod games;
 pub mod laws;
 mod replica;
 
+pub use computing::next_block;
 pub use error::ComputeError;
 pub use oct_record::{AuthorError, IssueError, LoadError, RemovalError, TakeError};
 pub use replica::Replica;

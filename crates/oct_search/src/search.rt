@@ -155,9 +155,9 @@ impl<A: Allocator + Copy> Search<A> {
         find_period(&self.code, &self.values)
     }
 
-    // How many values there are when a period is looked for next: a quarter more, or as many as the period takes that they
-    // let expect, where that is not much more.
-    fn next_look(&self) -> usize
+    /// How many values there should be when a period is looked for next, more than there are now: a quarter more, or as many
+    /// as the period takes that they let expect, where that is not much more. It may be more than `MOST`.
+    pub fn next_look(&self) -> usize
         ensures { self.now.len < result }
     {
         let len = self.values.len();

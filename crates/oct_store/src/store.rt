@@ -1,6 +1,6 @@
 //! A finite set of operations.
 
-ghost use Rattle.std.specs.Prelude.{◌≡◌, ◌↔◌, ◌++◌, not, false, length, true, IsTrue, MatchOption, IfOk, IfErr, OnOk, OnErr};
+ghost use Rattle.std.specs.Prelude.{◌≡◌, ◌↔◌, ◌++◌, not, false, length, true, IsTrue, IfOk, IfErr, OnOk, OnErr};
 ghost use Rattle.oct_ops.specs.Operations.{empty, insert, remove, contains, listed, union, IsSubset};
 ghost use Rattle.oct_ops.specs.OrderLaws.{op_cmp_total, op_cmp_exact};
 ghost use Rattle.oct_join.specs.SetBounds.{subset_order, union_bound};
@@ -10,7 +10,7 @@ ghost use Rattle.oct_store.specs.Summary as summary;
 use crate::author::Author;
 use crate::fork::Fork;
 use oct_code::Code;
-use oct_join::{Clock, Join, OpSet, Ops};
+use oct_join::{Clock, Join, OpSet, Ops, SharedOps};
 use oct_ops::{Op, OpList};
 use std::alloc::{AllocError, Allocator};
 use std::marker::Model;
@@ -86,17 +86,6 @@ impl<A: Allocator + Copy> Store<A> {
         self.ops.insert(op)
     }
 
-    /// Puts the operation in, and gives what shares it if it is new. Memory can be refused only for one that is not there;
-    /// then the set stays as it is.
-    pub fn insert_shared(&mut self, op: Op<A>) -> Result<Option<Rc<Op<A>, A>>, AllocError>
-        ensures added { IfOk result (λ shared. MatchOption shared (contains self.old op ≡ true) (λ shared. (contains self.old op ≡ false) × (shared.value ≡ op))) }
-        ensures ok { OnOk result (self.new ≡ insert self.old op) }
-        ensures err { OnErr result (self.new ≡ self.old) }
-        ensures absent { OnErr result (contains self.old op ≡ false) }
-    {
-        self.ops.insert_shared(op)
-    }
-
     /// Puts in an operation that is shared, and says whether it is new. Memory can be refused only for one that is not there;
     /// then the set stays as it is.
     pub fn share(&mut self, op: &Rc<Op<A>, A>) -> Result<bool, AllocError>
@@ -121,6 +110,13 @@ impl<A: Allocator + Copy> Store<A> {
         ensures { result ≡ listed self.now }
     {
         self.ops.iter()
+    }
+
+    /// What refers to the operations, in their order, to be shared with others.
+    pub fn iter_shared(&self) -> SharedOps<'_, A>
+        ensures { result ≡ listed self.now }
+    {
+        self.ops.iter_shared()
     }
 
     /// Copies of all operations, in order.

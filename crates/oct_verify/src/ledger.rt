@@ -144,4 +144,20 @@ impl<A: Allocator + Copy> Ledger<A> {
         values.extend_to(end)?;
         Vec::from_slice(alloc, &values.as_slice()[start..end])
     }
+    /// The same values. What was computed is kept, so that a block of them is compared without computing them again; it makes
+    /// nothing known.
+    pub fn compute_next(&mut self, count: u32) -> Result<Vec<u32, A>, AllocError>
+        requires { known (blocks_in self.old.blocks) + count ≤ LIMIT }
+        ensures values { IfOk result (λ next. next.items ≡ next_values self.old.code (blocks_in self.old.blocks) count) }
+        ensures len { IfOk result (λ next. length next.items ≡ count) }
+        ensures same { self.new ≡ self.old }
+    {
+        let start = self.known() as usize;
+        let end = start + count as usize;
+        self.shelf.comparer.values.extend_to(end)?;
+        Vec::from_slice(
+            self.shelf.alloc,
+            &self.shelf.comparer.values.as_slice()[start..end],
+        )
+    }
 }

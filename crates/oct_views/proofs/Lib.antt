@@ -9,6 +9,7 @@ pub mod Numerals
 pub mod Places
 pub mod Pushing
 mod ReadingBack
+pub mod RecordGames
 pub mod Splitting
 mod TableLaws
 mod Truncated

@@ -1,6 +1,6 @@
 -- Lists that a loop makes of those items that yield something.
-use Rattle.std.proofs.Common.{◌≡◌, List, [], ◌∷◌, ◌++◌, map, Option, Some, None, ap, ◌∙◌, append_assoc}
-use Rattle.std.specs.List.{cons_option}
+use Rattle.std.proofs.Common.{◌≡◌, ℕ, List, [], ◌∷◌, ◌++◌, map, Option, Some, None, ap, ◌∙◌, append_assoc}
+use Rattle.std.specs.List.{cons_option, flat_map}
 use Rattle.std.proofs.lemmas.List.{map-append}
 
 -- the item yields something
@@ -10,13 +10,14 @@ one_pushed f m x y rest old new all some is pushed so_far =
     ap (λ l. l ++ map f rest) pushed ∙ append_assoc old (y ∷ []) (map f rest)
     ∙ (λ i. old ++ is i ∷ map f rest) ∙ ap (λ o. old ++ map f (cons_option o rest)) some ∙ so_far
 
--- the item yields nothing
-pub none_pushed : {X Y : Type 0} (f : X → Y) (m : Option X) (rest : List X) (old new all : List Y) → None ≡ m → new ≡ old → old ++ map f (cons_option m rest) ≡ all → new ++ map f rest ≡ all
-none_pushed f m rest old new all none same so_far = ap (λ l. l ++ map f rest) same ∙ ap (λ o. old ++ map f (cons_option o rest)) none ∙ so_far
-
 -- each item yields something
 pub row_pushed : {X Y Z : Type 0} (f : X → Y) (g : Z → Y) (x : X) (z : Z) (rest : List Z) (old new : List X) (all : List Y) → f x ≡ g z → new ≡ old ++ x ∷ []
     → map f old ++ map g (z ∷ rest) ≡ all → map f new ++ map g rest ≡ all
 row_pushed f g x z rest old new all same pushed so_far =
     ap (λ l. map f l ++ map g rest) pushed ∙ ap (λ l. l ++ map g rest) (map-append f old (x ∷ [])) ∙ append_assoc (map f old) (f x ∷ []) (map g rest)
     ∙ ap (λ y. map f old ++ y ∷ map g rest) same ∙ so_far
+
+-- each item has a text
+pub text_pushed : {Z : Type 0} (text : Z → List ℕ) (z : Z) (rest : List Z) (old new all : List ℕ) → new ≡ old ++ text z → old ++ flat_map text (z ∷ rest) ≡ all
+    → new ++ flat_map text rest ≡ all
+text_pushed text z rest old new all pushed so_far = ap (λ l. l ++ flat_map text rest) pushed ∙ append_assoc old (text z) (flat_map text rest) ∙ so_far

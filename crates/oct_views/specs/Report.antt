@@ -57,10 +57,14 @@ count_cells blocks = concat (
 abbrev pub game_row : GameSheet → Text
 game_row g = concat (known_cells g.code (length g.values) ∷ proved_text [] g.proved ∷ count_cells g.blocks ∷ [])
 
-abbrev pub games_table : List GameSheet → Text
-games_table games = table (codes "Games")
+-- the table of these rows
+abbrev pub games_table_of : Text → Text
+games_table_of rows = table (codes "Games")
     (codes "code" ∷ codes "known heaps" ∷ codes "period" ∷ codes "proved blocks" ∷ codes "refuted blocks" ∷ codes "pending blocks" ∷ [])
-    (flat_map game_row games)
+    rows
+
+abbrev pub games_table : List GameSheet → Text
+games_table games = games_table_of (flat_map game_row games)
 
 -- ---- the values of a game
 

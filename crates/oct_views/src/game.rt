@@ -10,7 +10,7 @@ use std::alloc::Allocator;
 
 /// A game with its known nim-values, its blocks and its period claims, both in the order of the operations.
 #[derive(Drop)]
-pub struct GameSheet<'a, A: Allocator + Copy> {
+pub(crate) struct GameSheet<'a, A: Allocator + Copy> {
     /// The code of the game.
     pub code: Code,
     /// The known nim-values, that of heap 0 first: at least one, at most `LIMIT`.

@@ -1,40 +1,73 @@
-//! A sheet as JSON.
+//! A record as JSON.
 
 ghost use Rattle.std.specs.Prelude.{◌≡◌, ◌++◌, map, IfOk, OnErr, OnOk};
 ghost use Rattle.serde_json.specs.Data.{Data, array};
 ghost use Rattle.serde_json.specs.View.{items_of, view};
 ghost use Rattle.serde_json.specs.Written.{compact_text};
-ghost use Rattle.oct_views.specs.Contents.{sheet_content};
-ghost use Rattle.oct_views.specs.Json.{document, document_of};
+ghost use Rattle.oct_ops.specs.Operations.{listed};
+ghost use Rattle.oct_store.specs.Summary as summary;
+ghost use Rattle.oct_views.specs.Json.{document, document_of, game_data, list};
+ghost use Rattle.oct_views.specs.Sheet.{game_sheet, sheet};
 
-use crate::sheet::Sheet;
+use crate::game::GameSheet;
+use oct_code::Code;
+use oct_join::OpSet;
+use oct_pages::game_of;
+use oct_record::Record;
 use serde_json::{Value, json};
 use std::alloc::{AllocError, Global};
 
-/// Appends the sheet as one JSON document, without spaces, as `specs/Json` says. The one error is that memory is refused,
-/// and then `out` stays as it is.
-pub fn write_json(
-    alloc: Global,
-    sheet: &Sheet<'_, Global>,
-    out: &mut Vec<u8>,
-) -> Result<(), AllocError>
-    ensures ok { OnOk result (out.new.items ≡ out.old.items ++ compact_text (document (sheet_content sheet.now))) }
+/// Appends what views show of a record as one JSON document, without spaces, as `specs/Json` says. The games are built
+/// one after another, and each is let go before the next. The one error is that memory is refused, and then `out` stays
+/// as it is.
+pub fn write_json(alloc: Global, said: &Record<Global>, out: &mut Vec<u8>) -> Result<(), AllocError>
+    ensures ok { OnOk result (out.new.items ≡ out.old.items ++ compact_text (document (sheet (listed said.now.ops)))) }
     ensures err { OnErr result (out.new.items ≡ out.old.items) }
 {
-    let value = document(alloc, sheet)?;
+    let value = document(alloc, said)?;
     let text = value.to_string(alloc)?;
     out.extend_from_slice(text.as_bytes())
 }
 
 // The document.
-fn document(alloc: Global, sheet: &Sheet<'_, Global>) -> Result<Value, AllocError>
-    ensures { IfOk result (λ v. view v ≡ document (sheet_content sheet.now)) }
+fn document(alloc: Global, said: &Record<Global>) -> Result<Value, AllocError>
+    ensures { IfOk result (λ v. view v ≡ document (sheet (listed said.now.ops))) }
 {
-    let authors = array_of(alloc, &sheet.authors)?;
-    let forks = array_of(alloc, &sheet.forks)?;
-    let games = array_of(alloc, &sheet.games)?;
-    let notes = array_of(alloc, &sheet.notes)?;
+    let authors = said.store().authors()?;
+    let forks = said.store().forks()?;
+    let notes = said.notes().live_refs()?;
+    let authors = array_of(alloc, &authors)?;
+    let forks = array_of(alloc, &forks)?;
+    let games = games_of(alloc, said)?;
+    let notes = array_of(alloc, &notes)?;
     document_of(alloc, authors, forks, games, notes)
+}
+
+// The array of the games.
+fn games_of(alloc: Global, said: &Record<Global>) -> Result<Value, AllocError>
+    ensures { IfOk result (λ v. view v ≡ list game_data (sheet (listed said.now.ops)).games) }
+{
+    let games = said.games();
+    let mut values = Vec::with_capacity(alloc, games.len())?;
+    for (code, ops) in games.iter() {
+        values.push(game_value(alloc, said, *code, ops)?)?;
+    }
+    Ok(Value::Array(values))
+}
+
+// The value of a game with these operations.
+fn game_value(
+    alloc: Global,
+    said: &Record<Global>,
+    code: Code,
+    ops: &OpSet<Global>,
+) -> Result<Value, AllocError>
+    requires { ops.now ≡ summary.of_game said.now.ops code }
+    ensures { IfOk result (λ v. view v ≡ game_data (game_sheet (listed said.now.ops) code)) }
+{
+    let game = game_of(said, code)?;
+    let sheet = GameSheet::of_game(alloc, &game, ops)?;
+    sheet.to_json(alloc)
 }
 
 // The document of these parts.

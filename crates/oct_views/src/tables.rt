@@ -54,6 +54,23 @@ pub(crate) fn append_table<S: Rows<R>, R, A: Allocator + Copy>(
     append_pieces(out, &[Text(b"</tbody>\n</table>\n")])
 }
 
+/// Appends a table of rows of this text under these heads of columns, or nothing where they have no text.
+pub(crate) fn append_written_table<A: Allocator>(
+    out: &mut Vec<u8, A>,
+    caption: &[u8],
+    columns: &[&[u8]],
+    rows: &[u8],
+) -> Result<(), AllocError>
+    ensures ok { OnOk result (out.new.items ≡ out.old.items ++ table caption.now (map (λ name. name.now) columns.now) rows.now) }
+    ensures grown { Extends out.old.items out.new.items }
+{
+    if rows.is_empty() {
+        return Ok(());
+    }
+    append_head(out, caption, columns)?;
+    append_pieces(out, &[Text(rows), Text(b"</tbody>\n</table>\n")])
+}
+
 /// Appends what stands before the rows.
 pub(crate) fn append_head<A: Allocator>(
     out: &mut Vec<u8, A>,

@@ -581,6 +581,7 @@ const FAULTS: &[(Fault, &str, u8)] = &[
     (Fault::Sync(SyncError::Order), "Sync Order", 1),
     (Fault::Sync(SyncError::Cut), "Sync Cut", 3),
     (Fault::NoPage, "NoPage", 1),
+    (Fault::PastValue, "PastValue", 1),
     (Fault::Number, "Number", 2),
     (Fault::Exists, "Exists", 3),
     (Fault::OutOfMemory, "OutOfMemory", 4),

@@ -1,7 +1,7 @@
 //! Who is told how far a command is.
 
 use crate::texts::{EMPTY_STATE, bytes};
-use census_core::{Progress, Request, perform_watched};
+use census_core::{Progress, Request, perform_watched, search};
 use oct_code::Code;
 use std::alloc::{AllocError, Global};
 use std::process::Abort;
@@ -61,6 +61,19 @@ fn each_block_is_told_before(rt: HostRuntime) {
     };
     let reply = perform_watched(rt.alloc(), &request, &state, b"", &mut listener);
     assert!(&rt; reply.is_ok(), "refused");
+    assert!(&rt; listener.is_right, "something else is told");
+    assert!(&rt; listener.expected.is_empty(), "less is told");
+}
+
+#[test]
+fn a_search_is_told(rt: HostRuntime) {
+    let code = Code::parse(b"0.77").ok().expect(&rt, "a code");
+    let mut listener = Listener {
+        expected: &[("0.77", 0, 5)],
+        is_right: true,
+    };
+    let line = search(rt.alloc(), code, 5, &mut listener);
+    assert!(&rt; line.is_ok(), "refused");
     assert!(&rt; listener.is_right, "something else is told");
     assert!(&rt; listener.expected.is_empty(), "less is told");
 }

@@ -146,3 +146,42 @@ fn folds_and_refuses_lines(rt: HostRuntime) {
         End::of(&rt, case.0).is_right(&rt, case);
     }
 }
+
+// Searches: the periods of the literature, by as many values as prove them and by one fewer, and each refusal.
+const SEARCHES: &[Case<'static>] = &[
+    (
+        &["search", "168", "0.77"],
+        0,
+        "0.77 period 12 from 71 needs 168 values 168\n",
+        "",
+    ),
+    (
+        &["search", "509622", "0.16"],
+        0,
+        "0.16 period 149459 from 105351 needs 509622 values 509622\n",
+        "",
+    ),
+    (
+        &["search", "167", "0.77", "0.6"],
+        0,
+        "0.77 no period in 167 values\n0.6 no period in 167 values\n",
+        "",
+    ),
+    (&["search", "0", "0.8"], 2, "", "census: Number\n"),
+    (&["search", "4294967297", "0.6"], 2, "", "census: Number\n"),
+    (&["search", "x", "0.6"], 2, "", "census: Number\n"),
+    (
+        &["search", "1000", "0.77", "5.7", "0.8"],
+        1,
+        "",
+        "census: Code Head\n",
+    ),
+    (&["search", "1000"], 2, "", "error: .."),
+];
+
+#[test]
+fn searches_name_periods(rt: HostRuntime) {
+    for &case in SEARCHES {
+        End::of(&rt, case.0).is_right(&rt, case);
+    }
+}

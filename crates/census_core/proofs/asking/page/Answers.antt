@@ -4,7 +4,7 @@ use Rattle.census_core.proofs.Stepping.{then_with}
 use Rattle.census_core.proofs.asking.page.Goals as goal
 
 pub returns-clause-ok : goal.returns-clause-ok
-returns-clause-ok c = IfOk-weaker c.page_reply.result _ _ (λ reply done. then_with _ _ _ c.in_ok-replica.ensures.ok ∙ done) c.page_reply.ensures.ok
+returns-clause-ok c = IfOk-weaker c.page_reply.result _ _ (λ reply done. then_with _ _ _ c.in_ok-held.ensures.ok ∙ done) c.page_reply.ensures.ok
 
 pub returns-clause-err : goal.returns-clause-err
-returns-clause-err c = IfErr-weaker c.page_reply.result _ _ (λ e done other. then_with _ _ _ c.in_ok-replica.ensures.ok ∙ done other) c.page_reply.ensures.err
+returns-clause-err c = IfErr-weaker c.page_reply.result _ _ (λ e done other. then_with _ _ _ c.in_ok-held.ensures.ok ∙ done other) c.page_reply.ensures.err

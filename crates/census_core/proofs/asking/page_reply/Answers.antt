@@ -7,9 +7,9 @@ use Rattle.census_core.proofs.asking.page_reply.Goals as goal
 
 pub returns-clause-ok : goal.returns-clause-ok
 returns-clause-ok c =
-    let ops = listed c.args.replica.now.ops in
-    let shown = c.in_ok-page.ensures.ok ∙ ap (λ front. front ++ catalogue.page ops c.args.number) c.new-text.ensures.items in
-    ap (λ found. cond found (Ok (said (catalogue.page ops c.args.number))) (Err NoPage)) (sym c.in_ok-page.ensures.found ∙ c.if-not-branch.false)
+    let ops = listed c.args.held.now.ops in
+    let shown = c.in_ok-write_page_of.ensures.ok ∙ ap (λ front. front ++ catalogue.page ops c.args.number) c.new-text.ensures.items in
+    ap (λ found. cond found (Ok (said (catalogue.page ops c.args.number))) (Err NoPage)) (sym c.in_ok-write_page_of.ensures.found ∙ c.if-not-branch.false)
     ∙ ap (λ text. Ok (said text)) (sym shown)
     ∙ ap Ok (sym c.said.ensures)
 
@@ -21,4 +21,4 @@ returns-then-not-branch-clause-ok c = tt
 
 pub returns-then-not-branch-clause-err : goal.returns-then-not-branch-clause-err
 returns-then-not-branch-clause-err c = λ other.
-    ap (λ found. cond found (Ok (said (catalogue.page (listed c.args.replica.now.ops) c.args.number))) (Err NoPage)) (sym c.in_ok-page.ensures.found ∙ c.if-not-branch.true)
+    ap (λ found. cond found (Ok (said (catalogue.page (listed c.args.held.now.ops) c.args.number))) (Err NoPage)) (sym c.in_ok-write_page_of.ensures.found ∙ c.if-not-branch.true)

@@ -1,13 +1,13 @@
 use Rattle.std.proofs.Common.{◌++◌, ap, ◌∙◌}
-use Rattle.oct_ops.specs.Operations.{listed}
+use Rattle.oct_mex.specs.NimValues.{nim_values}
+use Rattle.oct_verify.specs.Filing.{GameBlocks, blocks_in}
+use Rattle.oct_verify.specs.Known.{known}
 use Rattle.oct_views.specs.Plot.{plot}
-use Rattle.oct_views.specs.Sheet.{game_sheet}
 use Rattle.census_core.proofs.asking.plot_text.Goals as goal
 
 pub returns : goal.returns
 returns c =
-    let code = c.args.code in
-    let game = c.in_ok-game.ensures ∙ ap (λ ops. game_sheet (listed ops) code) c.parts-parts.ensures.store in
+    let values = c.known_values.ensures.values ∙ ap (λ (h : GameBlocks). nim_values h.code (known (blocks_in h.blocks))) c.ledger.ensures in
     c.in_ok-write_plot.ensures.ok
-    ∙ ap (λ front. front ++ plot code c.in_ok-game.game.values.now c.in_ok-game.game.proved) c.new-text.ensures.items
-    ∙ (λ i. let g = game i in plot code g.values g.proved)
+    ∙ ap (λ front. front ++ plot c.code-code.result c.known_values.result.now c.proved_period-proved.result) c.new-text.ensures.items
+    ∙ (λ i. plot (c.code-code.ensures i) (values i) (c.proved_period-proved.ensures i))

@@ -15,10 +15,10 @@ told Holds (Some x) ops text whole same holds = subst Holds (same ∙ ap (λ o. 
 
 pub returns-clause-text : goal.returns-clause-text
 returns-clause-text g c =
-    let same = c.deref.ensures.value ∙ c.in_ok-catalogue.ensures.ok ∙ ap (λ front. front ++ catalogue (listed c.in_ok-intake.intake.replica.ops)) c.new-text.ensures.items in
+    let same = c.deref.ensures.value ∙ c.in_ok-write_catalogue_of.ensures.ok ∙ ap (λ front. front ++ catalogue (listed c.in_ok-intake.intake.said.ops)) c.new-text.ensures.items in
     told (λ text. Appends (g.W.Write.contents c.args.writer.now) (g.W.Write.contents c.write_out.new.writer) text) _ _ _ c.in_ok-intake.ensures.taken same c.in_ok-write_out.ensures.ok
 
 pub returns-in_err-write_out-clause-prefix : goal.returns-in_err-write_out-clause-prefix
 returns-in_err-write_out-clause-prefix g c _ =
-    let same = c.deref.ensures.value ∙ c.in_ok-catalogue.ensures.ok ∙ ap (λ front. front ++ catalogue (listed c.in_ok-intake.intake.replica.ops)) c.new-text.ensures.items in
+    let same = c.deref.ensures.value ∙ c.in_ok-write_catalogue_of.ensures.ok ∙ ap (λ front. front ++ catalogue (listed c.in_ok-intake.intake.said.ops)) c.new-text.ensures.items in
     told (λ text. AppendsPrefix (g.W.Write.contents c.args.writer.now) (g.W.Write.contents c.write_out.new.writer) text) _ _ _ c.in_ok-intake.ensures.taken same c.in_err-write_out.ensures.err

@@ -13,8 +13,8 @@ returns-in-Err-Version g c =
     let none = nothing_read c.texts_are_read.ensures c.args.bytes.now (λ i. omega (arith, c.type_inv.bytes i)) c.take.result c.in-Err-Version.field-0 c.in-Err-Version.is told c.take.ensures.version c.take.ensures.refused in
     record {
       taken =
-          ap (λ (r : RecordContent). r.ops) (unchanged c.args.replica.now c.take.new.self (listed (operations_of c.args.bytes.now)) c.in-Err-Version.field-0 told c.in-Err-Version.ensures.err)
-          ∙ none_of c.args.replica.now.ops c.args.bytes.now none;
+          ap (λ (r : RecordContent). r.ops) (unchanged c.args.said.now c.take.new.self (listed (operations_of c.args.bytes.now)) c.in-Err-Version.field-0 told c.in-Err-Version.ensures.err)
+          ∙ none_of c.args.said.now.ops c.args.bytes.now none;
       spelled = ap is_some (sym none);
       kind = search rules;
     }

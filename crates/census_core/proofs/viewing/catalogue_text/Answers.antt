@@ -4,4 +4,4 @@ use Rattle.oct_pages.specs.Catalogue.{catalogue}
 use Rattle.census_core.proofs.viewing.catalogue_text.Goals as goal
 
 pub returns : goal.returns
-returns c = c.in_ok-catalogue.ensures.ok ∙ ap (λ front. front ++ catalogue (listed c.args.replica.now.ops)) c.new-text.ensures.items
+returns c = c.in_ok-write_catalogue_of.ensures.ok ∙ ap (λ front. front ++ catalogue (listed c.args.held.now.ops)) c.new-text.ensures.items

@@ -1,12 +1,8 @@
 use Rattle.std.proofs.Common.{◌++◌, ap, ◌∙◌}
 use Rattle.oct_ops.specs.Operations.{listed}
-use Rattle.oct_views.specs.Contents.{sheet_content}
 use Rattle.oct_views.specs.Report.{report}
 use Rattle.oct_views.specs.Sheet.{sheet}
 use Rattle.census_core.proofs.viewing.report_text.Goals as goal
 
 pub returns : goal.returns
-returns c =
-    c.in_ok-write_report.ensures.ok
-    ∙ ap (λ front. front ++ report (sheet_content c.in_ok-sheet.sheet)) c.new-text.ensures.items
-    ∙ ap report (c.in_ok-sheet.ensures ∙ ap (λ ops. sheet (listed ops)) c.parts-parts.ensures.store)
+returns c = c.in_ok-write_report.ensures.ok ∙ ap (λ front. front ++ report (sheet (listed c.args.held.now.ops))) c.new-text.ensures.items

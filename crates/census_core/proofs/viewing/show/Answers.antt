@@ -5,7 +5,7 @@ use Rattle.census_core.proofs.viewing.show.Goals as goal
 
 pub returns-clause-ok : goal.returns-clause-ok
 returns-clause-ok c =
-    then_with _ _ _ c.in_ok-replica.ensures.ok
+    then_with _ _ _ c.in_ok-held.ensures.ok
     ∙ ap (λ text. Ok (said text)) (sym c.in_ok-text.ensures)
     ∙ ap Ok (sym c.said.ensures)
 

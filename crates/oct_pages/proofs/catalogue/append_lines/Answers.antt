@@ -1,13 +1,12 @@
-use Rattle.std.proofs.Common.{◌≡◌, [], ◌∷◌, ◌++◌, map, ap, ◌∙◌, subst}
+use Rattle.std.proofs.Common.{[], ◌∷◌, sym, subst}
 use Rattle.std.proofs.lemmas.Result.{on_ok_weaker}
 use Rattle.std.specs.List.{flat_map}
-use Rattle.oct_notes.proofs.Kept.{live_notes-of}
-use Rattle.oct_notes.specs.Notes.{live_notes}
 use Rattle.oct_ops.specs.Operations.{listed}
-use Rattle.oct_store.specs.Summary as summary
-use Rattle.oct_pages.specs.Catalogue.{author_line, ending, fork_line, game_lines, games, heading, note_line}
+use Rattle.oct_pages.specs.Catalogue.{game_lines, games, heading}
+use Rattle.oct_pages.specs.Rest.{lines_after_games}
 use Rattle.oct_pages.specs.Window.{Shown}
 use Rattle.oct_pages.proofs.Growing.{extends_trans}
+use Rattle.oct_pages.proofs.RestLines.{lines_split}
 use Rattle.oct_pages.proofs.Windows.{shown_then}
 use Rattle.oct_pages.proofs.catalogue.append_lines.Goals as goal
 
@@ -17,36 +16,14 @@ returns-in_err-show-clause-grown g c = c.show.ensures.grown
 pub returns-in_err-append_games-clause-grown : goal.returns-in_err-append_games-clause-grown
 returns-in_err-append_games-clause-grown g c = extends_trans _ _ _ c.show.ensures.grown c.append_games.ensures.grown
 
-pub returns-in_err-append_notes-clause-grown : goal.returns-in_err-append_notes-clause-grown
-returns-in_err-append_notes-clause-grown g c = extends_trans _ _ _ c.show.ensures.grown (extends_trans _ _ _ c.append_games.ensures.grown c.append_notes.ensures.grown)
-
-pub returns-in_err-append_forks-clause-grown : goal.returns-in_err-append_forks-clause-grown
-returns-in_err-append_forks-clause-grown g c =
-    extends_trans _ _ _ c.show.ensures.grown (extends_trans _ _ _ c.append_games.ensures.grown (extends_trans _ _ _ c.append_notes.ensures.grown c.append_forks.ensures.grown))
-
-pub returns-in_err-append_authors-clause-grown : goal.returns-in_err-append_authors-clause-grown
-returns-in_err-append_authors-clause-grown g c =
-    extends_trans _ _ _ c.show.ensures.grown (extends_trans _ _ _ c.append_games.ensures.grown (extends_trans _ _ _ c.append_notes.ensures.grown
-    (extends_trans _ _ _ c.append_forks.ensures.grown c.append_authors.ensures.grown)))
-
 pub returns-clause-ok : goal.returns-clause-ok
 returns-clause-ok g c =
-    let parts = c.args.parts.now in
-    let ops = listed parts.store.now in
+    let ops = listed c.args.parts.now.store.now in
     let all_games = flat_map (game_lines ops) (games ops) in
-    let notes = map note_line (live_notes ops) in
-    let all_forks = map (fork_line ops) (summary.forks ops) in
-    let all_authors = map (author_line ops) (summary.authors ops) in
-    let same : map note_line (live_notes (listed parts.notes.now)) ≡ notes = ap (map note_line) (ap (λ held. live_notes (listed held)) c.requires.notes ∙ live_notes-of parts.store.now) in
-    on_ok_weaker c.show-2.result (λ last.
-    shown_then _ _ _ _ _ _ (heading ∷ all_games ++ notes ++ all_forks ++ all_authors) (ending ∷ [])
-    (shown_then _ _ _ _ _ _ (heading ∷ all_games ++ notes ++ all_forks) all_authors
-    (shown_then _ _ _ _ _ _ (heading ∷ all_games ++ notes) all_forks
-    (shown_then _ _ _ _ _ _ (heading ∷ all_games) notes
-    (shown_then _ _ _ _ _ _ (heading ∷ []) all_games c.in_ok-show.ensures.ok c.in_ok-append_games.ensures.ok)
-    (subst (Shown _ _ _ _) same c.in_ok-append_notes.ensures.ok)) c.in_ok-append_forks.ensures.ok) c.in_ok-append_authors.ensures.ok) last) c.show-2.ensures.ok
+    on_ok_weaker c.append_rest.result (λ last.
+    subst (Shown _ _ _ _) (sym (lines_split ops))
+    (shown_then _ _ _ _ _ _ (heading ∷ all_games) (lines_after_games ops)
+    (shown_then _ _ _ _ _ _ (heading ∷ []) all_games c.in_ok-show.ensures.ok c.in_ok-append_games.ensures.ok) last)) c.append_rest.ensures.ok
 
 pub returns-clause-grown : goal.returns-clause-grown
-returns-clause-grown g c =
-    extends_trans _ _ _ c.show.ensures.grown (extends_trans _ _ _ c.append_games.ensures.grown (extends_trans _ _ _ c.append_notes.ensures.grown
-    (extends_trans _ _ _ c.append_forks.ensures.grown (extends_trans _ _ _ c.append_authors.ensures.grown c.show-2.ensures.grown))))
+returns-clause-grown g c = extends_trans _ _ _ c.show.ensures.grown (extends_trans _ _ _ c.append_games.ensures.grown c.append_rest.ensures.grown)

@@ -3,11 +3,10 @@ use Rattle.std.specs.List.{flat_map}
 use Rattle.oct_ops.specs.Operations.{listed}
 use Rattle.oct_pages.specs.Catalogue.{game_lines}
 use Rattle.oct_pages.specs.Groups.{or_none}
-use Rattle.oct_pages.proofs.GameParts.{entries_games}
+use Rattle.oct_pages.proofs.GameParts.{entries_games, entries_lines}
 use Rattle.oct_pages.proofs.Growing.{extends_same, extends_trans}
 use Rattle.oct_pages.proofs.NextGame.{AreGames, next_code, next_held, next_lines, rest_are}
 use Rattle.oct_pages.proofs.Windows.{showing, showing_next}
-use Rattle.oct_pages.proofs.games.append_games.Invariants.{entries_lines}
 use Rattle.oct_pages.proofs.games.append_games.Goals as goal
 
 pub loop-code-init : goal.loop-code-init

@@ -1,18 +1,11 @@
-use Rattle.std.proofs.Common.{List}
 use Rattle.std.specs.List.{AllByRecursion, flat_map}
-use Rattle.oct_code.specs.Code.{Code}
-use Rattle.oct_ops.specs.Body.{Operation}
 use Rattle.oct_ops.specs.Operations.{listed}
-use Rattle.oct_period.specs.GameContent.{GameContent}
-use Rattle.oct_pages.specs.Catalogue.{Text, game_lines, games}
+use Rattle.oct_pages.specs.Catalogue.{game_lines, games}
 use Rattle.oct_pages.specs.Growth.{Extends}
 use Rattle.oct_pages.specs.Parts.{IsGameOf}
+use Rattle.oct_pages.proofs.GameParts.{entries_lines}
 use Rattle.oct_pages.proofs.Windows.{Showing}
 use Rattle.oct_pages.proofs.games.append_games.Given as goal
-
--- the lines of the games of these entries
-abbrev pub entries_lines : List Operation → List (Code × GameContent) → List Text
-entries_lines ops entries = flat_map (λ (e : Code × GameContent). game_lines ops e.0) entries
 
 abbrev pub invariant-loop-code : goal.invariant-loop-code
 invariant-loop-code g l = record {

@@ -1,14 +1,38 @@
-use Rattle.std.proofs.Common.{[], ◌∷◌, ◌++◌, sym, ap, ◌∙◌}
-use Rattle.std.specs.Prelude.{codes}
-use Rattle.std.proofs.lemmas.List.Folds.{flat_map-map}
-use Rattle.std.proofs.lemmas.Result.{on_ok_weaker}
-use Rattle.oct_views.specs.Contents.{game_content}
-use Rattle.oct_views.specs.Report.{game_row}
-use Rattle.oct_views.specs.Tables.{table}
+use Rattle.std.proofs.Common.{◌≡◌, ◌++◌, sym, ap, ◌∙◌, subst}
+use Rattle.std.specs.List.{flat_map}
+use Rattle.oct_code.specs.Code.{Code}
+use Rattle.oct_ops.specs.Operations.{Operations, listed}
+use Rattle.oct_pages.proofs.BuiltGames.{AreHeld, all_held, rest_held}
+use Rattle.oct_views.specs.Report.{game_row, section}
+use Rattle.oct_views.specs.Sheet.{game_sheet}
+use Rattle.oct_views.proofs.Pushing.{text_pushed}
+use Rattle.oct_views.proofs.RecordGames.{each_text}
 use Rattle.oct_views.proofs.report.append_games.Goals as goal
 
-pub returns-clause-ok : goal.returns-clause-ok
-returns-clause-ok g c =
-    let columns = codes "code" ∷ codes "known heaps" ∷ codes "period" ∷ codes "proved blocks" ∷ codes "refuted blocks" ∷ codes "pending blocks" ∷ [] in
-    on_ok_weaker c.append_table.result
-    (λ e. e ∙ ap (λ rows. c.args.out.now.items ++ table (codes "Games") columns rows) (sym (flat_map-map game_row game_content c.args.games.now))) c.append_table.ensures.ok
+pub loop-code-init : goal.loop-code-init
+loop-code-init g c =
+    let ops = c.args.said.now.ops in
+    let games = c.games-games.result.now in
+    let ordered = c.len.ensures.ordered in
+    let all : c.into_iter-code-iterator.result ≡ games.entries = c.into_iter-code-iterator.ensures.into_iter_gives ∙ c.iter-code-items.ensures.rest in
+    let row = λ (e : Code × Operations). game_row (game_sheet (listed ops) e.0) in
+    let part = λ (e : Code × Operations). section (game_sheet (listed ops) e.0) in
+    record {
+      rows = ap (λ t. c.args.rows.now.items ++ t) (ap (flat_map row) all ∙ each_text ops games ordered c.games-games.ensures game_row);
+      sections = ap (λ t. c.args.sections.now.items ++ t) (ap (flat_map part) all ∙ each_text ops games ordered c.games-games.ensures section);
+      held = subst (AreHeld ops) (sym all) (all_held ops games ordered c.games-games.ensures);
+    }
+
+pub loop-code-preserved : goal.loop-code-preserved
+loop-code-preserved g c =
+    let ops = c.args.said.now.ops in
+    let row = λ (e : Code × Operations). game_row (game_sheet (listed ops) e.0) in
+    let part = λ (e : Code × Operations). section (game_sheet (listed ops) e.0) in
+    let here : Code × Operations = (c.in-Some.code.now, c.in-Some.ops.now) in
+    record {
+      rows = text_pushed row here c.next.new.self c.loop-code.rows.items c.append_game.new.rows.items _ c.in_ok-append_game.ensures.rows
+          (ap (λ es. c.loop-code.rows.items ++ flat_map row es) (sym c.in-Some.ensures.steps) ∙ c.loop-code.invariant.rows);
+      sections = text_pushed part here c.next.new.self c.loop-code.sections.items c.append_game.new.sections.items _ c.in_ok-append_game.ensures.sections
+          (ap (λ es. c.loop-code.sections.items ++ flat_map part es) (sym c.in-Some.ensures.steps) ∙ c.loop-code.invariant.sections);
+      held = rest_held ops _ _ _ _ c.in-Some.ensures.steps c.loop-code.invariant.held;
+    }

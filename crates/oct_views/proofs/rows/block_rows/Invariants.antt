@@ -1,7 +1,7 @@
-use Rattle.std.proofs.Common.{◌≡◌, true, ◌++◌, map, drop}
+use Rattle.std.proofs.Common.{◌≡◌, true, ◌++◌, map}
 use Rattle.std.specs.List.{list_all}
+use Rattle.oct_ops.specs.Operations.{listed}
 use Rattle.oct_ops.specs.Sets.{contains}
-use Rattle.oct_pages.proofs.GroupLaws.{lent_ops}
 use Rattle.oct_pages.specs.Catalogue.{blocks_of}
 use Rattle.oct_period.specs.Claims.{claims_in}
 use Rattle.oct_verify.specs.Filing.{blocks_in}
@@ -10,7 +10,7 @@ use Rattle.oct_views.proofs.rows.block_rows.Given as goal
 
 abbrev pub invariant-loop-op : goal.invariant-loop-op
 invariant-loop-op g l = record {
-  rows : l.rows.items ++ map (block_row (blocks_in l.game.blocks) (claims_in l.game.claims)) (blocks_of l.code (lent_ops (drop l.op-index l.ops)))
-      ≡ map (block_row (blocks_in l.game.blocks) (claims_in l.game.claims)) (blocks_of l.code (lent_ops l.ops));
-  held : list_all (contains l.game.blocks) (blocks_of l.code (lent_ops (drop l.op-index l.ops))) ≡ true;
+  rows : l.rows.items ++ map (block_row (blocks_in l.game.blocks) (claims_in l.game.claims)) (blocks_of l.code l.op-iterator)
+      ≡ map (block_row (blocks_in l.game.blocks) (claims_in l.game.claims)) (blocks_of l.code (listed l.ops));
+  held : list_all (contains l.game.blocks) (blocks_of l.code l.op-iterator) ≡ true;
 }

@@ -12,4 +12,5 @@ invariant_of-self g c = record {
   beside =
       subst (λ (s : Operations). AreBeside s (tree.get code_cmp c.unfile.new.games) c.unfile.new.notes) (sym c.remove.ensures.gone)
       (beside_less c.self.inside.store (tree.get code_cmp c.self.inside.games) (tree.get code_cmp c.unfile.new.games) c.self.inside.notes c.unfile.new.notes c.args.op.now c.self.invariant.beside c.unfile.ensures.games c.unfile.ensures.notes);
+  filled = c.unfile.ensures.filled c.self.invariant.filled;
 }

@@ -17,6 +17,7 @@ invariant_of-self-then-not-branch g c =
     record {
       author = c.self.invariant.author;
       beside = subst (λ (s : Operations). AreBeside s (tree.get code_cmp c.self.inside.games) c.self.inside.notes) (sym same) c.self.invariant.beside;
+      filled = c.self.invariant.filled;
     }
 
 -- what was put in is taken out again
@@ -33,6 +34,7 @@ invariant_of-self-in-Err g c =
       beside =
           subst (λ (s : Operations). AreBeside s (tree.get code_cmp c.file.new.games) c.file.new.notes) (sym back)
           (beside_same store (tree.get code_cmp c.self.inside.games) (tree.get code_cmp c.file.new.games) c.self.inside.notes c.file.new.notes c.self.invariant.beside c.in-Err.ensures.same_games c.in-Err.ensures.same_notes);
+      filled = c.in-Err.ensures.filled c.self.invariant.filled;
     }
 
 pub returns-in-Err-clause-err : goal.returns-in-Err-clause-err
@@ -54,4 +56,5 @@ invariant_of-self-in_default g c =
       beside =
           subst (λ (s : Operations). AreBeside s (tree.get code_cmp c.file.new.games) c.file.new.notes) (sym c.in_ok-share.ensures.ok)
           (beside_more store (tree.get code_cmp c.self.inside.games) (tree.get code_cmp c.file.new.games) c.self.inside.notes c.file.new.notes op c.self.invariant.beside c.in_default.ensures.games c.in_default.ensures.notes);
+      filled = c.in_default.ensures.filled c.self.invariant.filled;
     }

@@ -1,0 +1,42 @@
+use Rattle.std.proofs.Common.{◌≡◌, ◌++◌, sym, ap, ◌∙◌, subst}
+use Rattle.std.specs.List.{flat_map}
+use Rattle.oct_ops.specs.Operations.{listed}
+use Rattle.oct_pages.specs.Catalogue.{game_lines}
+use Rattle.oct_pages.proofs.BuiltGames.{AreHeld, all_held, codes_are, next_each, next_lines, rest_held}
+use Rattle.oct_pages.proofs.GameParts.{entries_games, entries_lines}
+use Rattle.oct_pages.proofs.Growing.{extends_same, extends_trans}
+use Rattle.oct_pages.proofs.Windows.{showing, showing_next}
+use Rattle.oct_pages.proofs.built.append_games_of.Goals as goal
+
+pub loop-code-init : goal.loop-code-init
+loop-code-init g c =
+    let ops = c.args.said.now.ops in
+    let held = c.games-held.result.now in
+    let all : c.into_iter-code-iterator.result ≡ held.entries = c.into_iter-code-iterator.ensures.into_iter_gives ∙ c.iter-code-items.ensures.rest in
+    let index = c.games-held.ensures in
+    record {
+      shown = showing _ _ _ _ (ap (entries_lines (listed ops)) all ∙ entries_games (listed ops) held.entries ∙ ap (flat_map (game_lines (listed ops))) (codes_are ops held c.len.ensures.ordered index));
+      each = subst (AreHeld ops) (sym all) (all_held ops held c.len.ensures.ordered index);
+      grown = extends_same c.args.out.now.items;
+    }
+
+pub append_built-requires : goal.append_built-requires
+append_built-requires g c = next_each c.args.said.now.ops _ _ _ _ c.in-Some.ensures.steps c.loop-code.invariant.each
+
+pub loop-code-preserved : goal.loop-code-preserved
+loop-code-preserved g c =
+    let ops = c.args.said.now.ops in
+    let lines = next_lines ops _ _ _ _ c.in-Some.ensures.steps c.loop-code.invariant.each in
+    record {
+      shown = showing_next _ _ _ _ _ _ _ _ _ (entries_lines (listed ops) c.next.new.self)
+          (ap (entries_lines (listed ops)) c.in-Some.ensures.steps ∙ ap (λ l. l ++ entries_lines (listed ops) c.next.new.self) lines)
+          c.loop-code.invariant.shown c.in_ok-append_built.ensures.ok;
+      each = rest_held ops _ _ _ _ c.in-Some.ensures.steps c.loop-code.invariant.each;
+      grown = extends_trans _ _ _ c.loop-code.invariant.grown c.in_ok-append_built.ensures.grown;
+    }
+
+pub returns-in_err-append_built-clause-grown : goal.returns-in_err-append_built-clause-grown
+returns-in_err-append_built-clause-grown g c = extends_trans _ _ _ c.loop-code.invariant.grown c.in_err-append_built.ensures.grown
+
+pub returns-clause-grown : goal.returns-clause-grown
+returns-clause-grown g c = c.loop-code.invariant.grown

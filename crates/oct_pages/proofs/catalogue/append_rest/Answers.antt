@@ -1,0 +1,38 @@
+use Rattle.std.proofs.Common.{◌≡◌, [], ◌∷◌, ◌++◌, map, ap, ◌∙◌, subst}
+use Rattle.std.proofs.lemmas.Result.{on_ok_weaker}
+use Rattle.oct_notes.proofs.Kept.{live_notes-of}
+use Rattle.oct_notes.specs.Notes.{live_notes}
+use Rattle.oct_ops.specs.Operations.{listed}
+use Rattle.oct_store.specs.Summary as summary
+use Rattle.oct_pages.specs.Catalogue.{author_line, ending, fork_line, note_line}
+use Rattle.oct_pages.specs.Window.{Shown}
+use Rattle.oct_pages.proofs.Growing.{extends_trans}
+use Rattle.oct_pages.proofs.Windows.{shown_then}
+use Rattle.oct_pages.proofs.catalogue.append_rest.Goals as goal
+
+pub returns-in_err-append_notes-clause-grown : goal.returns-in_err-append_notes-clause-grown
+returns-in_err-append_notes-clause-grown g c = c.append_notes.ensures.grown
+
+pub returns-in_err-append_forks-clause-grown : goal.returns-in_err-append_forks-clause-grown
+returns-in_err-append_forks-clause-grown g c = extends_trans _ _ _ c.append_notes.ensures.grown c.append_forks.ensures.grown
+
+pub returns-in_err-append_authors-clause-grown : goal.returns-in_err-append_authors-clause-grown
+returns-in_err-append_authors-clause-grown g c = extends_trans _ _ _ c.append_notes.ensures.grown (extends_trans _ _ _ c.append_forks.ensures.grown c.append_authors.ensures.grown)
+
+pub returns-clause-ok : goal.returns-clause-ok
+returns-clause-ok g c =
+    let store = c.args.store.now in
+    let ops = listed store in
+    let notes = map note_line (live_notes ops) in
+    let all_forks = map (fork_line ops) (summary.forks ops) in
+    let all_authors = map (author_line ops) (summary.authors ops) in
+    let same : map note_line (live_notes (listed c.args.notes.now)) ≡ notes = ap (map note_line) (ap (λ held. live_notes (listed held)) c.requires ∙ live_notes-of store) in
+    on_ok_weaker c.show.result (λ last.
+    shown_then _ _ _ _ _ _ (notes ++ all_forks ++ all_authors) (ending ∷ [])
+    (shown_then _ _ _ _ _ _ (notes ++ all_forks) all_authors
+    (shown_then _ _ _ _ _ _ notes all_forks
+    (subst (Shown _ _ _ _) same c.in_ok-append_notes.ensures.ok) c.in_ok-append_forks.ensures.ok) c.in_ok-append_authors.ensures.ok) last) c.show.ensures.ok
+
+pub returns-clause-grown : goal.returns-clause-grown
+returns-clause-grown g c =
+    extends_trans _ _ _ c.append_notes.ensures.grown (extends_trans _ _ _ c.append_forks.ensures.grown (extends_trans _ _ _ c.append_authors.ensures.grown c.show.ensures.grown))

@@ -1,0 +1,22 @@
+use Rattle.std.proofs.Common.{◌≡◌, ◌+◌, ◌-◌, ◌≤◌, drop, take, ap, ◌∙◌, arith}
+use Rattle.std.proofs.lemmas.Result.{IfOk-weaker}
+use Rattle.oct_mex.specs.Held.{Held}
+use Rattle.oct_mex.specs.NimValues.{nim_values}
+use Rattle.oct_verify.specs.Filing.{GameBlocks, blocks_in}
+use Rattle.oct_verify.specs.Next.{next_values}
+use Rattle.oct_verify.proofs.Lookup.{part_of_values}
+use Rattle.oct_verify.proofs.ledger.Ledger.compute_next.Goals as goal
+
+pub returns-clause-values : goal.returns-clause-values
+returns-clause-values g c =
+    let game = c.args.self.now in
+    let start = c.known-start.result in
+    let held = c.extend_to.new.self in
+    let code : held.code ≡ game.code =
+    ap (λ (h : Held). h.code) c.in_ok-extend_to.ensures.ok ∙ ap (λ (h : GameBlocks). h.code) c.self.view_is in
+    let far : start + c.args.count ≤ held.len = omega (arith, ap (λ (h : Held). h.len) c.in_ok-extend_to.ensures.ok) in
+    let part : take (start + c.args.count - start) (drop start c.as_slice.result.now) ≡ next_values game.code (blocks_in game.blocks) c.args.count =
+    ap (λ vs. take (start + c.args.count - start) (drop start vs)) c.as_slice.ensures.values
+    ∙ part_of_values held.code held.len start c.args.count far
+    ∙ (λ i. drop (c.known-start.ensures.value i) (nim_values (code i) (c.known-start.ensures.value i + c.args.count))) in
+    IfOk-weaker c.from_slice.result _ _ (λ next is. is ∙ part) c.from_slice.ensures.items

@@ -1,0 +1,144 @@
+#!/usr/bin/env bash
+# What a hub keeps of its state: a session that brings nothing leaves the file as it is, with its inode and its time; what other
+# commands add meanwhile is given to the next peer; what a session brings is in the file after it, also where it ended by a fault;
+# and a file that is gone, or is another one, is seen by the next peer.
+# Takes some seconds, and never more than a minute; the connections are on the loopback, on a free port.
+#
+#     hub.sh [PROGRAM [WORD ..]]          the program is ../census where none is named
+set -Eeuo pipefail
+top=$(cd "$(dirname "${BASH_SOURCE[0]}")/.." && pwd)
+census=("${@:-$top/census}")
+census[0]=$(command -v "${census[0]}") && census[0]=$(realpath -s "${census[0]}")
+"${census[@]}" --help >/dev/null # builds the program, where it was not built
+
+# Each background job has a process group of its own, so that it ends as a whole.
+set -m
+room=$(mktemp -d)
+cd "$room"
+clean() {
+  local job
+  for job in $(jobs -p); do kill -KILL -- "-$job" || true; done 2>/dev/null
+  wait 2>/dev/null || true
+  rm -rf "$room"
+}
+trap clean EXIT
+trap 'echo "hub: this failed, at line $LINENO: $BASH_COMMAND" >&2; cat served faults >&2 2>/dev/null' ERR
+trap 'echo "hub: it took more than 55 seconds" >&2; exit 1' TERM
+(sleep 55 && kill -TERM $$) &
+
+census() {
+  "${census[@]}" "$@"
+}
+
+# Waits until the file has so many lines that begin with the words.
+await() {
+  until [ "$(grep -c "^$3" "$1")" -ge "$2" ]; do sleep 0.05; done
+}
+
+# How many lines the file has.
+count() {
+  wc -l <"$1"
+}
+
+# Which file the hub's state is, and when it was last written and changed.
+identity() {
+  stat -c '%d %i %s %y %z' hub
+}
+
+# An exchange of Anna's, after which the hub says this of it.
+exchange() {
+  local turn=$(count served) # the first line says where it listens
+  test "$(census sync anna "$address")" = 'done'
+  await served "$turn" 'peer '
+  grep -qx "peer 127.0.0.1:[0-9]* $1" <(tail -n 1 served)
+}
+
+# A peer that sends these bytes, whose fault the hub says; it closes the connection before that, or else after it. The bytes go
+# out in one write, since the hub may close the connection at the first of them that is no frame.
+broken() {
+  local turn=$(($(count faults) + 1))
+  printf "$2" >sent
+  exec 3<>"/dev/tcp/${address%:*}/${address##*:}"
+  cat sent >&3
+  if [ "$1" = closed ]; then exec 3>&-; fi
+  await faults "$turn" 'census: peer '
+  if [ "$1" = open ]; then exec 3>&-; fi
+}
+
+# Bytes as printf takes them, and a number as four.
+escaped() {
+  od -An -v -tx1 "$@" | tr -d '\n' | sed 's/ /\\x/g'
+}
+four() {
+  printf '\\x%02x' $(($1 >> 24 & 255)) $(($1 >> 16 & 255)) $(($1 >> 8 & 255)) $(($1 & 255))
+}
+
+clock='\0\0\0\5\1\0\0\0\0' # one that covers nothing
+census init hub 9 >/dev/null
+census init anna 1 >/dev/null
+census note hub first 'of the hub' >/dev/null
+census hub hub 127.0.0.1:0 --peers 14 --patience 20 >served 2>faults &
+hub=$!
+await served 1 'listening on '
+address=$(sed -n 's/^listening on //p' served)
+
+# The peer takes what the hub has, and brings nothing; and once more, where neither has anything new.
+before=$(identity)
+exchange 'new 0 operations 1'
+census show anna | grep -qx 'note first 9.1 of the hub'
+exchange 'new 0 operations 1'
+# Peers that send nothing, rubbish, or a clock alone.
+broken closed ''
+broken open 'GET / HTTP/1.0\r\n\r\n'
+broken closed "$clock"
+test "$(identity)" = "$before"
+
+# What another command adds while the hub runs is given to the next peer, who brings nothing again.
+census note hub second 'of the hub' >/dev/null
+before=$(identity)
+exchange 'new 0 operations 2'
+census show anna | grep -qx 'note second 9.2 of the hub'
+test "$(identity)" = "$before"
+
+# What a peer brings is in the file after its session; the next one brings nothing.
+census note anna own 'of Anna' >/dev/null
+exchange 'new 1 operations 3'
+test "$(identity)" != "$before"
+census show hub | grep -qx 'note own 1.1 of Anna'
+before=$(identity)
+exchange 'new 0 operations 3'
+test "$(identity)" = "$before"
+
+# Also where the session ends by a fault: a clock, a delta with a note of Ben's, and a length that no frame has.
+census init ben 2 >/dev/null
+census note ben cut 'of Ben' >/dev/null
+census delta ben ben.delta >/dev/null
+broken open "$clock$(four $(($(stat -c %s ben.delta) + 1)))\\2$(escaped ben.delta)\\377\\377\\377\\377"
+census show hub | grep -qx 'note cut 2.1 of Ben'
+before=$(identity)
+exchange 'new 0 operations 4'
+census show anna | grep -qx 'note cut 2.1 of Ben'
+test "$(identity)" = "$before"
+
+# A state that is gone is a fault for the peer, and nothing is made in its place; with the file, all is as before.
+mv hub away
+if census sync anna "$address" 2>refused; then exit 1; fi
+await faults 5 'census: peer '
+tail -n 1 faults | grep -q ' File$'
+test ! -e hub
+mv away hub
+exchange 'new 0 operations 4'
+
+# Another file in its place is read, be it an older one of the same state.
+census note anna late 'of Anna' >/dev/null
+cp hub older
+exchange 'new 1 operations 5'
+mv older hub
+exchange 'new 1 operations 5'
+census show hub | grep -qx 'note late 1.2 of Anna'
+
+wait "$hub"
+test "$(wc -l <faults)" = 5
+census show anna >catalogue
+census show hub | diff - catalogue
+echo "a hub wrote its state where a session brought something, and read it again where it was another file"
