@@ -14,10 +14,9 @@ use Rattle.oct_pages.specs.GamesIn.{content_in}
 use Rattle.oct_record.specs.Content.{RecordContent}
 use Rattle.oct_store.specs.Summary.{beyond, of_game}
 use Rattle.oct_views.specs.Bfile.{bfile_text}
-use Rattle.oct_views.specs.ByGame.{sheet_by}
 use Rattle.oct_views.specs.Plot as picture
-use Rattle.oct_views.specs.Sheet.{GameSheet, game_sheet}
-use Rattle.oct_views.proofs.GameLaws.{sheet_by-is}
+use Rattle.oct_pages.specs.Sheet.{GameSheet, game_sheet, sheet_by}
+use Rattle.oct_pages.proofs.SheetLaws.{sheet_by-is}
 use Rattle.census_core.specs.Asking.{delta_of}
 use Rattle.census_core.specs.Codes.{code_of, read_code}
 use Rattle.census_core.specs.Lines.{number_line}

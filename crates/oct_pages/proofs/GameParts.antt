@@ -1,18 +1,16 @@
 -- What a game says is what its blocks and claims among the operations say.
-use Rattle.std.proofs.Common.{◌≡◌, ℕ, ◌+◌, ◌-◌, Bool, true, false, not, ◌&&◌, List, [], ◌∷◌, ◌++◌, map, Option, Some, None, refl, sym, ap, ◌∙◌, subst}
-use Rattle.std.specs.Prelude.{IsTrue, nat_lt}
+use Rattle.std.proofs.Common.{◌≡◌, ℕ, ◌+◌, ◌-◌, Bool, true, List, [], ◌∷◌, ◌++◌, map, Option, Some, None, refl, sym, ap, ◌∙◌, subst}
+use Rattle.std.specs.Prelude.{IsTrue}
 use Rattle.std.specs.List.{flat_map, list_all, list_any, cons_option}
-use Rattle.std.specs.Cmp.{first_so, second_so}
+use Rattle.std.specs.Cmp.{second_so}
 use Rattle.std.specs.Map.{keys_of}
 use Rattle.oct_code.specs.Code.{Code}
-use Rattle.oct_mex.specs.NimValues.{nim_values}
 use Rattle.oct_ops.specs.Body.{Operation}
 use Rattle.oct_ops.specs.Operation.{Block, Period}
 use Rattle.oct_ops.specs.Sets as sets
 use Rattle.oct_verify.specs.Filing.{Filing, blocks_in}
 use Rattle.oct_verify.specs.FilingLaws.{filing_cmp_total, filing_cmp_exact}
-use Rattle.oct_verify.specs.declared.status.Status.TheVariants.{Pending}
-use Rattle.oct_verify.specs.Known.{known, verdict, shows, is_shown}
+use Rattle.oct_verify.specs.Known.{known, shows, is_shown}
 use Rattle.oct_verify.proofs.KnownLaws.{known_is, known_one}
 use Rattle.oct_period.specs.Claims.{Claim, claims_in}
 use Rattle.oct_period.specs.ClaimLaws.{claim_cmp_total, claim_cmp_exact}
@@ -20,19 +18,10 @@ use Rattle.oct_period.specs.FarBlocks.{has_proved}
 use Rattle.oct_period.specs.GameContent.{GameContent}
 use Rattle.oct_period.specs.Periods.{first_break, is_proved, status_at}
 use Rattle.oct_period.specs.declared.status.PeriodStatus.{PeriodStatus}
-use Rattle.oct_pages.specs.Groups.{lines_by}
-use Rattle.oct_pages.specs.Catalogue.{Text, blocks_of, claims_of, game_lines, game_text, block_text, period_text, values_lines}
-use Rattle.oct_pages.specs.Parts.{IsGameOf, claims_set, filings_of}
+use Rattle.oct_pages.specs.Catalogue.{Text, blocks_of, claims_of, game_lines}
+use Rattle.oct_pages.specs.GamesIn.{IsGameOf, claims_set, filings_of}
 use Rattle.oct_pages.proofs.Held.{each_held}
 use Rattle.oct_pages.proofs.Members.{any-map, any-listed}
-
-alone : (a : Bool) → a ≡ true → (a && true) ≡ true
-alone true h = refl
-alone false h = cc
-
-pub held_first : {X : Type 0} (p : X → Bool) (m : Option X) (rest : List X) → list_all p (cons_option m rest) ≡ true → list_all p (cons_option m []) ≡ true
-held_first p None rest h = refl
-held_first p (Some x) rest h = alone (p x) (first_so (p x) (list_all p rest) h)
 
 pub held_rest : {X : Type 0} (p : X → Bool) (m : Option X) (rest : List X) → list_all p (cons_option m rest) ≡ true → list_all p rest ≡ true
 held_rest p None rest h = h
@@ -77,17 +66,6 @@ module _ (ops : List Operation) (c : Code) (game : GameContent) (is : IsGameOf o
       ∙ any-map (proves mine) (λ (p : Claim). p.1) (sets.listed (claims_set ops c))
       ∙ any-listed claim_cmp_total claim_cmp_exact (λ (p : Claim). proves mine p.1) (claims_of c ops)
       ∙ sym (any-map (proves mine) (λ (p : Claim). p.1) (claims_of c ops))
-
--- a game's lines, by what is kept of it, and by any operations that have its blocks and its claims
-pub game_lines-is : (ops : List Operation) (c : Code) (game : GameContent) (group : List Operation) → IsGameOf ops c game → blocks_of c group ≡ blocks_of c ops → claims_of c group ≡ claims_of c ops
-    → game_lines ops c ≡ lines_by c game group
-game_lines-is ops c game group is blocks claims =
-    let known_here = sym (same_known ops c game is) in
-    let proved_here = sym (same_proved ops c game is) in
-    λ i. game_text c (known_here i)
-    ∷ values_lines (nim_values (sym is.code i) (known_here i))
-    ++ map (λ (f : Filing). block_text f.0 f.1 (elim (nat_lt (known_here i) f.1.start && not (proved_here i)) [ true ↦ Pending | false ↦ verdict f.1 ])) (sym blocks i)
-    ++ map (λ (p : Claim). period_text p.0 p.1 (by_known (known_here i) p.1)) (sym claims i)
 
 -- the lines of the games of these entries
 abbrev pub entries_lines : {V : Type 0} → List Operation → List (Code × V) → List Text

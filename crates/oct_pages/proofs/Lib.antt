@@ -9,6 +9,7 @@ pub mod Building
 pub mod BuiltGames
 pub mod Keys
 pub mod RestLines
-pub mod GroupLaws
-pub mod NextGame
+mod GroupLaws
+mod Pushing
+pub mod SheetLaws
 mod Windows

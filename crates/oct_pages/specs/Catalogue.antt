@@ -84,11 +84,12 @@ status_text of_block.Proved = codes " proved"
 status_text (of_block.Refuted place claimed truth) = refutation_text place claimed truth
 status_text of_block.Pending = codes " pending"
 
-abbrev pub block_head_text : Dot → Block → Text
-block_head_text d b = codes "block " ++ dot_text d ++ labelled (codes " at ") b.start ++ labelled (codes " count ") (length b.values)
+-- where the block begins, and how many values it has
+abbrev pub block_head_text : Dot → ℕ → ℕ → Text
+block_head_text d start count = codes "block " ++ dot_text d ++ labelled (codes " at ") start ++ labelled (codes " count ") count
 
 abbrev pub block_text : Dot → Block → Status → Text
-block_text d b s = block_head_text d b ++ status_text s ++ codes "\n"
+block_text d b s = block_head_text d b.start (length b.values) ++ status_text s ++ codes "\n"
 
 abbrev pub block_line : List Block → List Period → Dot × Block → Text
 block_line blocks claims b = block_text b.0 b.1 (block_status blocks claims b.1)

@@ -1,8 +1,8 @@
 pub use Rattle.oct_ops.specs.Operations
 pub mod Catalogue
+pub mod Contents
 pub mod GamesIn
-pub mod Groups
 pub mod Growth
-pub mod Parts
 pub mod Rest
+pub mod Sheet
 pub mod Window

@@ -1,13 +1,13 @@
 //! The lines of a game and its blocks.
 
 ghost use Rattle.std.specs.Prelude.{◌≡◌, ◌++◌, OnOk};
-ghost use Rattle.oct_pages.specs.Catalogue.{game_text, block_text, block_head_text, refutation_text, status_text};
+ghost use Rattle.oct_pages.specs.Catalogue.{game_text, block_head_text, refutation_text, status_text};
 ghost use Rattle.oct_pages.specs.Growth.{Extends};
 
 use crate::line::Line;
+use crate::statuses::BlockRow;
 use crate::words::{append_labelled, append_labelled_dot, append_text};
 use oct_code::Code;
-use oct_ops::{Block, Dot};
 use oct_verify::Status;
 use std::alloc::{AllocError, Allocator};
 
@@ -15,7 +15,7 @@ use std::alloc::{AllocError, Allocator};
 #[derive(Drop)]
 pub(crate) struct GameHead<'a> {
     pub(crate) code: &'a Code,
-    pub(crate) known: u32,
+    pub(crate) known: usize,
 }
 
 impl Line for GameHead<'_> {
@@ -59,34 +59,24 @@ fn append_refutation<A: Allocator>(
     append_labelled(out, b" true ", truth)
 }
 
-/// What the line of a block says.
-#[derive(Drop)]
-pub(crate) struct BlockLine<'a, A: Allocator> {
-    pub(crate) dot: Dot,
-    pub(crate) block: &'a Block<A>,
-    pub(crate) status: Status,
-}
+impl Line for BlockRow {
+    ghost use Rattle.oct_pages.specs.Sheet.{block_row_text};
 
-impl<B: Allocator> Line for BlockLine<'_, B> {
-    ghost spelled = { λ l. block_text l.dot l.block.now l.status };
+    ghost spelled = { block_row_text };
 
     fn append<A: Allocator>(&self, out: &mut Vec<u8, A>) -> Result<(), AllocError> {
-        append_block_head(out, self.dot, self.block)?;
+        append_block_head(out, self)?;
         append_block_status(out, &self.status)?;
         append_text(out, b"\n")
     }
 }
 
 // Appends which block it is, where it begins and how many values it has.
-fn append_block_head<A: Allocator, B: Allocator>(
-    out: &mut Vec<u8, A>,
-    dot: Dot,
-    block: &Block<B>,
-) -> Result<(), AllocError>
-    ensures ok { OnOk result (out.new.items ≡ out.old.items ++ block_head_text dot block.now) }
+fn append_block_head<A: Allocator>(out: &mut Vec<u8, A>, row: &BlockRow) -> Result<(), AllocError>
+    ensures ok { OnOk result (out.new.items ≡ out.old.items ++ block_head_text row.now.dot row.now.start row.now.count) }
     ensures grown { Extends out.old.items out.new.items }
 {
-    append_labelled_dot(out, b"block ", dot)?;
-    append_labelled(out, b" at ", block.start())?;
-    append_labelled(out, b" count ", block.end() - block.start())
+    append_labelled_dot(out, b"block ", row.dot)?;
+    append_labelled(out, b" at ", row.start)?;
+    append_labelled(out, b" count ", row.count)
 }

@@ -1,28 +1,23 @@
 //! The lines of a game's period claims.
 
 ghost use Rattle.std.specs.Prelude.{◌≡◌, ◌++◌, OnOk};
-ghost use Rattle.oct_pages.specs.Catalogue.{period_status_text, period_text, period_head_text};
+ghost use Rattle.oct_pages.specs.Catalogue.{period_status_text, period_head_text};
 ghost use Rattle.oct_pages.specs.Growth.{Extends};
 
 use crate::line::Line;
+use crate::statuses::PeriodRow;
 use crate::words::{append_labelled, append_labelled_dot, append_text};
 use oct_ops::{Dot, Period};
 use oct_period::PeriodStatus;
 use std::alloc::{AllocError, Allocator};
 
-/// What the line of a claim says.
-#[derive(Drop)]
-pub(crate) struct PeriodLine<'a> {
-    pub(crate) dot: Dot,
-    pub(crate) period: &'a Period,
-    pub(crate) status: PeriodStatus,
-}
+impl Line for PeriodRow {
+    ghost use Rattle.oct_pages.specs.Sheet.{period_row_text};
 
-impl Line for PeriodLine<'_> {
-    ghost spelled = { λ l. period_text l.dot l.period.now l.status };
+    ghost spelled = { period_row_text };
 
     fn append<A: Allocator>(&self, out: &mut Vec<u8, A>) -> Result<(), AllocError> {
-        append_period_head(out, self.dot, self.period)?;
+        append_period_head(out, self.dot, &self.period)?;
         append_period_status(out, &self.status)?;
         append_text(out, b"\n")
     }

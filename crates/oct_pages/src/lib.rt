@@ -13,11 +13,11 @@
 //! Each game comes with its known nim-values, its blocks and its period claims, each with its status. Then come the
 //! live notes by name, the dots that came with several contents, and the authors. A page is 64 lines of it.
 //!
-//! - `write_catalogue` appends the text, `write_page` one page of it.
-//! - `Parts` is what they read: the operations, and beside them each game and the notes.
-//! - `write_catalogue_of` and `write_page_of` append the same from a record of what was said, for whoever keeps no games:
-//!   each game is built when its lines are due, and dropped after them. `game_of` builds one.
-//! - `groups_of` gives the operations of each game, of which `block_of_game` and `claim_of_game` know their kind.
+//! - `write_catalogue` appends the text of a record of what was said, `write_page` one page of it, for whoever keeps games; one
+//!   that is not kept is built when its lines are due, and let go after them.
+//! - `write_catalogue_of` and `write_page_of` do so where no game is kept. `game_of` builds one.
+//! - `GameSheet` is what the lines of a game tell, and what other views show of it: its known nim-values, its blocks and its
+//!   claims with their statuses. It is read off a game once.
 //! - `append_text`, `append_number`, `append_dot` and the rest of `words` append a part of a line.
 //!
 //! `specs/Catalogue` is this text, line by line.
@@ -28,18 +28,20 @@ mod blocks;
 mod built;
 mod catalogue;
 mod claims;
+mod game;
+mod game_sheet;
 mod games;
-mod groups;
 mod line;
 mod notes;
+mod statuses;
 mod values;
 mod window;
 mod words;
 
 pub use built::game_of;
-pub use catalogue::{Parts, write_catalogue, write_catalogue_of, write_page, write_page_of};
-pub use games::{block_of_game, claim_of_game};
-pub use groups::{Groups, groups_of};
+pub use catalogue::{write_catalogue, write_catalogue_of, write_page, write_page_of};
+pub use game::GameSheet;
+pub use statuses::{BlockRow, PeriodRow};
 pub use words::{
     append_dot, append_labelled, append_labelled_dot, append_labelled_text, append_number,
     append_text,

@@ -1,5 +1,5 @@
 -- The values of heaps and positions are nim-values.
-use Rattle.std.proofs.Common.{◌≡◌, ℕ, zero, suc, ◌+◌, ◌-◌, ◌%◌, ◌<◌, ◌≤◌, length, get_or, true, false, cond, ltb, bit_xor, List, [], ◌∷◌, Option, Some, None, Result, Ok, Err, refl, sym, ap, ◌∙◌, subst, arith}
+use Rattle.std.proofs.Common.{◌≡◌, ℕ, zero, suc, ◌+◌, ◌-◌, ◌%◌, ◌<◌, ◌≤◌, length, get_or, Bool, true, false, cond, ltb, bit_xor, List, [], ◌∷◌, Option, Some, None, Result, Ok, Err, refl, sym, ap, ◌∙◌, subst, arith}
 use Rattle.std.proofs.lemmas.Bool.{false≢true, ltb-false, ltb-true}
 use Rattle.std.proofs.lemmas.List.Elements.{All-head, All-tail}
 use Rattle.std.specs.List.{All, find}
@@ -95,3 +95,27 @@ all_reached c blocks claim i (n ∷ heaps) whole h k d low =
     at_place : (v : ℕ) → heap_value_by c blocks (option_map (λ (e : Claim). e.1) claim) n ≡ Some v → All (IsReached blocks claim) heaps → (k : ℕ) → k < suc (length heaps) → IsReached blocks claim (get_or (n ∷ heaps) k d)
     at_place v is rest zero low = by_blocks_or_claim c blocks claim n v is
     at_place v is rest (suc k) low = rest k d (omega arith)
+
+-- ---- what the blocks alone give is what they give with any claim
+
+pub heap_by_blocks : (c : Code) (blocks : List Block) (p : Option Period) (n value : ℕ) → heap_value_by c blocks None n ≡ Some value → heap_value_by c blocks p n ≡ Some value
+heap_by_blocks c blocks p n value = elim (ltb n (known blocks)) as (λ b. ◌≡◌ {A = Option ℕ} (elim b [ true ↦ Some (nim_value c n) | false ↦ None ]) (Some value) → ◌≡◌ {A = Option ℕ} (elim b [ true ↦ Some (nim_value c n) | false ↦ value_by c n p ]) (Some value)) [
+  | true ↦ λ is. is
+  | false ↦ λ is. cc
+]
+
+pub position_by_blocks : (c : Code) (blocks : List Block) (p : Option Period) (i : ℕ) (heaps : List ℕ) (whole : ℕ)
+    → position_value_from (heap_value_by c blocks None) i heaps ≡ Ok whole → position_value_from (heap_value_by c blocks p) i heaps ≡ Ok whole
+position_by_blocks c blocks p i [] whole = λ h. h
+position_by_blocks c blocks p i (n ∷ heaps) whole =
+    let by : Option Period → Bool → Result ℕ Unknown = λ q b. elim (elim b as (λ _. Option ℕ) [ true ↦ Some (nim_value c n) | false ↦ value_by c n q ]) [
+      | None ↦ Err (record { index = i })
+      | Some v ↦ xor_onto v (position_value_from (heap_value_by c blocks q) (i + 1) heaps)
+    ] in
+    elim (ltb n (known blocks)) as (λ b. by None b ≡ Ok whole → by p b ≡ Ok whole) [
+      | true ↦ λ h.
+          let v = nim_value c n in
+          let parts = xor_ok v whole (position_value_from (heap_value_by c blocks None) (i + 1) heaps) h in
+          ap (xor_onto v) (position_by_blocks c blocks p (i + 1) heaps parts.0 parts.1) ∙ ap Ok (sym parts.2)
+      | false ↦ λ h. cc
+    ]

@@ -1,7 +1,6 @@
 //! What is known of a game.
 
 ghost use Rattle.std.specs.Prelude.{◌≡◌, ◌+◌, ◌≤◌, length, true, false, Some, IfErr, IfOk, IfSome, OnErr, OnOk};
-ghost use Rattle.std.specs.Option.{IsSome};
 ghost use Rattle.oct_code.specs.declared.limits.TheConstants.{LIMIT};
 ghost use Rattle.oct_mex.specs.NimValues.{nim_value, position_value as nim_sum};
 ghost use Rattle.oct_mex.specs.Periods.{IsPeriodicFrom};
@@ -15,7 +14,7 @@ ghost use Rattle.oct_period.specs.Moving.{winning_move, IsWinningAnswer};
 ghost use Rattle.oct_period.specs.Outcomes.{outcome, IsOutcomeOf};
 ghost use Rattle.oct_period.specs.Periods.{heap_value, position_value};
 ghost use Rattle.oct_period.specs.Proved.{IsProvedBy};
-ghost use Rattle.oct_verify.specs.Filing.{block_of, blocks_in};
+ghost use Rattle.oct_verify.specs.Filing.{blocks_in};
 ghost use Rattle.oct_verify.specs.Known.{known};
 ghost use Rattle.oct_verify.specs.Next.{next_values};
 
@@ -112,24 +111,13 @@ impl<A: Allocator + Copy> Game<A> {
         ensures absent { OnErr result (has_body self.old op.now.value.dot op.now.value.body ≡ false) }
     {
         match op.body() {
-            Body::Block(_) => self.share_block(op),
+            Body::Block(_) => self.ledger.share(op),
             Body::Period(period) => match self.insert_period(op.dot(), *period) {
                 Ok(()) => Ok(()),
                 Err((refusal, _)) => Err(refusal),
             },
             Body::Note(_) | Body::Removal(_) => unreachable!(),
         }
-    }
-
-    // Puts in the block of an operation of the game, which is shared.
-    fn share_block(&mut self, op: &Rc<Op<A>, A>) -> Result<(), AllocError>
-        requires block { IsSome (block_of op.now.value.body) }
-        requires game { game_of op.now.value ≡ Some self.old.code }
-        ensures ok { OnOk result (self.new ≡ with_body self.old op.now.value.dot op.now.value.body) }
-        ensures err { OnErr result (self.new ≡ self.old) }
-        ensures absent { OnErr result (has_body self.old op.now.value.dot op.now.value.body ≡ false) }
-    {
-        self.ledger.share(op)
     }
 
     /// The blocks of the game.
@@ -193,19 +181,27 @@ impl<A: Allocator + Copy> Game<A> {
         find_period(&self.ledger)
     }
 
-    /// The nim-value of a heap of any size: by the blocks below the known length, and otherwise by a proved claim.
+    /// The nim-value of a heap of any size: by the blocks below the known length, and otherwise by a proved claim, which is looked
+    /// for only then.
     pub fn heap_value(&self, heap: u64) -> Option<u32>
         ensures value { result ≡ heap_value self.now.code (blocks_in self.now.blocks) (claims_in self.now.claims) heap }
         ensures right { IfSome result (λ value. value ≡ nim_value self.now.code heap) }
     {
+        if let Some(value) = heap_value_by(&self.ledger, None, heap) {
+            return Some(value);
+        }
         heap_value_by(&self.ledger, self.proved_claim(), heap)
     }
 
-    /// The exclusive or of the nim-values of a position's heaps, or the first heap that has none.
+    /// The exclusive or of the nim-values of a position's heaps, or the first heap that has none. A proved claim is looked for
+    /// only where a heap is at or past the known length.
     pub fn position_value(&self, heaps: &[u64]) -> Result<u32, Unknown>
         ensures value { result ≡ position_value self.now.code (blocks_in self.now.blocks) (claims_in self.now.claims) heaps.now }
         ensures right { IfOk result (λ value. value ≡ nim_sum self.now.code heaps.now) }
     {
+        if let Ok(value) = position_value_by(&self.ledger, &None, heaps) {
+            return Ok(value);
+        }
         position_value_by(&self.ledger, &self.proved_claim(), heaps)
     }
 

@@ -4,6 +4,8 @@ use Rattle.std.specs.Prelude.{IfSome}
 use Rattle.std.specs.List.{list_any, filter, filter_map, cons_option}
 use Rattle.std.specs.Ordering.{eq_by_cmp, is_eq}
 use Rattle.std.specs.Cmp.{Equal-is, tied_itself}
+use Rattle.std.specs.BTreeMap as tree
+use Rattle.std.specs.BTreeMap.{BTreeMap}
 use Rattle.std.specs.BTreeSet.{insert_key}
 use Rattle.oct_code.specs.Code.{Code, code_cmp, code_eq}
 use Rattle.oct_code.specs.CodeOrder.{code_cmp_exact, code_cmp_total}
@@ -21,6 +23,7 @@ use Rattle.oct_period.specs.Claims.{claim_cmp}
 use Rattle.oct_period.specs.ClaimLaws.{claim_cmp_total, claim_cmp_exact}
 use Rattle.oct_period.specs.GameContent.{GameContent}
 use Rattle.oct_pages.specs.Catalogue.{blocks_of, block_in, claims_of, claim_in, if_some, under}
+use Rattle.oct_pages.specs.GamesIn.{AreGamesIn}
 use Rattle.oct_replica.specs.Beside.{Games, content_in, has_game, game_in, AreBeside, HasOwnCode, new_game, game_at, after, with_block, with_period, filed}
 use Rattle.oct_replica.proofs.Inserting.{insert_option, filter_map-insert, any-insert}
 
@@ -219,3 +222,11 @@ none_is ops c none = by (has_game ops c) refl
     by : (b : Bool) → has_game ops c ≡ b → new_game c ≡ content_in ops c
     by false e = sym (no_game ops c e)
     by true e = let clash : None ≡ Some (content_in ops c) = none ∙ ap (λ b. cond b (Some (content_in ops c)) None) e in cc
+
+-- the games that are kept are those of the set
+pub are_in : (ops : Operations) (games : BTreeMap Code GameContent) → AreBeside ops (tree.get code_cmp games) → AreGamesIn ops games
+are_in ops games beside c = subst (λ m. IfSome m (λ game. game ≡ content_in ops c)) (sym (beside c)) (by (has_game ops c))
+  where
+    by : (b : Bool) → IfSome (cond b (Some (content_in ops c)) None) (λ game. game ≡ content_in ops c)
+    by true = refl
+    by false = tt

@@ -6,7 +6,6 @@ pub mod Headline
 pub mod Inserting
 mod Lines
 pub mod Members
-mod Parts
 mod Places
 mod Rows
 mod Schedules

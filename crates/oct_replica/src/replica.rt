@@ -25,7 +25,6 @@ ghost use Rattle.oct_period.specs.Moving.{winning_move, IsWinningAnswer};
 ghost use Rattle.oct_period.specs.Outcomes.{outcome, IsOutcomeOf};
 ghost use Rattle.oct_period.specs.Periods.{position_value};
 ghost use Rattle.oct_pages.specs.Catalogue.{catalogue, has_page, page as page_text};
-ghost use Rattle.oct_pages.specs.Parts.{AreParts};
 ghost use Rattle.oct_replica.specs.Beside.{content_in, game_in};
 ghost use Rattle.oct_replica.specs.Computing.{compute_fault, next_block as block_after};
 ghost use Rattle.oct_record.specs.Removals.{removal_fault, RefusesRemoval};
@@ -41,7 +40,7 @@ use oct_code::Code;
 use oct_delta::EncodeError;
 use oct_join::Clock;
 use oct_ops::{Block, Body, Dot, Op, OpList, Period, Removal};
-use oct_pages::{Parts, write_catalogue, write_page};
+use oct_pages::{write_catalogue, write_page};
 use oct_period::{Game, Move, Outcome, Unknown};
 use oct_record::taking::{issue, join, take, take_each, take_list};
 use oct_record::{
@@ -321,7 +320,7 @@ impl<A: Allocator + Copy> Replica<A> {
         ensures ok { OnOk result (out.new.items ≡ out.old.items ++ catalogue (listed self.now.ops)) }
         ensures err { OnErr result (out.new.items ≡ out.old.items) }
     {
-        write_catalogue(self.said.allocator(), &self.parts(), out)
+        write_catalogue(&self.said, &self.games, out)
     }
 
     /// Appends one page of that catalogue, its lines from `64 * number` on, at most 64 of them, and says whether there is
@@ -332,21 +331,7 @@ impl<A: Allocator + Copy> Replica<A> {
         ensures none { IfOk result (λ found. found ≡ false → out.new.items ≡ out.old.items) }
         ensures err { OnErr result (out.new.items ≡ out.old.items) }
     {
-        write_page(self.said.allocator(), &self.parts(), number, out)
-    }
-
-    /// What a catalogue and the views are made from: the operations, and beside them the games and the notes. Takes no
-    /// memory.
-    pub fn parts(&self) -> Parts<'_, A>
-        ensures store { result.store.now ≡ self.now.ops }
-        ensures parts { AreParts result.store.now result.games.now result.notes.now }
-    {
-        prove!(self.games.len() <= usize::MAX);
-        Parts {
-            store: self.said.store(),
-            games: &self.games,
-            notes: self.said.notes(),
-        }
+        write_page(&self.said, &self.games, number, out)
     }
 
     /// Appends the text of the replica to `out`: `OGS1`, the author, and the delta of all operations. The answer is

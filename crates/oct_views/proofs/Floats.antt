@@ -9,8 +9,8 @@ use Rattle.oct_verify.specs.declared.status.Status.{Status}
 use Rattle.oct_verify.specs.declared.status.Status.TheVariants as of_block
 use Rattle.oct_views.specs.Json.{author_data, block_by, block_data, count, document, fork_data, game_data, op_data, period_by, period_data}
 use Rattle.oct_views.specs.Sheet.{GameSheet, Sheet}
-use Rattle.oct_views.specs.declared.rows.BlockRow.{BlockRow}
-use Rattle.oct_views.specs.declared.rows.PeriodRow.{PeriodRow}
+use Rattle.oct_pages.specs.declared.statuses.BlockRow.{BlockRow}
+use Rattle.oct_pages.specs.declared.statuses.PeriodRow.{PeriodRow}
 use Rattle.serde_json.specs.Data.{Data}
 use Rattle.serde_json.specs.View.{items_of}
 use Rattle.serde_json.specs.Written.{has_float, items_have_float}

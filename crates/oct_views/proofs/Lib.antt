@@ -1,7 +1,6 @@
 pub mod Ascii
 pub mod Floats
 mod Escaping
-pub mod GameLaws
 pub mod Joined
 pub mod LineEnds
 pub mod Listing

@@ -1,14 +1,7 @@
 -- Lists that a loop makes of those items that yield something.
-use Rattle.std.proofs.Common.{◌≡◌, ℕ, List, [], ◌∷◌, ◌++◌, map, Option, Some, None, ap, ◌∙◌, append_assoc}
-use Rattle.std.specs.List.{cons_option, flat_map}
+use Rattle.std.proofs.Common.{◌≡◌, ℕ, List, [], ◌∷◌, ◌++◌, map, ap, ◌∙◌, append_assoc}
+use Rattle.std.specs.List.{flat_map}
 use Rattle.std.proofs.lemmas.List.{map-append}
-
--- the item yields something
-pub one_pushed : {X Y : Type 0} (f : X → Y) (m : Option X) (x : X) (y : Y) (rest : List X) (old new all : List Y) → Some x ≡ m → y ≡ f x → new ≡ old ++ y ∷ []
-    → old ++ map f (cons_option m rest) ≡ all → new ++ map f rest ≡ all
-one_pushed f m x y rest old new all some is pushed so_far =
-    ap (λ l. l ++ map f rest) pushed ∙ append_assoc old (y ∷ []) (map f rest)
-    ∙ (λ i. old ++ is i ∷ map f rest) ∙ ap (λ o. old ++ map f (cons_option o rest)) some ∙ so_far
 
 -- each item yields something
 pub row_pushed : {X Y Z : Type 0} (f : X → Y) (g : Z → Y) (x : X) (z : Z) (rest : List Z) (old new : List X) (all : List Y) → f x ≡ g z → new ≡ old ++ x ∷ []

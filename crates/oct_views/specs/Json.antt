@@ -11,8 +11,8 @@ use Rattle.oct_store.specs.declared.fork.Fork.{Fork}
 use Rattle.oct_verify.specs.declared.status.Status.{Status}
 use Rattle.oct_verify.specs.declared.status.Status.TheVariants as of_block
 use Rattle.oct_views.specs.Sheet.{GameSheet, Sheet}
-use Rattle.oct_views.specs.declared.rows.BlockRow.{BlockRow}
-use Rattle.oct_views.specs.declared.rows.PeriodRow.{PeriodRow}
+use Rattle.oct_pages.specs.declared.statuses.BlockRow.{BlockRow}
+use Rattle.oct_pages.specs.declared.statuses.PeriodRow.{PeriodRow}
 use Rattle.serde_json.specs.Data.{Data, null, number, string, array, object, member, no_members, unsigned}
 use Rattle.serde_json.specs.View.{items_of}
 

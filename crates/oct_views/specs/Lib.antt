@@ -2,8 +2,6 @@ pub use Rattle.oct_ops.specs.Operations
 pub mod Axes
 pub mod Bfile
 pub mod BfileLaws
-pub mod ByGame
-pub mod Contents
 pub mod Json
 pub mod Escape
 pub mod Pieces

@@ -19,8 +19,8 @@ use Rattle.oct_views.specs.Plot.{plot, proved_text}
 use Rattle.oct_views.specs.Sheet.{GameSheet, Sheet}
 use Rattle.oct_views.specs.Styles.{page_style}
 use Rattle.oct_views.specs.Tables.{table}
-use Rattle.oct_views.specs.declared.rows.BlockRow.{BlockRow}
-use Rattle.oct_views.specs.declared.rows.PeriodRow.{PeriodRow}
+use Rattle.oct_pages.specs.declared.statuses.BlockRow.{BlockRow}
+use Rattle.oct_pages.specs.declared.statuses.PeriodRow.{PeriodRow}
 
 -- ---- the summary of the games
 

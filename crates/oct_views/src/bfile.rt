@@ -8,7 +8,7 @@ ghost use Rattle.oct_views.specs.Bfile.{bfile_of, bfile_text, end_len, ends_line
 use crate::bfile_error::BfileError;
 use crate::bfile_line::{BfileLine, line_of};
 use oct_code::LIMIT;
-use oct_pages::{append_labelled, append_text};
+use oct_pages::{append_labelled, append_number, append_text};
 use std::alloc::{AllocError, Allocator};
 
 /// The values that a b-file lists.
@@ -54,7 +54,7 @@ fn append_row<A: Allocator>(
     ensures ok { OnOk result (out.new.items ≡ out.old.items ++ row_text number value) }
     ensures grown { Extends out.old.items out.new.items }
 {
-    append_text(out, itoa::Buffer::new().format(number).as_bytes())?;
+    append_number(out, number)?;
     append_labelled(out, b" ", value)?;
     append_text(out, b"\n")
 }

@@ -6,9 +6,9 @@ ghost use Rattle.oct_views.specs.Report.{refutation_row, status_word};
 
 use crate::pieces::Piece::{Dot as DotText, Number, Text};
 use crate::pieces::append_pieces;
-use crate::rows::BlockRow;
 use crate::tables::Rows;
 use oct_ops::Dot;
+use oct_pages::BlockRow;
 use oct_verify::Status;
 use std::alloc::{AllocError, Allocator};
 

@@ -4,13 +4,12 @@ ghost use Rattle.std.specs.Prelude.{◌≡◌, ◌++◌, OnOk, length};
 ghost use Rattle.oct_pages.specs.Growth.{Extends};
 ghost use Rattle.oct_views.specs.Report.{count_cells, count_of, is_pending, is_proved, is_refuted, known_cells};
 
-use crate::game::GameSheet;
 use crate::pieces::Piece::{Code as CodeText, Number, Text};
 use crate::pieces::append_pieces;
 use crate::plot::append_proved;
-use crate::rows::BlockRow;
 use crate::tables::Rows;
 use oct_code::Code;
+use oct_pages::{BlockRow, GameSheet};
 use oct_verify::Status;
 use std::alloc::{AllocError, Allocator};
 
@@ -18,7 +17,7 @@ use std::alloc::{AllocError, Allocator};
 pub(crate) struct Games;
 
 impl<'a, B: Allocator + Copy> Rows<GameSheet<'a, B>> for Games {
-    ghost use Rattle.oct_views.specs.Contents.{game_content};
+    ghost use Rattle.oct_pages.specs.Contents.{game_content};
     ghost use Rattle.oct_views.specs.Report.{game_row};
 
     ghost text = { λ game. game_row (game_content game) };

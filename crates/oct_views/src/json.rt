@@ -9,10 +9,9 @@ ghost use Rattle.oct_store.specs.Summary as summary;
 ghost use Rattle.oct_views.specs.Json.{document, document_of, game_data, list};
 ghost use Rattle.oct_views.specs.Sheet.{game_sheet, sheet};
 
-use crate::game::GameSheet;
 use oct_code::Code;
 use oct_join::OpSet;
-use oct_pages::game_of;
+use oct_pages::{GameSheet, game_of};
 use oct_record::Record;
 use serde_json::{Value, json};
 use std::alloc::{AllocError, Global};

@@ -6,11 +6,10 @@ ghost use Rattle.serde_json.specs.View.{view};
 ghost use Rattle.oct_code.specs.CodeText.{code_text};
 ghost use Rattle.oct_views.specs.Json.{note_data, pending_period, plain_block, proved_period, refuted_block, refuted_period, word};
 
-use crate::game::GameSheet;
 use crate::json::{ToJson, array_of};
-use crate::rows::{BlockRow, PeriodRow};
 use oct_code::Code;
 use oct_ops::{Body, Dot, Note, Op};
+use oct_pages::{BlockRow, GameSheet, PeriodRow};
 use oct_period::PeriodStatus;
 use oct_store::{Author, Fork};
 use oct_verify::Status;
@@ -134,7 +133,7 @@ fn pending_period(alloc: Global, row: &PeriodRow, needs: u32) -> Result<Value, A
 }
 
 impl ToJson for GameSheet<'_, Global> {
-    ghost use Rattle.oct_views.specs.Contents.{game_content};
+    ghost use Rattle.oct_pages.specs.Contents.{game_content};
     ghost use Rattle.oct_views.specs.Json.{game_data};
 
     ghost form = { λ g. game_data (game_content g) };

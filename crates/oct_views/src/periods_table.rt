@@ -6,9 +6,9 @@ ghost use Rattle.oct_views.specs.Report.{period_cells, period_status};
 
 use crate::pieces::Piece::{Dot as DotText, Number, Text};
 use crate::pieces::append_pieces;
-use crate::rows::PeriodRow;
 use crate::tables::Rows;
 use oct_ops::{Dot, Period};
+use oct_pages::PeriodRow;
 use oct_period::PeriodStatus;
 use std::alloc::{AllocError, Allocator};
 

@@ -8,7 +8,7 @@ ghost use Rattle.oct_views.specs.Pieces.{piece_text};
 use crate::escape::append_escaped;
 use oct_code::Code;
 use oct_ops::Dot;
-use oct_pages::{append_dot, append_text};
+use oct_pages::{append_dot, append_number, append_text};
 use std::alloc::{AllocError, Allocator};
 
 /// A piece of a text.
@@ -47,7 +47,7 @@ fn append_piece<A: Allocator>(out: &mut Vec<u8, A>, piece: &Piece<'_>) -> Result
 {
     match piece {
         Piece::Text(text) => append_text(out, text),
-        Piece::Number(number) => append_text(out, itoa::Buffer::new().format(*number).as_bytes()),
+        Piece::Number(number) => append_number(out, *number),
         Piece::Dot(dot) => append_dot(out, *dot),
         Piece::Code(code) => code.append_text(out),
         Piece::Escaped(text) => append_escaped(out, text),

@@ -9,7 +9,6 @@ ghost use Rattle.oct_store.specs.Summary as summary;
 ghost use Rattle.oct_views.specs.Report.{game_row, games_table_of, page_end, page_head, report, section};
 ghost use Rattle.oct_views.specs.Sheet.{game_sheet, sheet};
 
-use crate::game::GameSheet;
 use crate::games_table::Games;
 use crate::pieces::Piece::Text;
 use crate::pieces::append_pieces;
@@ -18,7 +17,7 @@ use crate::sections::Sections;
 use crate::tables::{Rows, append_table, append_written_table};
 use oct_code::Code;
 use oct_join::OpSet;
-use oct_pages::{append_text, game_of};
+use oct_pages::{GameSheet, append_text, game_of};
 use oct_record::Record;
 use std::alloc::{AllocError, Allocator};
 

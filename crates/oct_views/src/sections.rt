@@ -3,17 +3,17 @@
 
 ghost use Rattle.std.specs.Prelude.{◌≡◌, ◌++◌, OnOk};
 ghost use Rattle.oct_pages.specs.Growth.{Extends};
-ghost use Rattle.oct_views.specs.Contents.{game_content};
+ghost use Rattle.oct_pages.specs.Contents.{game_content};
 ghost use Rattle.oct_views.specs.Report.{figure, game_tables};
 
 use crate::blocks_tables::{Blocks, Refutations};
-use crate::game::GameSheet;
 use crate::periods_table::Periods;
 use crate::pieces::Piece::{Code as CodeText, Text};
 use crate::pieces::append_pieces;
 use crate::plot::append_plot;
 use crate::tables::{Rows, append_table};
 use crate::values_table::append_values_table;
+use oct_pages::GameSheet;
 use std::alloc::{AllocError, Allocator};
 
 /// Sections of the games.

@@ -1,7 +1,4 @@
-use Rattle.std.proofs.Common.{arith, ◌≡◌, ◌-◌, ◌++◌, ◌∙◌, length}
-use Rattle.std.specs.Prelude.{codes}
 use Rattle.std.proofs.lemmas.Result.{on_ok_weaker}
-use Rattle.oct_pages.specs.Catalogue.{dot_text, labelled}
 use Rattle.oct_pages.proofs.Growing.{extends_trans, grown_thrice}
 use Rattle.oct_pages.proofs.blocks.append_block_head.Goals as goal
 
@@ -13,11 +10,7 @@ returns-in_err-append_labelled-clause-grown g c = extends_trans _ _ _ c.append_l
 
 pub returns-clause-ok : goal.returns-clause-ok
 returns-clause-ok g c =
-    let start : c.start.result ≡ c.args.block.now.start = c.start.ensures.value in
-    let count : c.end.result - c.start-2.result ≡ length c.args.block.now.values = omega (arith, c.end.ensures.value, c.start-2.ensures.value) in
-    on_ok_weaker c.append_labelled-2.result (λ last.
-    grown_thrice c.args.out.now.items _ _ _ _ _ _ c.in_ok-append_labelled_dot.ensures.ok c.in_ok-append_labelled.ensures.ok last
-    ∙ (λ i. c.args.out.now.items ++ (codes "block " ++ dot_text c.args.dot ++ labelled (codes " at ") (start i) ++ labelled (codes " count ") (count i)))) c.append_labelled-2.ensures.ok
+    on_ok_weaker c.append_labelled-2.result (λ last. grown_thrice _ _ _ _ _ _ _ c.in_ok-append_labelled_dot.ensures.ok c.in_ok-append_labelled.ensures.ok last) c.append_labelled-2.ensures.ok
 
 pub returns-clause-grown : goal.returns-clause-grown
 returns-clause-grown g c = extends_trans _ _ _ c.append_labelled_dot.ensures.grown (extends_trans _ _ _ c.append_labelled.ensures.grown c.append_labelled-2.ensures.grown)

@@ -1,4 +1,4 @@
-use Rattle.std.proofs.Common.{[], ◌∷◌, sym, subst}
+use Rattle.std.proofs.Common.{[], ◌∷◌, sym, ap, subst}
 use Rattle.std.proofs.lemmas.Result.{on_ok_weaker}
 use Rattle.std.specs.List.{flat_map}
 use Rattle.oct_ops.specs.Operations.{listed}
@@ -18,12 +18,13 @@ returns-in_err-append_games-clause-grown g c = extends_trans _ _ _ c.show.ensure
 
 pub returns-clause-ok : goal.returns-clause-ok
 returns-clause-ok g c =
-    let ops = listed c.args.parts.now.store.now in
+    let ops = listed c.args.said.now.ops in
     let all_games = flat_map (game_lines ops) (games ops) in
     on_ok_weaker c.append_rest.result (λ last.
     subst (Shown _ _ _ _) (sym (lines_split ops))
     (shown_then _ _ _ _ _ _ (heading ∷ all_games) (lines_after_games ops)
-    (shown_then _ _ _ _ _ _ (heading ∷ []) all_games c.in_ok-show.ensures.ok c.in_ok-append_games.ensures.ok) last)) c.append_rest.ensures.ok
+    (shown_then _ _ _ _ _ _ (heading ∷ []) all_games c.in_ok-show.ensures.ok c.in_ok-append_games.ensures.ok)
+    (subst (Shown _ _ _ _) (ap (λ store. lines_after_games (listed store)) c.store.ensures) last))) c.append_rest.ensures.ok
 
 pub returns-clause-grown : goal.returns-clause-grown
 returns-clause-grown g c = extends_trans _ _ _ c.show.ensures.grown (extends_trans _ _ _ c.append_games.ensures.grown c.append_rest.ensures.grown)

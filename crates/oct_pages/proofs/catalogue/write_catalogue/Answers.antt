@@ -7,4 +7,4 @@ use Rattle.oct_pages.proofs.catalogue.write_catalogue.Goals as goal
 
 pub returns-clause-ok : goal.returns-clause-ok
 returns-clause-ok g c =
-    on_ok_weaker c.append_shown.result (λ shown. shown.text ∙ ap (λ t. c.args.out.now.items ++ t) (all_seen (lines (listed c.args.parts.now.store.now)))) c.append_shown.ensures.ok
+    on_ok_weaker c.append_shown.result (λ shown. shown.text ∙ ap (λ t. c.args.out.now.items ++ t) (all_seen (lines (listed c.args.said.now.ops)))) c.append_shown.ensures.ok

@@ -4,7 +4,7 @@ use Rattle.oct_ops.specs.Operations.{listed}
 use Rattle.oct_views.specs.Json.{game_data}
 use Rattle.oct_views.specs.Sheet.{game_sheet}
 use Rattle.serde_json.specs.View.{view}
-use Rattle.oct_views.proofs.GameLaws.{group_held, sheet_by-is}
+use Rattle.oct_pages.proofs.SheetLaws.{group_held, sheet_by-is}
 use Rattle.oct_views.proofs.json.game_value.Goals as goal
 
 pub of_game-requires : goal.of_game-requires

@@ -1,7 +1,7 @@
 use Rattle.std.proofs.Common.{◌++◌, ap, ◌∙◌}
 use Rattle.std.proofs.lemmas.Result.{on_ok_weaker}
 use Rattle.oct_views.specs.Report.{game_row, section}
-use Rattle.oct_views.proofs.GameLaws.{group_held, sheet_by-is}
+use Rattle.oct_pages.proofs.SheetLaws.{group_held, sheet_by-is}
 use Rattle.oct_views.proofs.report.append_game.Goals as goal
 
 pub of_game-requires : goal.of_game-requires
