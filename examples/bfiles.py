@@ -1,7 +1,7 @@
 #!/usr/bin/env python3
 """Claims b-files whose values stand in the literature, and looks at what the catalogue says of them: all of them proved, and where one
-value was changed, the block refuted at that heap. Then the b-file that the program prints is claimed into another state, and files
-that are no b-files are refused by their first faulty line. Takes some seconds.
+value was changed, the block refuted at that heap; `check` says the same of each value, with no state. Then the b-file that the
+program prints is claimed into another state, and files that are no b-files are refused by their first faulty line. Takes some seconds.
 
     bfiles.py [PROGRAM [WORD ..]]         the program is ../census where none is named
 """
@@ -97,11 +97,36 @@ def check(room, code, values):
     due = ["proved", f"refuted at {at} claimed {values[at] + 1} true {values[at]}"] + ["pending"] * (blocks - 2)
     same(f"blocks of {code} with one value changed", statuses(wrong), due)
 
+    checked(room, code, values, at)
+
     printed = done("bfile", true, code)
     same(f"b-file of {code}", printed, text(values))
     ends = printed.replace("\n", "\r\n").replace(" ", " \t ").encode()
     same(f"{code} again", done("claim", again, code, write(room, "b.txt", b"# a b-file\r\n" + ends)), issued(values))
     same(f"blocks of {code} again", statuses(again), ["proved"] * blocks)
+
+
+def answered(path, code):
+    """What `check` says of a file, and its status."""
+    ran = census("check", code, path)
+    same(f"what check says of {code} beside its verdict", ran.stderr, "")
+    return ran.returncode, ran.stdout
+
+
+def checked(room, code, values, at):
+    """Right values, one wrong one, a part from a later heap on, and a hundred and more wrong ones."""
+    whole = write(room, "b.txt", text(values).encode())
+    same(f"check of {code}", answered(whole, code), (0, f"{len(values)} values, all right\n"))
+    changed = [v + (n == at) for n, v in enumerate(values)]
+    one = write(room, "b.txt", text(changed).encode())
+    due = f"heap {at}: {values[at] + 1} in the file, {values[at]} is right\n"
+    same(f"check of {code} with one value changed", answered(one, code), (1, due))
+    part = write(room, "b.txt", "".join(f"{n} {values[n]}\n" for n in range(at, at + 9)).encode())
+    same(f"check of a part of {code}", answered(part, code), (0, "9 values, all right\n"))
+    for count, end in ((100, ""), (101, "and 1 more\n"), (len(values), f"and {len(values) - 100} more\n")):
+        some = write(room, "b.txt", text([v + 1 for v in values[:count]]).encode())
+        lines = [f"heap {n}: {v + 1} in the file, {v} is right\n" for n, v in enumerate(values[:100])]
+        same(f"check of {count} wrong values of {code}", answered(some, code), (1, "".join(lines) + end))
 
 
 def main():
@@ -114,6 +139,10 @@ def main():
         for content, fault in BAD:
             ran = census("claim", state, "0.77", write(room, "b.txt", content))
             same(repr(content), (ran.returncode, ran.stdout, ran.stderr), (1, "", f"census: {fault}\n"))
+            ran = census("check", "0.77", os.path.join(room, "b.txt"))
+            same(f"check of {content!r}", (ran.returncode, ran.stdout, ran.stderr), (1, "", f"census: {fault}\n"))
+        ran = census("check", "0.87", os.path.join(room, "b.txt"))
+        same("check of a word that is no code", (ran.returncode, ran.stdout, ran.stderr), (1, "", "census: Code Digit\n"))
         same("the state after faults", open(state, "rb").read(), before)
     print(f"{len(GAMES)} b-files of {COUNT} values from the literature are proved, changed ones refuted, and {len(BAD)} texts refused")
 

@@ -1,4 +1,5 @@
 pub mod Asking
+pub mod Checking
 pub mod Claiming
 pub mod Codes
 pub mod Extending

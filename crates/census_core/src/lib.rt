@@ -4,6 +4,7 @@
 //! - `perform` does a `Request`, from the bytes of the state file and of another file to the `Reply` that is to be written;
 //!   `perform_watched` tells a `Progress` how far it is.
 //! - `search` says which period the nim-values of a game prove, computed until they prove one.
+//! - `check` compares a b-file with computed values.
 //! - `unite` makes one delta of several files.
 //! - `rejoin` gives what a state file is to hold after a session, and `unchanged` what is said after one that brought nothing.
 //! - `import_block` reads the block of a JSON value, and `number` a word of the command line.
@@ -12,6 +13,7 @@
 #![tactic(auto)]
 
 mod asking;
+mod checking;
 mod claiming;
 mod codes;
 mod command;
@@ -42,6 +44,7 @@ mod unions;
 mod viewing;
 mod words;
 
+pub use checking::{Checked, check};
 pub use command::{perform, perform_watched};
 pub use fault::Fault;
 pub use fold::{fold_intake, fold_lines};

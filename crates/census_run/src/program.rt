@@ -10,7 +10,7 @@ use crate::state_file::StateFile;
 use crate::task::{Task, read_task};
 use crate::turns::{Games, give_turns};
 use census_core::{
-    Fault, Progress, Reply, Request, fold_intake, perform, perform_watched, search, unite,
+    Fault, Progress, Reply, Request, check, fold_intake, perform, perform_watched, search, unite,
 };
 use clap::error::ErrorKind;
 use oct_code::Code;
@@ -64,7 +64,7 @@ where
     match command.try_get_matches_from(words) {
         Ok(matches) => match read_task(alloc, &matches) {
             Ok(task) => match done(rt, &task, input, output, errors, is_watched) {
-                Ok(()) => 0,
+                Ok(status) => status,
                 Err(fault) => refuse(errors, fault),
             },
             Err(fault) => refuse(errors, fault),
@@ -102,7 +102,7 @@ fn show<O: Write, E: Write>(
     }
 }
 
-// Does the task.
+// Does the task, and gives the exit status: 0, or 1 where a file was checked and is not right.
 fn done<R, I, O, E>(
     rt: &R,
     task: &Task<'_>,
@@ -110,7 +110,7 @@ fn done<R, I, O, E>(
     output: &mut O,
     errors: &mut E,
     is_watched: bool,
-) -> Result<(), Fault>
+) -> Result<u8, Fault>
 where
     R: Files<File = File> + AllocGlobal + Net<Stream = TcpStream, Listener = TcpListener> + Clock,
     I: Read,
@@ -118,16 +118,17 @@ where
     E: Write,
 {
     match task {
-        Task::Fold => fold(rt.alloc(), input, output, errors),
+        Task::Fold => fold(rt.alloc(), input, output, errors)?,
         Task::Search { count, codes } => {
             let mut progress = ProgressLine::new(rt, errors, is_watched);
-            search_each(rt, *count, codes, output, &mut progress)
+            search_each(rt, *count, codes, output, &mut progress)?;
         }
+        Task::Check { code, file } => return check_file(rt, code, file, output),
         Task::Manual => {
             let page = manual_page(rt.alloc())?;
-            Ok(write_out(output, page.as_bytes())?)
+            write_out(output, page.as_bytes())?;
         }
-        Task::Init { state, id } => init(rt, state, *id, output),
+        Task::Init { state, id } => init(rt, state, *id, output)?,
         Task::Change {
             state,
             read,
@@ -135,26 +136,27 @@ where
         } => {
             let mut progress = ProgressLine::new(rt, errors, is_watched);
             match Games::of(state, request) {
-                Some(games) => give_turns(rt, games, output, &mut progress),
-                None => change(rt, state, *read, request, output, &mut progress),
+                Some(games) => give_turns(rt, games, output, &mut progress)?,
+                None => change(rt, state, *read, request, output, &mut progress)?,
             }
         }
-        Task::Union { out, deltas } => union(rt, out, deltas, output),
+        Task::Union { out, deltas } => union(rt, out, deltas, output)?,
         Task::Ask {
             state,
             written,
             request,
-        } => ask(rt, state, *written, request, output),
+        } => ask(rt, state, *written, request, output)?,
         Task::Serve { place } => {
             serve(rt, *place)?;
-            Ok(write_out(output, b"done\n")?)
+            write_out(output, b"done\n")?;
         }
         Task::Sync { place } => {
             sync(rt, *place)?;
-            Ok(write_out(output, b"done\n")?)
+            write_out(output, b"done\n")?;
         }
-        Task::Hub { place, peers } => hub(rt, *place, *peers, output, errors),
+        Task::Hub { place, peers } => hub(rt, *place, *peers, output, errors)?,
     }
+    Ok(0)
 }
 
 // Folds the input, and says how many lines were refused.
@@ -190,6 +192,18 @@ where
         write_out(output, &searched?)?;
     }
     Ok(())
+}
+
+// Compares the values of a file with those of a game. The status is 0 where all are right, and else 1.
+fn check_file<R, O>(rt: &R, code: &str, file: &str, output: &mut O) -> Result<u8, Fault>
+where
+    R: Files + AllocGlobal,
+    O: Write,
+{
+    let bytes = read_file(rt, file)?;
+    let checked = check(rt.alloc(), code.as_bytes(), &bytes)?;
+    write_out(output, &checked.text)?;
+    Ok(u8::from(checked.wrong > 0))
 }
 
 // Makes a state file, where nothing stands in its place.

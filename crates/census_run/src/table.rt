@@ -23,6 +23,7 @@ pub(crate) struct Row {
 pub(crate) enum Does {
     Fold,
     Search,
+    Check,
     Manual,
     Init,
     /// Changes a state.
@@ -174,6 +175,24 @@ Exit status: 0 done (also where there is no period), 1 refused: Code, PastValue 
 
 Example:
   census search 1000000 0.16",
+    },
+    Row {
+        name: "check",
+        words: &[words::CODE, words::BFILE],
+        options: &[],
+        does: Does::Check,
+        line: "Compares the values of a b-file with the nim-values of a game",
+        about: "Compares the values of a b-file with the nim-values of a game, which it computes; nothing is issued",
+        after: "\
+Prints a line for each wrong value, the first 100 of them, and how many more there are; or that all
+are right. Lines of the file end by LF, CR LF or CR, and empty lines and those that begin with # are
+passed over.
+
+Exit status: 0 all are right, 1 some are wrong, or refused: Code, Bfile (Form, Order or PastLimit and
+the first faulty line, or Empty); 2 command line, 3 file, 4 memory
+
+Example:
+  census check 0.77 b002186.txt",
     },
     Row {
         name: "manual",

@@ -20,6 +20,11 @@ pub(crate) enum Task<'a> {
         count: u64,
         codes: Vec<Code>,
     },
+    /// How the values of a b-file compare with those of a game.
+    Check {
+        code: &'a str,
+        file: &'a str,
+    },
     /// The page of the manual.
     Manual,
     /// A new state file of this author.
@@ -78,6 +83,10 @@ fn task_of<'a>(alloc: Global, does: Does, found: &ArgMatches<'a>) -> Result<Task
         Does::Search => Ok(Task::Search {
             count: value_count(found)?,
             codes: games(alloc, found)?,
+        }),
+        Does::Check => Ok(Task::Check {
+            code: word(found, words::CODE)?,
+            file: word(found, words::BFILE)?,
         }),
         Does::Manual => Ok(Task::Manual),
         Does::Init => Ok(Task::Init {

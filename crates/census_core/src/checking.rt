@@ -1,0 +1,118 @@
+//! How the values of a b-file compare with the nim-values of a game.
+
+ghost use Rattle.std.specs.Prelude.{◌≡◌, ◌≢◌, ◌+◌, ◌≤◌, ◌++◌, Ok, Err, IfOk, IfErr, OnOk, length};
+ghost use Rattle.std.specs.List.{flat_map};
+ghost use Rattle.census_core.specs.Checking.{check, checked_text, wrong_line, wrong_values};
+
+use crate::codes::read_code;
+use crate::fault::Fault;
+use oct_mex::Values;
+use oct_pages::{append_labelled, append_text};
+use oct_views::read_bfile;
+use std::alloc::{AllocError, Global};
+
+/// What a file of values came to.
+#[derive(Drop)]
+pub struct Checked {
+    /// How many of its values are wrong.
+    pub wrong: usize,
+    /// The text that says so.
+    pub text: Vec<u8>,
+}
+
+/// A value of a file that is not the nim-value of its heap.
+#[derive(Clone, Copy)]
+pub(crate) struct Wrong {
+    heap: u32,
+    claimed: u32,
+    right: u32,
+}
+
+// How many wrong values are shown.
+const SHOWN: usize = 100;
+
+/// Compares the values of a b-file with the nim-values of the game of a code, which are computed. The text has a line for each
+/// wrong value, the first 100 of them, and says how many more there are; or that all are right. No state is read, and nothing is
+/// issued.
+///
+/// The first fault is answered: `Code`, then `Bfile`. `OutOfMemory` may come after the file was found to be a b-file.
+pub fn check(alloc: Global, code: &[u8], file: &[u8]) -> Result<Checked, Fault>
+    ensures ok { IfOk result (λ done. check code.now file.now ≡ Ok (record { wrong = done.wrong; text = done.text.items })) }
+    ensures err { IfErr result (λ e. e ≢ Fault.OutOfMemory → check code.now file.now ≡ Err e) }
+{
+    let code = read_code(code)?;
+    let file = read_bfile(alloc, file)?;
+    let mut values = Values::new(alloc, code);
+    values.extend_to(file.start as usize + file.values.len())?;
+    let wrong = wrong_values(alloc, &values, file.start, &file.values)?;
+    let text = checked_text(alloc, file.values.len(), &wrong)?;
+    Ok(Checked {
+        wrong: wrong.len(),
+        text,
+    })
+}
+
+// Those of the values of the heaps from `start` on that are no nim-values.
+fn wrong_values(
+    alloc: Global,
+    values: &Values<Global>,
+    start: u32,
+    claimed: &[u32],
+) -> Result<Vec<Wrong>, AllocError>
+    requires { start + length claimed.now ≤ values.now.len }
+    ensures { IfOk result (λ wrong. wrong.items ≡ wrong_values values.now.code start claimed.now) }
+{
+    let mut wrong = Vec::new(alloc);
+    for (index, claimed) in claimed.iter().enumerate() {
+        let heap = start + index as u32;
+        let Some(right) = values.get(heap as usize) else {
+            unreachable!();
+        };
+        if *claimed != right {
+            wrong.push(Wrong {
+                heap,
+                claimed: *claimed,
+                right,
+            })?;
+        }
+    }
+    Ok(wrong)
+}
+
+// The text of so many values, of which these are wrong.
+fn checked_text(alloc: Global, count: usize, wrong: &[Wrong]) -> Result<Vec<u8>, AllocError>
+    ensures { IfOk result (λ text. text.items ≡ checked_text count wrong.now) }
+{
+    let mut text = Vec::new(alloc);
+    if wrong.is_empty() {
+        append_labelled(&mut text, b"", count)?;
+        append_text(&mut text, b" values, all right\n")?;
+        return Ok(text);
+    }
+    append_wrong(&mut text, &wrong[..wrong.len().min(SHOWN)])?;
+    if wrong.len() > SHOWN {
+        append_labelled(&mut text, b"and ", wrong.len() - SHOWN)?;
+        append_text(&mut text, b" more\n")?;
+    }
+    Ok(text)
+}
+
+// Appends the lines of wrong values.
+fn append_wrong(text: &mut Vec<u8>, wrong: &[Wrong]) -> Result<(), AllocError>
+    ensures { OnOk result (text.new.items ≡ text.old.items ++ flat_map wrong_line wrong.now) }
+{
+    for one in wrong {
+        append_line(text, one)?;
+    }
+    Ok(())
+}
+
+// Appends the line of a wrong value.
+fn append_line(text: &mut Vec<u8>, wrong: &Wrong) -> Result<(), AllocError>
+    ensures { OnOk result (text.new.items ≡ text.old.items ++ wrong_line wrong.now) }
+{
+    append_labelled(text, b"heap ", wrong.heap)?;
+    append_labelled(text, b": ", wrong.claimed)?;
+    append_labelled(text, b" in the file, ", wrong.right)?;
+    append_text(text, b" is right\n")
+}
