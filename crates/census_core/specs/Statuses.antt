@@ -3,7 +3,7 @@ use Rattle.std.specs.Prelude.{ℕ}
 use Rattle.oct_sync.specs.declared.error.SyncError.{SyncError}
 use Rattle.oct_sync.specs.declared.error.SyncError.TheVariants as sync
 use Rattle.census_core.specs.declared.fault.Fault.{Fault}
-use Rattle.census_core.specs.declared.fault.Fault.TheVariants.{Number, Words, Exists, File, Same, TooLong, Net, Read, Write, Sync, OutOfMemory}
+use Rattle.census_core.specs.declared.fault.Fault.TheVariants.{Number, Words, Exists, File, Same, Occupied, TooLong, Net, Read, Write, Sync, OutOfMemory}
 
 -- what a session met on its stream is 3, and what the other side sent is 1
 abbrev pub sync_status : SyncError → ℕ
@@ -20,6 +20,7 @@ status_of Words = 2
 status_of Exists = 3
 status_of File = 3
 status_of Same = 3
+status_of Occupied = 3
 status_of TooLong = 3
 status_of Net = 3
 status_of Read = 3

@@ -24,6 +24,8 @@ pub enum Fault {
     File,
     /// The file that is to be written is the state file.
     Same,
+    /// What stands in the place of a file that is to be written is not what the command replaces.
+    Occupied,
     /// An input or a file has more than `INPUT_LIMIT` bytes.
     TooLong,
     /// The state file holds no state.
@@ -86,6 +88,7 @@ impl Fault {
             Fault::Exists
             | Fault::File
             | Fault::Same
+            | Fault::Occupied
             | Fault::TooLong
             | Fault::Net
             | Fault::Read

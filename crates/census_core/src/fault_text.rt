@@ -35,6 +35,7 @@ fn fault_name(fault: Fault) -> &'static str
         Fault::Exists => "Exists",
         Fault::File => "File",
         Fault::Same => "Same",
+        Fault::Occupied => "Occupied",
         Fault::TooLong => "TooLong",
         Fault::Load(_) => "Load",
         Fault::Zero => "Zero",

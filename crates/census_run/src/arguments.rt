@@ -1,5 +1,6 @@
 //! The program over the words that it was called with.
 
+use crate::advice::Audience;
 use crate::program::{refuse, run_watched};
 use census_core::Fault;
 use std::alloc::Global;
@@ -10,8 +11,12 @@ use std::net::{Net, TcpListener, TcpStream};
 use std::rt::Files;
 use std::time::Clock;
 
-/// Does the command line that the program was called with, as `run` does its words, and says on a terminal how far it is.
-/// The fault is `Words` where one is not UTF-8.
+// The variable of the environment that is `1` where advice is wanted.
+const EXPLAIN: &str = "CENSUS_EXPLAIN";
+
+/// Does the command line that the program was called with, as `run` does its words, and says on a terminal how far it
+/// is. Advice is given there, and where the variable `CENSUS_EXPLAIN` of the environment is `1`. The fault is `Words`
+/// where one is not UTF-8.
 pub fn run_called<R, I, O, E>(rt: &R, input: &mut I, output: &mut O, errors: &mut E) -> u8
 where
     R: Env
@@ -23,10 +28,21 @@ where
     O: Write,
     E: Write + IsTerminal,
 {
-    let is_watched = errors.is_terminal();
+    let audience = Audience {
+        is_watching: errors.is_terminal(),
+        is_asking: is_asked(rt),
+    };
     match words_of(rt) {
-        Ok(words) => run_watched(rt, &words, input, output, errors, is_watched),
+        Ok(words) => run_watched(rt, &words, input, output, errors, audience),
         Err(fault) => refuse(errors, fault),
+    }
+}
+
+// Whether the environment asks for advice.
+fn is_asked<R: Env + AllocGlobal>(rt: &R) -> bool {
+    match env::var(rt, EXPLAIN) {
+        Ok(value) => value.as_str() == "1",
+        Err(_) => false,
     }
 }
 

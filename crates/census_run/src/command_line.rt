@@ -1,7 +1,7 @@
 //! The command line of the program, made from the table of the commands.
 
 use crate::table::{Row, parts};
-use crate::words::{Choice, Times, Word};
+use crate::words::{self, Choice, Times, Word};
 use clap::{Arg, ArgAction, Command};
 use std::alloc::{AllocError, Global};
 
@@ -12,7 +12,8 @@ pub(crate) fn command<'a>(alloc: Global, screen: &'a str) -> Result<Command<'a>,
         .version("1.0.0")
         .override_help(screen)
         .no_binary_name(true)
-        .subcommand_required(true);
+        .subcommand_required(true)
+        .arg(explain(alloc))?;
     for part in &parts() {
         for row in part.rows {
             command = command.subcommand(command_of(alloc, row)?)?;
@@ -52,11 +53,19 @@ fn argument_of<'a>(alloc: Global, word: Word) -> Arg<'a> {
 fn option_of<'a>(alloc: Global, choice: Choice) -> Arg<'a> {
     let option = Arg::new(alloc, choice.name)
         .long(choice.name)
-        .value_name(choice.value)
-        .help(choice.meaning)
-        .action(ArgAction::Set);
+        .help(choice.meaning);
+    let option = match choice.value {
+        Some(value) => option.value_name(value).action(ArgAction::Set),
+        None => option.action(ArgAction::SetTrue),
+    };
     match choice.default {
         Some(value) => option.default_value(value),
         None => option,
     }
+}
+
+// The option that every command takes, also before its name. The help of the program says what it does, and that of a
+// command is no longer for it.
+fn explain<'a>(alloc: Global) -> Arg<'a> {
+    option_of(alloc, words::EXPLAIN).global(true).hide(true)
 }

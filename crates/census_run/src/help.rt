@@ -29,6 +29,7 @@ the operations issued there or taken in; a delta is a file of operations, to be 
 // What stands after them, before the example and after it.
 const OPTIONS: &str = "
 Options:
+      --explain  Say more on standard error, as on a terminal
   -h, --help     Print help; `census COMMAND --help` says more of a command
   -V, --version  Print version
 

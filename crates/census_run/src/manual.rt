@@ -87,7 +87,10 @@ fn append_option(alloc: Global, page: &mut String, option: &Choice) -> Result<()
         meaning,
         default,
     } = *option;
-    let line = format!(in alloc; ".br\n.BI \\-\\-{name} \" {value}\" :\n{meaning}")?;
+    let line = match value {
+        Some(value) => format!(in alloc; ".br\n.BI \\-\\-{name} \" {value}\" :\n{meaning}")?,
+        None => format!(in alloc; ".br\n.BR \\-\\-{name} :\n{meaning}")?,
+    };
     page.push_str(&line)?;
     if let Some(default) = default {
         let line = format!(in alloc; "; {default} where it is left out")?;

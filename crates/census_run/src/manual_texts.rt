@@ -44,7 +44,8 @@ waits for its peer without limit.
 pub(crate) const FILES: &str = r#".SH FILES
 .TP
 .I STATE
-The state file. Where it is a link, the file it points to is replaced, and the link stays.
+The state file. Where it is a link, the file it points to is replaced, and the link stays. A file with two names by
+a hard link is replaced under the one that is given. It is a plain file that its owner may write.
 .TP
 .IB STATE .lock
 An empty file beside it. A command that changes the state holds the system's lock on it from before
@@ -57,20 +58,33 @@ its output.
 The new state, which is written and flushed to the disk, and then renamed; it has the permissions of
 the old one. A stop at
 any moment leaves the old state or the new one, whole.
+.TP
+.I OUT
+The file of
+.B delta
+and
+.B union
+is locked and replaced as a state is. A pipe or a device, such as /dev/stdout, is written as it stands.
 .PP
 The text of a command is printed after its state is written: after
 .B Write
 the state is changed, and after
 .B File
-or
-.B TooLong
 of
 .B delta
-its output may be begun. After any other fault no file is changed, but
+or
+.B union
+a pipe or a device may have got a part. After any other fault no file is changed, but
 .BR serve ", " sync " and " hub
 save what they took also where the session ends early. After a session the union of what the state
 file holds then and of
 what the session took is saved.
+.SH ADVICE
+Where standard error is a terminal, where the option
+.B \-\-explain
+stands before or after the command, and where the variable
+.B CENSUS_EXPLAIN
+of the environment is 1, warnings and explanations stand there beside the lines that always do.
 .SH SECURITY
 The connection is neither encrypted nor authenticated, and authors are believed. An address other
 than the loopback is for a
@@ -235,6 +249,15 @@ A file can't be read, written, locked or renamed.
 The output of
 .B delta
 is the state file; nothing was written.
+.TP
+.B Occupied
+The output of
+.B delta
+stands and is no delta, or that of
+.B union
+is none of its inputs, or the name is that of the lock or of the new text of another file; nothing was written.
+.B \-\-replace
+writes it all the same.
 .TP
 .B TooLong
 An input or a file has over 1073741824 bytes.

@@ -1,17 +1,21 @@
 //! The program over any three streams.
 
+use crate::advice::{Advice, Audience};
 use crate::command_line::command;
-use crate::files::{exists, is_same_file, read_file, write_file};
+use crate::files::{exists, is_same_file, read_file};
 use crate::help::first_screen;
 use crate::manual::manual_page;
 use crate::network::{hub, serve, sync};
+use crate::out_file::{Out, Replaced};
 use crate::progress_line::ProgressLine;
 use crate::state_file::StateFile;
 use crate::task::{Task, read_task};
 use crate::turns::{Games, give_turns};
+use crate::words::EXPLAIN;
 use census_core::{
-    Fault, Progress, Reply, Request, check, fold_intake, perform, perform_watched, search, unite,
+    Fault, Reply, Request, check, fold_intake, perform, perform_watched, search, unite,
 };
+use clap::ArgMatches;
 use clap::error::ErrorKind;
 use oct_code::Code;
 use oct_sync::write_out;
@@ -24,9 +28,9 @@ use std::net::{Net, TcpListener, TcpStream};
 use std::rt::Files;
 use std::time::Clock;
 
-/// Does the command line of these words, among which the program's name is not: reads the first stream, writes its output
-/// and help to the second, and the count of refused lines, its faults or the text of a refused command line to the third.
-/// Answers the exit status: 0 done, 1 refused, 2 command line, 3 file, stream or network, 4 memory.
+/// Does the command line of these words, among which the program's name is not: reads the first stream, writes its
+/// output and help to the second, and the count of refused lines, its faults or the text of a refused command line to
+/// the third. Answers the exit status: 0 done, 1 refused, 2 command line, 3 file, stream or network, 4 memory.
 pub fn run<R, S, I, O, E>(rt: &R, words: &[S], input: &mut I, output: &mut O, errors: &mut E) -> u8
 where
     R: Files<File = File> + AllocGlobal + Net<Stream = TcpStream, Listener = TcpListener> + Clock,
@@ -35,17 +39,22 @@ where
     O: Write,
     E: Write,
 {
-    run_watched(rt, words, input, output, errors, false)
+    let audience = Audience {
+        is_watching: false,
+        is_asking: false,
+    };
+    run_watched(rt, words, input, output, errors, audience)
 }
 
-/// Does the same, and where somebody watches the third stream, it says there how far it is.
+/// Does the same, and where somebody watches the third stream, it says there how far it is; there, and where it is
+/// asked for, it gives advice.
 pub(crate) fn run_watched<R, S, I, O, E>(
     rt: &R,
     words: &[S],
     input: &mut I,
     output: &mut O,
     errors: &mut E,
-    is_watched: bool,
+    audience: Audience,
 ) -> u8
 where
     R: Files<File = File> + AllocGlobal + Net<Stream = TcpStream, Listener = TcpListener> + Clock,
@@ -62,13 +71,16 @@ where
         return refuse(errors, Fault::OutOfMemory);
     };
     match command.try_get_matches_from(words) {
-        Ok(matches) => match read_task(alloc, &matches) {
-            Ok(task) => match done(rt, &task, input, output, errors, is_watched) {
+        Ok(matches) => {
+            let audience = Audience {
+                is_asking: audience.is_asking || matches.get_flag(EXPLAIN.name),
+                ..audience
+            };
+            match attempted(rt, &matches, input, output, errors, audience) {
                 Ok(status) => status,
                 Err(fault) => refuse(errors, fault),
-            },
-            Err(fault) => refuse(errors, fault),
-        },
+            }
+        }
         Err(error) => show(alloc, &error, output, errors),
     }
 }
@@ -102,6 +114,25 @@ fn show<O: Write, E: Write>(
     }
 }
 
+// Does what the matches of a command line ask for, and gives the exit status.
+fn attempted<R, I, O, E>(
+    rt: &R,
+    matches: &ArgMatches<'_>,
+    input: &mut I,
+    output: &mut O,
+    errors: &mut E,
+    audience: Audience,
+) -> Result<u8, Fault>
+where
+    R: Files<File = File> + AllocGlobal + Net<Stream = TcpStream, Listener = TcpListener> + Clock,
+    I: Read,
+    O: Write,
+    E: Write,
+{
+    let task = read_task(rt.alloc(), matches)?;
+    done(rt, &task, input, output, errors, audience)
+}
+
 // Does the task, and gives the exit status: 0, or 1 where a file was checked and is not right.
 fn done<R, I, O, E>(
     rt: &R,
@@ -109,7 +140,7 @@ fn done<R, I, O, E>(
     input: &mut I,
     output: &mut O,
     errors: &mut E,
-    is_watched: bool,
+    audience: Audience,
 ) -> Result<u8, Fault>
 where
     R: Files<File = File> + AllocGlobal + Net<Stream = TcpStream, Listener = TcpListener> + Clock,
@@ -120,7 +151,7 @@ where
     match task {
         Task::Fold => fold(rt.alloc(), input, output, errors)?,
         Task::Search { count, codes } => {
-            let mut progress = ProgressLine::new(rt, errors, is_watched);
+            let mut progress = ProgressLine::new(rt, errors, audience);
             search_each(rt, *count, codes, output, &mut progress)?;
         }
         Task::Check { code, file } => return check_file(rt, code, file, output),
@@ -134,18 +165,27 @@ where
             read,
             request,
         } => {
-            let mut progress = ProgressLine::new(rt, errors, is_watched);
+            let mut progress = ProgressLine::new(rt, errors, audience);
             match Games::of(state, request) {
                 Some(games) => give_turns(rt, games, output, &mut progress)?,
                 None => change(rt, state, *read, request, output, &mut progress)?,
             }
         }
-        Task::Union { out, deltas } => union(rt, out, deltas, output)?,
+        Task::Union { out, deltas } => {
+            union(rt, *out, deltas, output, &mut Advice::new(errors, audience))?;
+        }
         Task::Ask {
             state,
             written,
             request,
-        } => ask(rt, state, *written, request, output)?,
+        } => ask(
+            rt,
+            state,
+            *written,
+            request,
+            output,
+            &mut Advice::new(errors, audience),
+        )?,
         Task::Serve { place } => {
             serve(rt, *place)?;
             write_out(output, b"done\n")?;
@@ -242,7 +282,10 @@ fn make_held<R: Files<File = File> + AllocGlobal>(
     if exists(rt, state)? {
         return Err(Fault::Exists);
     }
-    replace(rt, file, reply)
+    match &reply.state {
+        Some(text) => file.replace(rt, text),
+        None => Ok(()),
+    }
 }
 
 // Changes a state file, and prints the text of the reply once other commands may change it again.
@@ -265,32 +308,42 @@ where
 }
 
 // Changes a state file, and holds its lock from before it is read until it is replaced.
-fn changed<R: Files<File = File> + AllocGlobal, P: Progress>(
+fn changed<R, E>(
     rt: &R,
     state: &str,
     read: Option<&str>,
     request: &Request,
-    progress: &mut P,
-) -> Result<Reply, Fault> {
-    let file = StateFile::wait(rt, state)?;
+    progress: &mut ProgressLine<'_, R, E>,
+) -> Result<Reply, Fault>
+where
+    R: Files<File = File> + AllocGlobal + Clock,
+    E: Write,
+{
+    let file = StateFile::wait_telling(rt, state, progress.advice())?;
     let done = change_held(rt, &file, state, read, request, progress);
     file.release(rt);
     done
 }
 
 // The same, while no other command changes the state.
-fn change_held<R: Files<File = File> + AllocGlobal, P: Progress>(
+fn change_held<R, E>(
     rt: &R,
     file: &StateFile,
     state: &str,
     read: Option<&str>,
     request: &Request,
-    progress: &mut P,
-) -> Result<Reply, Fault> {
+    progress: &mut ProgressLine<'_, R, E>,
+) -> Result<Reply, Fault>
+where
+    R: Files<File = File> + AllocGlobal + Clock,
+    E: Write,
+{
     let bytes = read_file(rt, state)?;
     let beside = read_beside(rt, read)?;
     let reply = perform_watched(rt.alloc(), request, &bytes, &beside, progress)?;
-    replace(rt, file, &reply)?;
+    if let Some(text) = &reply.state {
+        file.replace_telling(rt, text, progress.advice())?;
+    }
     Ok(reply)
 }
 
@@ -302,67 +355,93 @@ fn read_beside<R: Files + AllocGlobal>(rt: &R, path: Option<&str>) -> Result<Vec
     }
 }
 
-// Replaces a delta file by the union of some, which are all read before.
-fn union<R, O>(rt: &R, out: &str, deltas: &[&str], output: &mut O) -> Result<(), Fault>
+// Writes the union of some delta files, which are all read before, to a file that is one of them, or in whose place
+// none stands.
+fn union<R, O, E>(
+    rt: &R,
+    out: Out<'_>,
+    deltas: &[&str],
+    output: &mut O,
+    advice: &mut Advice<'_, E>,
+) -> Result<(), Fault>
 where
-    R: Files<File = File> + AllocGlobal,
+    R: Files<File = File> + AllocGlobal + Clock,
     O: Write,
+    E: Write,
 {
-    let file = StateFile::wait(rt, out)?;
-    let done = union_held(rt, &file, deltas);
-    file.release(rt);
+    let done = if out.is_stream(rt) {
+        union_streamed(rt, out, deltas)
+    } else {
+        let file = StateFile::wait_telling(rt, out.path, advice)?;
+        let done = union_held(rt, &file, out, deltas, advice);
+        file.release(rt);
+        done
+    };
     Ok(write_out(output, &done?.text)?)
 }
 
+// The same into a pipe or a device.
+fn union_streamed<R>(rt: &R, out: Out<'_>, deltas: &[&str]) -> Result<Reply, Fault>
+where
+    R: Files<File = File> + AllocGlobal,
+{
+    let reply = united(rt, deltas)?;
+    if let Some(bytes) = &reply.file {
+        out.write_stream(rt, bytes)?;
+    }
+    Ok(reply)
+}
+
 // The same, while no other command changes the file.
-fn union_held<R: Files<File = File> + AllocGlobal>(
+fn union_held<R, E>(
     rt: &R,
     file: &StateFile,
+    out: Out<'_>,
     deltas: &[&str],
-) -> Result<Reply, Fault> {
+    advice: &mut Advice<'_, E>,
+) -> Result<Reply, Fault>
+where
+    R: Files<File = File> + AllocGlobal,
+    E: Write,
+{
+    let reply = united(rt, deltas)?;
+    if let Some(bytes) = &reply.file {
+        out.write_held(rt, file, Replaced::OneOf(deltas), bytes, advice)?;
+    }
+    Ok(reply)
+}
+
+// The union of delta files.
+fn united<R: Files + AllocGlobal>(rt: &R, deltas: &[&str]) -> Result<Reply, Fault> {
     let mut files = Vec::new(rt.alloc());
     for path in deltas {
         let bytes = read_file(rt, path)?;
         files.push(bytes).or(Err(Fault::OutOfMemory))?;
     }
-    let reply = unite(rt.alloc(), &files)?;
-    if let Some(bytes) = &reply.file {
-        file.replace(rt, bytes)?;
-    }
-    Ok(reply)
+    unite(rt.alloc(), &files)
 }
 
 // Asks a state file, and writes the file of the reply and then its text. The state file is not written over.
-fn ask<R, O>(
+fn ask<R, O, E>(
     rt: &R,
     state: &str,
-    written: Option<&str>,
+    written: Option<Out<'_>>,
     request: &Request,
     output: &mut O,
+    advice: &mut Advice<'_, E>,
 ) -> Result<(), Fault>
 where
-    R: Files<File = File> + AllocGlobal,
+    R: Files<File = File> + AllocGlobal + Clock,
     O: Write,
+    E: Write,
 {
     let bytes = read_file(rt, state)?;
     let reply = perform(rt.alloc(), request, &bytes, b"")?;
-    if let (Some(bytes), Some(path)) = (&reply.file, written) {
-        if is_same_file(rt, state, path) {
+    if let (Some(bytes), Some(out)) = (&reply.file, written) {
+        if is_same_file(rt, state, out.path)? {
             return Err(Fault::Same);
         }
-        write_file(rt, path, bytes)?;
+        out.write_delta(rt, bytes, advice)?;
     }
     Ok(write_out(output, &reply.text)?)
-}
-
-// Replaces the state by that of a reply.
-fn replace<R: Files<File = File> + AllocGlobal>(
-    rt: &R,
-    file: &StateFile,
-    reply: &Reply,
-) -> Result<(), Fault> {
-    match &reply.state {
-        Some(text) => file.replace(rt, text),
-        None => Ok(()),
-    }
 }

@@ -1,5 +1,6 @@
 //! The line that says how far a command is.
 
+use crate::advice::{Advice, Audience};
 use census_core::Progress;
 use oct_code::Code;
 use oct_sync::write_out;
@@ -14,7 +15,7 @@ const PAUSE: u64 = 100;
 #[derive(Drop)]
 pub(crate) struct ProgressLine<'a, R, E> {
     rt: &'a R,
-    errors: &'a mut E,
+    advice: Advice<'a, E>,
     /// When the line was last written, or the command began; none where nobody watches.
     last: Option<Instant>,
     is_shown: bool,
@@ -22,15 +23,15 @@ pub(crate) struct ProgressLine<'a, R, E> {
 
 impl<'a, R: AllocGlobal + Clock, E: Write> ProgressLine<'a, R, E> {
     /// The line of a command that begins now. It is not written where nobody watches.
-    pub(crate) fn new(rt: &'a R, errors: &'a mut E, is_watched: bool) -> ProgressLine<'a, R, E> {
-        let last = if is_watched {
+    pub(crate) fn new(rt: &'a R, errors: &'a mut E, audience: Audience) -> ProgressLine<'a, R, E> {
+        let last = if audience.is_watching {
             Instant::now(rt).ok()
         } else {
             None
         };
         ProgressLine {
             rt,
-            errors,
+            advice: Advice::new(errors, audience),
             last,
             is_shown: false,
         }
@@ -40,8 +41,14 @@ impl<'a, R: AllocGlobal + Clock, E: Write> ProgressLine<'a, R, E> {
     pub(crate) fn clear(&mut self) {
         if self.is_shown {
             self.is_shown = false;
-            let _ = write_out(self.errors, b"\r\x1b[K");
+            let _ = write_out(self.advice.errors(), b"\r\x1b[K");
         }
+    }
+
+    /// What is said beside the line, which is taken away before.
+    pub(crate) fn advice(&mut self) -> &mut Advice<'a, E> {
+        self.clear();
+        &mut self.advice
     }
 
     // Writes the line, where the last one has stood long enough.
@@ -50,7 +57,7 @@ impl<'a, R: AllocGlobal + Clock, E: Write> ProgressLine<'a, R, E> {
             Ok(passed) if passed >= Duration::from_millis(PAUSE) => {
                 self.last = Instant::now(self.rt).ok();
                 self.is_shown = true;
-                let _ = write_out(self.errors, text);
+                let _ = write_out(self.advice.errors(), text);
             }
             _ => {}
         }

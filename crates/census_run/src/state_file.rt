@@ -1,25 +1,26 @@
-//! The file of a state, as one command at a time may change it.
+//! The file of a state, or of a delta, as one command at a time may change it.
 
-use crate::files::{beside, check_length};
+use crate::advice::Advice;
+use crate::files::{beside, check_length, real_path, standing};
+use crate::lock::{Silent, Telling, Waiting, locked};
 use census_core::Fault;
-use oct_sync::write_out;
-use std::alloc::{AllocError, Global};
+use std::alloc::AllocError;
 use std::fs::{self, File, Metadata, OpenOptions};
-use std::io::{self, ErrorKind};
+use std::io::{self, ErrorKind, Write};
 use std::os::unix::fs::{MetadataExt, OpenOptionsExt, PermissionsExt, fchown};
 use std::path::Path;
 use std::rt::Files;
-
-// How often a lock is tried whose file is gone once it is had, or whose wait a signal interrupts.
-const TRIES: u32 = 1_000_000;
+use std::time::Clock;
 
 // What everyone may do with a new file, as far as the umask leaves it.
 const SHARED: u32 = 0o666;
 // And with one that takes the place of another, until it has the permissions of that one.
 const PRIVATE: u32 = 0o600;
+// Without this permission the owner keeps a file from being changed.
+const OWNER_WRITES: u32 = 0o200;
 
-/// The file of a state, which no other command changes until `release`: it holds the exclusive lock of the system on the
-/// file of that name with `.lock` behind it. The system opens the lock where the process ends.
+/// The file of a state, which no other command changes until `release`: it holds the exclusive lock of the system on
+/// the file of that name with `.lock` behind it. The system opens the lock where the process ends.
 #[derive(Drop)]
 pub(crate) struct StateFile {
     path: String,
@@ -28,17 +29,45 @@ pub(crate) struct StateFile {
 }
 
 impl StateFile {
-    /// Waits until no other command changes the state, and holds its lock from then on. A link is followed: the state is
-    /// the file it points to, and the lock lies beside that. Where there can be no lock, `replace` refuses. The fault is
-    /// `OutOfMemory`.
+    /// Waits until no other command changes the state, and holds its lock from then on. A link is followed: the state
+    /// is the file it leads to, and the lock lies beside that. Where that file is not known, or there can be no lock,
+    /// `replace` refuses. The fault is `OutOfMemory`.
     pub(crate) fn wait<R>(rt: &R, state: &str) -> Result<StateFile, Fault>
     where
         R: Files<File = File> + AllocGlobal,
     {
-        let path = real_path(rt, state)?;
+        Ok(StateFile::held(rt, state, &mut Silent)?)
+    }
+
+    /// The same, and says so where it waits for more than two seconds.
+    pub(crate) fn wait_telling<R, E>(
+        rt: &R,
+        state: &str,
+        advice: &mut Advice<'_, E>,
+    ) -> Result<StateFile, Fault>
+    where
+        R: Files<File = File> + AllocGlobal + Clock,
+        E: Write,
+    {
+        Ok(StateFile::held(rt, state, &mut Telling::new(rt, state, advice))?)
+    }
+
+    // The state, once its lock is held.
+    fn held<R, W>(rt: &R, state: &str, waiting: &mut W) -> Result<StateFile, AllocError>
+    where
+        R: Files<File = File> + AllocGlobal,
+        W: Waiting,
+    {
+        let Some(path) = real_path(rt, state)? else {
+            return Ok(StateFile {
+                path: format!(in rt.alloc(); "{state}")?,
+                lock_path: String::new(rt.alloc()),
+                lock: None,
+            });
+        };
         let lock_path = beside(rt.alloc(), path.as_str(), ".lock")?;
-        let lock = match locked(rt, lock_path.as_str(), mode_of(rt, path.as_str())) {
-            Ok(file) => Some(file),
+        let lock = match mode_of(rt, path.as_str()) {
+            Ok(mode) => locked(rt, lock_path.as_str(), mode | PRIVATE, waiting).ok(),
             Err(_) => None,
         };
         Ok(StateFile {
@@ -46,6 +75,11 @@ impl StateFile {
             lock_path,
             lock,
         })
+    }
+
+    /// Where the state stands, without links.
+    pub(crate) fn path(&self) -> &str {
+        self.path.as_str()
     }
 
     /// Lets other commands change the state again, and removes the lock's file, which is still held then.
@@ -56,8 +90,9 @@ impl StateFile {
     }
 
     /// Replaces the state by these bytes, whole: they are written to the name with `.new` behind it, and flushed to the
-    /// disk; then that file takes the state's name, and its permissions. A stop at any moment leaves the old state or the
-    /// new one. The fault is `TooLong` before anything is written, `File`, and `OutOfMemory`.
+    /// disk; then that file takes the state's name, and its permissions. A stop at any moment leaves the old state or
+    /// the new one. The fault is `TooLong` before anything is written, `File`, also where what stands there is no file
+    /// or its owner may not write it, and `OutOfMemory`.
     pub(crate) fn replace<R>(&self, rt: &R, bytes: &[u8]) -> Result<(), Fault>
     where
         R: Files<File = File> + AllocGlobal,
@@ -75,49 +110,49 @@ impl StateFile {
             }
         }
     }
-}
 
-// The file that the path leads to; the path itself where there is none, or where it can't be seen.
-fn real_path<R: Files + AllocGlobal>(rt: &R, path: &str) -> Result<String, AllocError> {
-    if let Ok(real) = fs::canonicalize(rt, path) {
-        if let Some(text) = real.as_path().to_str() {
-            return format!(in rt.alloc(); "{text}");
+    /// The same, and warns where the file had another name, under which the old bytes stay.
+    pub(crate) fn replace_telling<R, E>(
+        &self,
+        rt: &R,
+        bytes: &[u8],
+        advice: &mut Advice<'_, E>,
+    ) -> Result<(), Fault>
+    where
+        R: Files<File = File> + AllocGlobal,
+        E: Write,
+    {
+        let has_other_name = has_other_name(rt, self.path.as_str());
+        self.replace(rt, bytes)?;
+        if has_other_name {
+            warn_of_other_name(rt, self.path.as_str(), advice);
         }
+        Ok(())
     }
-    format!(in rt.alloc(); "{path}")
 }
 
 // The permissions of the file; those of a new one where there is none.
-fn mode_of<R: Files>(rt: &R, path: &str) -> u32 {
-    match fs::metadata(rt, path) {
-        Ok(there) => there.permissions().mode() & 0o777,
-        Err(_) => SHARED,
+fn mode_of<R: Files>(rt: &R, path: &str) -> io::Result<u32> {
+    match standing(rt, path)? {
+        Some(there) => Ok(there.permissions().mode() & 0o777),
+        None => Ok(SHARED),
     }
 }
 
-// Opens the lock file, makes it where there is none, and waits for its lock. Where another command removed the file
-// meanwhile, that lock holds nobody back, and the next file is tried.
-fn locked<R: Files<File = File>>(rt: &R, path: &str, mode: u32) -> io::Result<File> {
-    for _ in 0..TRIES {
-        let file = OpenOptions::new()
-            .write(true)
-            .create(true)
-            .mode(mode | PRIVATE)
-            .open(rt, path)?;
-        match file.lock() {
-            Ok(()) if is_at(rt, &file, path) => return Ok(file),
-            Err(e) if e.kind() != ErrorKind::Interrupted => return Err(e),
-            _ => {}
-        }
-    }
-    Err(io::Error::from(ErrorKind::Interrupted))
-}
-
-// Whether the file is the one that stands at the path.
-fn is_at<R: Files>(rt: &R, file: &File, path: &str) -> bool {
-    match (file.metadata(), fs::metadata(rt, path)) {
-        (Ok(held), Ok(there)) => held.dev() == there.dev() && held.ino() == there.ino(),
+// Whether the file has a further name, by a hard link.
+fn has_other_name<R: Files>(rt: &R, path: &str) -> bool {
+    match standing(rt, path) {
+        Ok(Some(there)) => there.is_file() && there.nlink() > 1,
         _ => false,
+    }
+}
+
+fn warn_of_other_name<R: AllocGlobal, E: Write>(rt: &R, path: &str, advice: &mut Advice<'_, E>) {
+    let alloc = rt.alloc();
+    if let Ok(text) = format!(in alloc;
+        "{path} has another name, which stays as it was: use one of the two only"
+    ) {
+        advice.warn(text.as_str());
     }
 }
 
@@ -128,7 +163,8 @@ fn renewed<R: Files<File = File>>(
     new_path: &str,
     bytes: &[u8],
 ) -> io::Result<()> {
-    let old = fs::metadata(rt, path).ok();
+    let old = standing(rt, path)?;
+    check_replaceable(old.as_ref())?;
     // What a stop left there.
     let _ = fs::remove_file(rt, new_path);
     let mut file = OpenOptions::new()
@@ -139,13 +175,21 @@ fn renewed<R: Files<File = File>>(
     if let Some(old) = old {
         resemble(&file, &old)?;
     }
-    if write_out(&mut file, bytes).is_err() {
-        return Err(io::Error::from(ErrorKind::Other));
-    }
+    file.write_all(bytes)?;
     file.sync_all()?;
     fs::rename(rt, new_path, path)?;
     flush_folder(rt, path);
     Ok(())
+}
+
+// Refuses what is no file, and a file that its owner may not write.
+fn check_replaceable(old: Option<&Metadata>) -> io::Result<()> {
+    match old {
+        Some(old) if !old.is_file() || old.permissions().mode() & OWNER_WRITES == 0 => {
+            Err(io::Error::from(ErrorKind::PermissionDenied))
+        }
+        _ => Ok(()),
+    }
 }
 
 // Gives the file the permissions of the one whose place it takes, and its owner where the system lets it.

@@ -572,7 +572,7 @@ const OTHERS: &[Row] = &[
     Row {
         name: "delta",
         words: &[words::STATE, words::OUT],
-        options: &[],
+        options: &[words::REPLACE],
         does: Does::Ask {
             written: Some(words::OUT),
             request: Asked::Delta,
@@ -580,7 +580,9 @@ const OTHERS: &[Row] = &[
         line: "Writes all operations as a file",
         about: "Writes all operations as one delta file, and prints how many there are",
         after: "\
-The state itself is not written over: that is the fault Same.
+OUT is replaced as a whole. The state itself is not written over: that is the fault Same. Nor is a
+file that is no delta and has bytes, or the name of another file with .lock or .new behind it: that is
+the fault Occupied, unless --replace is said.
 
 Exit status: 0 done, 1 refused: Load (the state), TooMany; 2 command line, 3 file, 4 memory
 
@@ -607,13 +609,15 @@ Example:
     Row {
         name: "union",
         words: &[words::UNION, words::DELTAS],
-        options: &[],
+        options: &[words::REPLACE],
         does: Does::Union,
         line: "Writes the union of such files as one; needs no state",
         about: "Writes the union of delta files as one, and prints how many operations it has",
         after: "\
 All files are read before OUT is written, and OUT is replaced as a whole, so it may be one of them.
 A file that is no delta is named by its place among them, counted from 1; then nothing is written.
+Where OUT has bytes and is none of them, or is the name of another file with .lock or .new behind it,
+nothing is written either: that is the fault Occupied, unless --replace is said.
 
 Exit status: 0 done, 1 refused: Union (a file is no delta), TooMany; 2 command line, 3 file, 4 memory
 

@@ -2,6 +2,7 @@
 
 use crate::connection::Patience;
 use crate::network::Place;
+use crate::out_file::Out;
 use crate::table::{Asked, Does, row_named};
 use crate::words::{self, Choice, Word};
 use census_core::{Fault, Request, SEARCH_LIMIT, number};
@@ -40,13 +41,13 @@ pub(crate) enum Task<'a> {
     },
     /// The union of delta files as one.
     Union {
-        out: &'a str,
+        out: Out<'a>,
         deltas: Vec<&'a str>,
     },
     /// A command that reads a state file, and the file that it writes beside it.
     Ask {
         state: &'a str,
-        written: Option<&'a str>,
+        written: Option<Out<'a>>,
         request: Request,
     },
     /// One session with a replica that connects.
@@ -100,11 +101,11 @@ fn task_of<'a>(alloc: Global, does: Does, found: &ArgMatches<'a>) -> Result<Task
         }),
         Does::Ask { written, request } => Ok(Task::Ask {
             state: word(found, words::STATE)?,
-            written: maybe_word(found, written)?,
+            written: maybe_out(found, written)?,
             request: request_of(alloc, request, found)?,
         }),
         Does::Union => Ok(Task::Union {
-            out: word(found, words::UNION)?,
+            out: out(found, words::UNION)?,
             deltas: repeated(alloc, found, words::DELTAS)?,
         }),
         Does::Serve => Ok(Task::Serve {
@@ -252,6 +253,22 @@ fn word<'a>(found: &ArgMatches<'a>, word: Word) -> Result<&'a str, Fault> {
 fn maybe_word<'a>(found: &ArgMatches<'a>, which: Option<Word>) -> Result<Option<&'a str>, Fault> {
     match which {
         Some(which) => Ok(Some(word(found, which)?)),
+        None => Ok(None),
+    }
+}
+
+// A word that names the file that a command writes.
+fn out<'a>(found: &ArgMatches<'a>, which: Word) -> Result<Out<'a>, Fault> {
+    Ok(Out {
+        path: word(found, which)?,
+        is_forced: found.get_flag(words::REPLACE.name),
+    })
+}
+
+// The same of a command that may write none.
+fn maybe_out<'a>(found: &ArgMatches<'a>, which: Option<Word>) -> Result<Option<Out<'a>>, Fault> {
+    match which {
+        Some(which) => Ok(Some(out(found, which)?)),
         None => Ok(None),
     }
 }

@@ -54,7 +54,7 @@ where
     O: Write,
     E: Write,
 {
-    let file = StateFile::wait(rt, games.state)?;
+    let file = StateFile::wait_telling(rt, games.state, progress.advice())?;
     let done = turns_held(rt, &file, games, output, progress);
     file.release(rt);
     progress.clear();
@@ -88,7 +88,7 @@ where
             saved = Instant::now(rt).ok();
         }
     }
-    keep(rt, file, &turns, lines)
+    keep(rt, file, &turns, lines, progress)
 }
 
 // The turns of the games of the state as it stands in its file.
@@ -109,13 +109,20 @@ fn is_due<R: Clock>(rt: &R, saved: Option<Instant>) -> bool {
 }
 
 // Writes the state as it is now, and gives the lines back.
-fn keep<R>(rt: &R, file: &StateFile, turns: &Turns, lines: Vec<u8>) -> Result<Vec<u8>, Fault>
+fn keep<R, E>(
+    rt: &R,
+    file: &StateFile,
+    turns: &Turns,
+    lines: Vec<u8>,
+    progress: &mut ProgressLine<'_, R, E>,
+) -> Result<Vec<u8>, Fault>
 where
-    R: Files<File = File> + AllocGlobal,
+    R: Files<File = File> + AllocGlobal + Clock,
+    E: Write,
 {
     let reply = turns.reply(rt.alloc(), lines)?;
     if let Some(text) = &reply.state {
-        file.replace(rt, text)?;
+        file.replace_telling(rt, text, progress.advice())?;
     }
     Ok(reply.text)
 }
@@ -134,7 +141,7 @@ where
     O: Write,
     E: Write,
 {
-    let lines = keep(rt, file, turns, lines)?;
+    let lines = keep(rt, file, turns, lines, progress)?;
     progress.clear();
     write_out(output, &lines)?;
     Ok(Vec::new(rt.alloc()))

@@ -16,11 +16,12 @@ pub(crate) enum Times {
     Any,
 }
 
-/// An option that a command takes, with one value.
+/// An option that a command takes.
 #[derive(Clone, Copy)]
 pub(crate) struct Choice {
     pub(crate) name: &'static str,
-    pub(crate) value: &'static str,
+    /// What stands in the place of its value; none where it has no value.
+    pub(crate) value: Option<&'static str>,
     pub(crate) meaning: &'static str,
     /// The value where the option is left out; none where it may be left out.
     pub(crate) default: Option<&'static str>,
@@ -64,13 +65,13 @@ pub(crate) const DELTAS: Word = Word {
 
 pub(crate) const UNION: Word = Word {
     name: "OUT",
-    meaning: "The delta file that is written, in place of what stands there; it may be one of the others",
+    meaning: "The delta file that is written; it may be one of the others",
     times: Times::One,
 };
 
 pub(crate) const OUT: Word = Word {
     name: "OUT",
-    meaning: "The file that is written, in place of what stands there; not the state file",
+    meaning: "The delta file that is written; not the state file",
     times: Times::One,
 };
 
@@ -148,21 +149,35 @@ pub(crate) const HEAP: Word = Word {
 
 pub(crate) const PATIENCE: Choice = Choice {
     name: "patience",
-    value: "SECONDS",
+    value: Some("SECONDS"),
     meaning: "How long the other side may be silent in a session, 1 to 4294967295 seconds",
     default: Some("60"),
 };
 
 pub(crate) const LONGEST: Choice = Choice {
     name: "longest",
-    value: "SECONDS",
+    value: Some("SECONDS"),
     meaning: "How long one session may last, 1 to 4294967295 seconds",
     default: Some("600"),
 };
 
 pub(crate) const PEERS: Choice = Choice {
     name: "peers",
-    value: "N",
+    value: Some("N"),
     meaning: "Ends after so many connections, 0 to 4294967295; without it, not by itself",
+    default: None,
+};
+
+pub(crate) const REPLACE: Choice = Choice {
+    name: "replace",
+    value: None,
+    meaning: "Writes OUT in place of whatever file stands there",
+    default: None,
+};
+
+pub(crate) const EXPLAIN: Choice = Choice {
+    name: "explain",
+    value: None,
+    meaning: "Says more on standard error, as on a terminal",
     default: None,
 };
