@@ -12,6 +12,7 @@ mod command_line;
 mod connection;
 mod files;
 mod help;
+mod hub;
 mod kept;
 mod manual;
 mod manual_texts;

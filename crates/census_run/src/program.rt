@@ -3,8 +3,9 @@
 use crate::command_line::command;
 use crate::files::{exists, is_same_file, read_file, write_file};
 use crate::help::first_screen;
+use crate::hub::hub;
 use crate::manual::manual_page;
-use crate::network::{hub, serve, sync};
+use crate::network::{serve, sync};
 use crate::progress_line::ProgressLine;
 use crate::state_file::StateFile;
 use crate::task::{Task, read_task};
