@@ -12,7 +12,7 @@ use std::net::{Net, SocketAddr, TcpListener, TcpStream};
 use std::rt::Files;
 use std::time::Clock;
 
-// How many attempts in a row to take a peer may fail before a hub ends.
+// How many attempts in a row to take a peer may fail before `serve` ends.
 const ATTEMPTS: u32 = 100;
 
 /// A state, the address at which it meets its peers, and how long it waits for them there.
@@ -64,8 +64,8 @@ where
     TcpListener::bind(rt, address).or(Err(Fault::Net))
 }
 
-/// The next connection, and who made it. The fault is `Net`.
-pub(crate) fn accepted(listener: &TcpListener) -> Result<(TcpStream, SocketAddr), Fault> {
+// The next connection, and who made it. The fault is `Net`.
+fn accepted(listener: &TcpListener) -> Result<(TcpStream, SocketAddr), Fault> {
     for _ in 0..ATTEMPTS {
         if let Ok(connection) = listener.accept() {
             return Ok(connection);
@@ -90,8 +90,8 @@ where
     settle(rt, place.state, &said, ended)
 }
 
-/// Saves what is held after a session that ended so, also after a fault of the session. The text is that of the union.
-pub(crate) fn settle<R>(
+// Saves what is held after a session that ended so, also after a fault of the session. The text is that of the union.
+fn settle<R>(
     rt: &R,
     state: &str,
     said: &Record<Global>,
@@ -110,8 +110,8 @@ where
     }
 }
 
-/// The session alone.
-pub(crate) fn exchange<R>(
+// The session alone.
+fn exchange<R>(
     rt: &R,
     role: Role,
     patience: Patience,

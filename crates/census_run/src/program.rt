@@ -154,7 +154,7 @@ where
             sync(rt, *place)?;
             Ok(write_out(output, b"done\n")?)
         }
-        Task::Hub { place, peers } => hub(rt, *place, *peers, output, errors),
+        Task::Hub { place, limits } => hub(rt, *place, *limits, output, errors),
     }
 }
 

@@ -166,3 +166,17 @@ pub(crate) const PEERS: Choice = Choice {
     meaning: "Ends after so many connections, 0 to 4294967295; without it, not by itself",
     default: None,
 };
+
+pub(crate) const SESSIONS: Choice = Choice {
+    name: "sessions",
+    value: "N",
+    meaning: "How many sessions go on at once, 1 to 1024, while the others wait",
+    default: Some("64"),
+};
+
+pub(crate) const MOST: Choice = Choice {
+    name: "most",
+    value: "BYTES",
+    meaning: "How many bytes one session may send to the hub, 1 to 4294967295",
+    default: Some("67108864"),
+};
