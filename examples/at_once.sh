@@ -54,6 +54,7 @@ free_port() {
 
 # Starts a hub on a state, with more words; its address is $address, its process $hub.
 start_hub() {
+  : >served # what an earlier hub said there
   census hub "$1" 127.0.0.1:0 "${@:2}" >served 2>faults &
   hub=$!
   await served 1 'listening on '

@@ -3,10 +3,11 @@
 //! `table` has a row for each command, from which the command line, its help and the page of the manual are made, and
 //! `words` what the rows share. `task` says what words ask for; `run` does it, and `run_called` does what the program
 //! was called with. What a command makes of the bytes of its files is `census_core::perform`, and what a session leaves
-//! is `census_core::rejoin`. `state_file` lets one command at a time change a state, under its `lock`; `out_file` is
-//! where a delta is written; `kept` is what a hub has in memory, `turns` keeps what `extend` and `survey` have done on
-//! the way. `progress_line` says on a terminal how far a command is, and `advice` is said there, and where it is asked
-//! for, beside the lines that always stand on standard error.
+//! is `census_core::rejoin`. `network` has one session with one peer, `hub` many at once, each of them a `guest`, and
+//! `kept` is what a hub has in memory. `state_file` lets one command at a time change a state, under its `lock`;
+//! `out_file` is where a delta is written; `turns` keeps what `extend` and `survey` have done on the way.
+//! `progress_line` says on a terminal how far a command is, and `advice` is said there, and where it is asked for,
+//! beside the lines that always stand on standard error.
 #![tactic(auto)]
 
 mod advice;
@@ -14,7 +15,9 @@ mod arguments;
 mod command_line;
 mod connection;
 mod files;
+mod guest;
 mod help;
+mod hub;
 mod kept;
 mod lock;
 mod manual;

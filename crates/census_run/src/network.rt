@@ -2,19 +2,17 @@
 
 use crate::connection::{Connection, Patience};
 use crate::files::read_file;
-use crate::kept::Kept;
 use crate::state_file::StateFile;
-use census_core::{Fault, rejoin, unchanged};
+use census_core::{Fault, rejoin};
 use oct_record::Record;
-use oct_sync::{Role, drive, write_out};
+use oct_sync::{Role, drive};
 use std::alloc::Global;
 use std::fs::File;
-use std::io::Write;
 use std::net::{Net, SocketAddr, TcpListener, TcpStream};
 use std::rt::Files;
 use std::time::Clock;
 
-// How many attempts in a row to take a peer may fail before a hub ends.
+// How many attempts in a row to take a peer may fail before `serve` ends.
 const ATTEMPTS: u32 = 100;
 
 /// A state, the address at which it meets its peers, and how long it waits for them there.
@@ -52,112 +50,14 @@ where
     Ok(())
 }
 
-/// Serves so many connections to the address, one after another, and says where it listens and how each session ended.
-/// What ends a session early does not end the hub. What the state says is kept in memory between sessions: its file is
-/// read again where another stands in its place, or a session brought something, and written where one did. The fault is
-/// that of the state, as it is read first; then `Net`, also where no connection can be taken any more; and `Write`.
-pub(crate) fn hub<R, O, E>(
-    rt: &R,
-    place: Place<'_>,
-    peers: u64,
-    output: &mut O,
-    errors: &mut E,
-) -> Result<(), Fault>
-where
-    R: Files<File = File> + AllocGlobal + Net<Stream = TcpStream, Listener = TcpListener> + Clock,
-    O: Write,
-    E: Write,
-{
-    let mut kept = Some(Kept::read(rt, place.state)?);
-    let listener = bound(rt, place.address)?;
-    let Ok(address) = listener.local_addr() else {
-        return Err(Fault::Net);
-    };
-    let line = format!(in rt.alloc(); "listening on {address}\n")?;
-    write_out(output, line.as_bytes())?;
-    for _ in 0..peers {
-        let (stream, peer) = accepted(&listener)?;
-        match host(rt, place, &mut kept, &stream) {
-            Ok(text) => say(rt.alloc(), peer, &text, output)?,
-            Err(fault) => {
-                let _ = writeln!(errors, "census: peer {peer} {fault}");
-            }
-        }
-    }
-    Ok(())
-}
-
-// Serves one connection of a hub. The text is that of the union. Nothing is kept where the session brought something: the
-// state's file has it then.
-fn host<R>(
-    rt: &R,
-    place: Place<'_>,
-    kept: &mut Option<Kept>,
-    stream: &TcpStream,
-) -> Result<Vec<u8>, Fault>
-where
-    R: Files<File = File> + AllocGlobal + Clock,
-{
-    let mut held = current(rt, place.state, kept.take())?;
-    let before = held.said.len();
-    let ended = exchange(rt, Role::Server, place.patience, &mut held.said, stream);
-    if held.said.len() != before {
-        return settle(rt, place.state, &held.said, ended);
-    }
-    let text = settle_unchanged(rt, place.state, &held, ended);
-    *kept = Some(held);
-    text
-}
-
-// What the state says now: what is kept of it, where that is of the file that stands there.
-fn current<R>(rt: &R, state: &str, kept: Option<Kept>) -> Result<Kept, Fault>
-where
-    R: Files<File = File> + AllocGlobal,
-{
-    match kept {
-        Some(kept) if kept.stands(rt, state) => Ok(kept),
-        _ => Kept::read(rt, state),
-    }
-}
-
-// What a session leaves that brought nothing: the file as it is, unless it is another one by now.
-fn settle_unchanged<R>(
-    rt: &R,
-    state: &str,
-    held: &Kept,
-    ended: Result<(), Fault>,
-) -> Result<Vec<u8>, Fault>
-where
-    R: Files<File = File> + AllocGlobal,
-{
-    ended?;
-    if held.stands(rt, state) {
-        return Ok(unchanged(rt.alloc(), &held.said)?);
-    }
-    save(rt, state, &held.said)
-}
-
-// Says how a session ended.
-fn say<O: Write>(
-    alloc: Global,
-    peer: SocketAddr,
-    text: &[u8],
-    output: &mut O,
-) -> Result<(), Fault> {
-    let front = format!(in alloc; "peer {peer} ")?;
-    let mut line = Vec::from_slice(alloc, front.as_bytes())?;
-    line.extend_from_slice(text)?;
-    Ok(write_out(output, &line)?)
-}
-
 // What a state file says. No nim-value is computed.
 fn load<R: Files + AllocGlobal>(rt: &R, state: &str) -> Result<Record<Global>, Fault> {
     let bytes = read_file(rt, state)?;
     Ok(Record::load(rt.alloc(), &bytes)?)
 }
 
-// Listens at the address. The fault is `Net`.
-fn bound<R>(rt: &R, address: &str) -> Result<TcpListener, Fault>
+/// Listens at the address. The fault is `Net`.
+pub(crate) fn bound<R>(rt: &R, address: &str) -> Result<TcpListener, Fault>
 where
     R: Net<Stream = TcpStream, Listener = TcpListener>,
 {
@@ -230,8 +130,8 @@ where
     Ok(drive(rt.alloc(), role, said, &mut reader, &mut writer)?)
 }
 
-// Saves the union of what the state file holds now and what is held, while no other command changes the file.
-fn save<R>(rt: &R, state: &str, said: &Record<Global>) -> Result<Vec<u8>, Fault>
+/// Saves the union of what the state file holds now and what is held, while no other command changes the file.
+pub(crate) fn save<R>(rt: &R, state: &str, said: &Record<Global>) -> Result<Vec<u8>, Fault>
 where
     R: Files<File = File> + AllocGlobal,
 {

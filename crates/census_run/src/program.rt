@@ -4,8 +4,9 @@ use crate::advice::{Advice, Audience};
 use crate::command_line::command;
 use crate::files::{exists, is_same_file, read_file};
 use crate::help::first_screen;
+use crate::hub::hub;
 use crate::manual::manual_page;
-use crate::network::{hub, serve, sync};
+use crate::network::{serve, sync};
 use crate::out_file::{Out, Replaced};
 use crate::progress_line::ProgressLine;
 use crate::state_file::StateFile;
@@ -194,7 +195,7 @@ where
             sync(rt, *place)?;
             write_out(output, b"done\n")?;
         }
-        Task::Hub { place, peers } => hub(rt, *place, *peers, output, errors)?,
+        Task::Hub { place, limits } => hub(rt, *place, *limits, output, errors)?,
     }
     Ok(0)
 }

@@ -661,15 +661,22 @@ Example:
     Row {
         name: "hub",
         words: &[words::STATE, words::ADDR],
-        options: &[words::PATIENCE, words::LONGEST, words::PEERS],
+        options: &[
+            words::PATIENCE,
+            words::LONGEST,
+            words::PEERS,
+            words::SESSIONS,
+            words::MOST,
+        ],
         does: Does::Hub,
-        line: "Serves one `sync` after another, for a whole group",
-        about: "Serves one connection to an address after another, each with its `sync`, until it is ended",
+        line: "Serves many `sync` at once, for a whole group",
+        about: "Serves connections to an address, many at once and each with its `sync`, until it is ended",
         after: of_sessions!(
             "\
 It prints `listening on ADDR:PORT`, with the port that the system gave where 0 was asked for, and
 after each session `peer ADDR:PORT new N operations M`: so many operations are new, so many there
 are. A session that ends early has its fault on standard error, and the hub goes on.
+A `sync` is told that it is done once all that the hub has by then is saved.
 ",
             "
 Exit status: 0 so many peers were served, 1 Load (the file is no state), 2 command line, 3 file,

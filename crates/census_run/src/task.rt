@@ -1,6 +1,7 @@
 //! What a command line asks for.
 
 use crate::connection::Patience;
+use crate::hub::Limits;
 use crate::network::Place;
 use crate::out_file::Out;
 use crate::table::{Asked, Does, row_named};
@@ -10,6 +11,9 @@ use clap::ArgMatches;
 use oct_code::{Code, LIMIT};
 use std::alloc::Global;
 use std::time::Duration;
+
+/// The most sessions of a hub at once.
+const MAX_SESSIONS: u32 = 1_024;
 
 /// What a command line asks for. Names of files and addresses are as they stand there.
 #[derive(Drop)]
@@ -58,10 +62,10 @@ pub(crate) enum Task<'a> {
     Sync {
         place: Place<'a>,
     },
-    /// A session with each of so many replicas that connect.
+    /// A session with each of the replicas that connect, within these limits.
     Hub {
         place: Place<'a>,
-        peers: u64,
+        limits: Limits,
     },
 }
 
@@ -116,7 +120,7 @@ fn task_of<'a>(alloc: Global, does: Does, found: &ArgMatches<'a>) -> Result<Task
         }),
         Does::Hub => Ok(Task::Hub {
             place: place(found, Some(seconds(found, words::LONGEST)?))?,
-            peers: peers(found)?,
+            limits: limits(found)?,
         }),
     }
 }
@@ -293,16 +297,39 @@ fn number_in(text: &str) -> Result<u32, Fault> {
 
 // The seconds of an option, at least one.
 fn seconds(found: &ArgMatches<'_>, choice: Choice) -> Result<Duration, Fault> {
+    let seconds = at_least_one(found, choice)?;
+    Ok(Duration::from_secs(u64::from(seconds)))
+}
+
+// The number of an option, at least one.
+fn at_least_one(found: &ArgMatches<'_>, choice: Choice) -> Result<u32, Fault> {
     let Some(text) = found.get_str(choice.name) else {
         return Err(Fault::Words);
     };
     match number_in(text)? {
         0 => Err(Fault::Number),
-        seconds => Ok(Duration::from_secs(u64::from(seconds))),
+        count => Ok(count),
     }
 }
 
-// How many peers a hub serves.
+// How many peers a hub takes, and how much of each.
+fn limits(found: &ArgMatches<'_>) -> Result<Limits, Fault> {
+    Ok(Limits {
+        peers: peers(found)?,
+        sessions: sessions(found)?,
+        most: u64::from(at_least_one(found, words::MOST)?),
+    })
+}
+
+// How many sessions a hub has at once.
+fn sessions(found: &ArgMatches<'_>) -> Result<usize, Fault> {
+    match at_least_one(found, words::SESSIONS)? {
+        count if count <= MAX_SESSIONS => Ok(count as usize),
+        _ => Err(Fault::Number),
+    }
+}
+
+// After how many peers a hub ends.
 fn peers(found: &ArgMatches<'_>) -> Result<u64, Fault> {
     match found.get_str(words::PEERS.name) {
         Some(text) => Ok(u64::from(number_in(text)?)),

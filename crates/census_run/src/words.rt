@@ -168,6 +168,20 @@ pub(crate) const PEERS: Choice = Choice {
     default: None,
 };
 
+pub(crate) const SESSIONS: Choice = Choice {
+    name: "sessions",
+    value: Some("N"),
+    meaning: "How many sessions go on at once, 1 to 1024, while the others wait",
+    default: Some("64"),
+};
+
+pub(crate) const MOST: Choice = Choice {
+    name: "most",
+    value: Some("BYTES"),
+    meaning: "How many bytes one session may send to the hub, 1 to 4294967295",
+    default: Some("67108864"),
+};
+
 pub(crate) const REPLACE: Choice = Choice {
     name: "replace",
     value: None,

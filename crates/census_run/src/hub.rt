@@ -1,0 +1,313 @@
+//! A hub: many sessions over TCP at once, in one thread.
+
+use crate::guest::{Bounds, Guest, sooner};
+use crate::kept::Kept;
+use crate::network::{Place, bound};
+use census_core::Fault;
+use mio::net::TcpStream;
+use mio::{Events, Interest, Poll, Token};
+use oct_sync::write_out;
+use slab::Slab;
+use std::alloc::Global;
+use std::fs::File;
+use std::io::{ErrorKind, Write};
+use std::net::{self, Net, SocketAddr};
+use std::rt::Files;
+use std::time::{Clock, Duration, Instant};
+
+/// The most bytes of one read.
+const MAX_READ: usize = 65_536;
+
+/// For how many milliseconds no connection is taken after one could not be.
+const PAUSE: u64 = 100;
+
+/// The listener among the sources of events. The others are the guests, by their keys.
+const LISTENER: Token = Token(usize::MAX);
+
+/// How many peers a hub takes, and how much of each.
+#[derive(Clone, Copy)]
+pub(crate) struct Limits {
+    /// After how many connections it ends.
+    pub(crate) peers: u64,
+    /// How many sessions it has at once, at least one.
+    pub(crate) sessions: usize,
+    /// The most bytes that one peer may send.
+    pub(crate) most: u64,
+}
+
+/// A hub that runs. All its sessions speak for the one record that is kept.
+#[derive(Drop)]
+struct Host<'a, R> {
+    rt: &'a R,
+    place: Place<'a>,
+    limits: Limits,
+    kept: Kept,
+    listener: mio::net::TcpListener,
+    poll: Poll,
+    events: Events,
+    guests: Slab<Guest>,
+    /// What is read from a connection.
+    buffer: Vec<u8>,
+    /// How many connections are still to be taken.
+    left: u64,
+    /// Whether a connection may wait to be taken.
+    is_called: bool,
+    /// Until when none is taken.
+    pause: Option<Instant>,
+}
+
+/// Serves so many connections to the address, and says where it listens and how each session ended. Many sessions go
+/// on at once, each whenever its connection is ready; further connections wait. What ends a session early does not end
+/// the hub. What the state says is kept in memory: its file is read again where another stands in its place, and
+/// written before the last frame of a session where something is not in it. The fault is that of the state, as it is
+/// read first; then `Net`; and `Write`.
+pub(crate) fn hub<R, O, E>(
+    rt: &R,
+    place: Place<'_>,
+    limits: Limits,
+    output: &mut O,
+    errors: &mut E,
+) -> Result<(), Fault>
+where
+    R: Files<File = File>
+        + AllocGlobal
+        + Net<Stream = net::TcpStream, Listener = net::TcpListener>
+        + Clock,
+    O: Write,
+    E: Write,
+{
+    let mut host = Host::open(rt, place, limits)?;
+    host.say_where(output)?;
+    for _ in 0..u64::MAX {
+        if host.is_over() {
+            break;
+        }
+        host.turn(output, errors)?;
+    }
+    Ok(())
+}
+
+impl<'a, R> Host<'a, R>
+where
+    R: Files<File = File>
+        + AllocGlobal
+        + Net<Stream = net::TcpStream, Listener = net::TcpListener>
+        + Clock,
+{
+    // Reads the state, and then listens at the address.
+    fn open(rt: &'a R, place: Place<'a>, limits: Limits) -> Result<Host<'a, R>, Fault> {
+        let kept = Kept::read(rt, place.state)?;
+        let (listener, poll) = listening(rt, place.address)?;
+        Ok(Host {
+            rt,
+            place,
+            limits,
+            kept,
+            listener,
+            poll,
+            events: Events::with_capacity(rt.alloc(), limits.sessions)?,
+            guests: Slab::with_capacity(rt.alloc(), limits.sessions)?,
+            buffer: zeros(rt.alloc(), MAX_READ)?,
+            left: limits.peers,
+            is_called: true,
+            pause: None,
+        })
+    }
+
+    // Says where it listens.
+    fn say_where<O: Write>(&self, output: &mut O) -> Result<(), Fault> {
+        let Ok(address) = self.listener.local_addr() else {
+            return Err(Fault::Net);
+        };
+        let line = format!(in self.rt.alloc(); "listening on {address}\n")?;
+        Ok(write_out(output, line.as_bytes())?)
+    }
+
+    // Whether all connections were served.
+    fn is_over(&self) -> bool {
+        self.left == 0 && self.guests.is_empty()
+    }
+
+    // Takes the connections that wait, waits until one is ready or a peer was silent too long, and lets each session
+    // go on by a step.
+    fn turn<O: Write, E: Write>(&mut self, output: &mut O, errors: &mut E) -> Result<(), Fault> {
+        let now = self.now()?;
+        self.take_connections(now, errors);
+        self.wait(now)?;
+        let now = self.now()?;
+        for key in 0..self.limits.sessions {
+            self.go_on(key, now, output, errors)?;
+        }
+        Ok(())
+    }
+
+    // The time. The fault is `Net`.
+    fn now(&self) -> Result<Instant, Fault> {
+        Instant::now(self.rt).or(Err(Fault::Net))
+    }
+
+    // Whether a connection may wait for which there is room.
+    fn has_call(&self) -> bool {
+        self.is_called && self.left > 0 && self.guests.len() < self.limits.sessions
+    }
+
+    // Takes the connections that wait, as far as there is room. After one that could not be taken there is a pause.
+    fn take_connections<E: Write>(&mut self, now: Instant, errors: &mut E) {
+        if self.pause.is_some_and(|pause| pause > now) {
+            return;
+        }
+        self.pause = None;
+        for _ in 0..self.limits.sessions {
+            if !self.has_call() {
+                return;
+            }
+            match self.listener.accept() {
+                Ok((stream, peer)) => {
+                    self.left = self.left.saturating_sub(1);
+                    if let Err(fault) = self.seat(stream, peer, now) {
+                        say_fault(errors, peer, fault);
+                    }
+                }
+                Err(e) if e.kind() == ErrorKind::WouldBlock => self.is_called = false,
+                Err(e) if e.kind() == ErrorKind::Interrupted => {}
+                Err(_) => {
+                    self.pause = now.checked_add(Duration::from_millis(PAUSE));
+                    return;
+                }
+            }
+        }
+    }
+
+    // Begins the session of a connection. The fault is `Net`, and `OutOfMemory`.
+    fn seat(&mut self, stream: TcpStream, peer: SocketAddr, now: Instant) -> Result<(), Fault> {
+        let bounds = Bounds {
+            patience: self.place.patience,
+            most: self.limits.most,
+        };
+        let mut guest = Guest::new(self.rt.alloc(), stream, peer, bounds, now);
+        let token = Token(self.guests.vacant_key());
+        if guest.register(self.poll.registry(), token).is_err() {
+            return Err(Fault::Net);
+        }
+        match self.guests.insert(guest) {
+            Ok(_) => Ok(()),
+            Err(_) => Err(Fault::OutOfMemory),
+        }
+    }
+
+    // Waits until something is ready, or a time has come. The fault is `Net`.
+    fn wait(&mut self, now: Instant) -> Result<(), Fault> {
+        let timeout = self.timeout(now);
+        if self.poll.poll(&mut self.events, timeout).is_err() {
+            return Err(Fault::Net);
+        }
+        for event in &self.events {
+            if event.token() == LISTENER {
+                self.is_called = true;
+            } else if let Some(guest) = self.guests.get_mut(event.token().0) {
+                guest.wake();
+            }
+        }
+        Ok(())
+    }
+
+    // How long nothing can happen but what the system reports; without end where there is none.
+    fn timeout(&self, now: Instant) -> Option<Duration> {
+        let mut first = None;
+        if self.has_call() {
+            match self.pause {
+                None => return Some(Duration::ZERO),
+                pause => first = pause,
+            }
+        }
+        for (_, guest) in self.guests.iter() {
+            if guest.is_ready() {
+                return Some(Duration::ZERO);
+            }
+            first = sooner(first, guest.deadline());
+        }
+        first.map(|first| first.saturating_duration_since(now))
+    }
+
+    // Lets the session of this key go on, where there is one, and says how it ended, where it did.
+    fn go_on<O: Write, E: Write>(
+        &mut self,
+        key: usize,
+        now: Instant,
+        output: &mut O,
+        errors: &mut E,
+    ) -> Result<(), Fault> {
+        let Some(guest) = self.guests.get_mut(key) else {
+            return Ok(());
+        };
+        let state = self.place.state;
+        match guest.step(self.rt, state, &mut self.kept, &mut self.buffer, now) {
+            Ok(()) => {
+                if guest.is_over() {
+                    if let Some(guest) = self.guests.try_remove(key) {
+                        say(self.rt.alloc(), &guest, output)?;
+                    }
+                }
+            }
+            Err(fault) => {
+                if let Some(guest) = self.guests.try_remove(key) {
+                    self.give_up(guest, fault, errors);
+                }
+            }
+        }
+        Ok(())
+    }
+
+    // Closes the connection of a session that a fault ended, and says which. What came before is saved, but not after
+    // want of memory, or where the saving was what failed.
+    fn give_up<E: Write>(&mut self, guest: Guest, fault: Fault, errors: &mut E) {
+        let peer = guest.peer;
+        let is_to_save = guest.has_brought() && matches!(fault, Fault::Sync(_) | Fault::TooLong);
+        drop(guest);
+        if is_to_save {
+            let _ = self.kept.settle(self.rt, self.place.state);
+        }
+        say_fault(errors, peer, fault);
+    }
+}
+
+// Listens at the address without waiting, and reports each connection under the token of the listener. The fault is
+// `Net`.
+fn listening<R>(rt: &R, address: &str) -> Result<(mio::net::TcpListener, Poll), Fault>
+where
+    R: Net<Stream = net::TcpStream, Listener = net::TcpListener>,
+{
+    let listener = bound(rt, address)?;
+    if listener.set_nonblocking(true).is_err() {
+        return Err(Fault::Net);
+    }
+    let mut listener = mio::net::TcpListener::from_std(listener);
+    let Ok(poll) = Poll::new(rt) else {
+        return Err(Fault::Net);
+    };
+    match poll
+        .registry()
+        .register(&mut listener, LISTENER, Interest::READABLE)
+    {
+        Ok(()) => Ok((listener, poll)),
+        Err(_) => Err(Fault::Net),
+    }
+}
+
+// Says how a session ended that was done.
+fn say<O: Write>(alloc: Global, guest: &Guest, output: &mut O) -> Result<(), Fault> {
+    let front = format!(in alloc; "peer {} ", guest.peer)?;
+    let mut line = Vec::from_slice(alloc, front.as_bytes())?;
+    line.extend_from_slice(guest.text())?;
+    Ok(write_out(output, &line)?)
+}
+
+// Says why a session ended early.
+fn say_fault<E: Write>(errors: &mut E, peer: SocketAddr, fault: Fault) {
+    let _ = writeln!(errors, "census: peer {peer} {fault}");
+}
+
+// A buffer of this length.
+fn zeros(alloc: Global, len: usize) -> Result<Vec<u8>, Fault> {
+    Ok(vec![in alloc; 0u8; len]?)
+}
