@@ -16,6 +16,7 @@ mod Merging
 mod Numbers
 mod OpenGame
 mod Outcomes
+mod Pieces
 mod Rejoining
 mod Stepping
 mod StoredStates

@@ -16,6 +16,7 @@ pub mod Performed
 pub mod Questions
 pub mod Refusals
 pub mod Replies
+pub mod SearchTexts
 pub mod Searching
 pub mod States
 pub mod Statuses

@@ -1,47 +1,38 @@
--- The period that a search of a game finds, and the line that names it.
-use Rattle.std.specs.Prelude.{◌≡◌, ℕ, ◌^◌, ◌<◌, ◌≤◌, ◌⊎◌, ◌&&◌, nat_le, ◌++◌, codes, Some, Result, Ok, Err, if◌then◌else◌}
+-- The period that a search of a game finds, and the text that names it.
+use Rattle.std.specs.Prelude.{◌≡◌, ℕ, ◌^◌, ◌<◌, ◌≤◌, ◌⊎◌, ◌&&◌, nat_le, List, Some, None, Result, Ok, Err, if◌then◌else◌}
 use Rattle.oct_code.specs.Code.{Code}
-use Rattle.oct_code.specs.CodeText.{code_text}
 use Rattle.oct_mex.specs.NimValues.{nim_value}
 use Rattle.oct_mex.specs.Periods.{NoneIsShown}
 use Rattle.oct_mex.specs.declared.period.SeenPeriod.{SeenPeriod}
-use Rattle.oct_ops.specs.Operation.{repeating}
-use Rattle.oct_pages.specs.Catalogue.{Text, labelled}
+use Rattle.oct_pages.specs.Catalogue.{Text}
 use Rattle.oct_search.specs.Found.{IsLeastShown}
 use Rattle.oct_search.specs.declared.error.SearchError.{SearchError}
 use Rattle.oct_search.specs.declared.error.SearchError.TheVariants as search
-use Rattle.census_core.specs.Finding.{found_text}
+use Rattle.census_core.specs.SearchTexts.{search_text}
 use Rattle.census_core.specs.declared.fault.Fault.{Fault}
 use Rattle.census_core.specs.declared.fault.Fault.TheVariants.{Number, PastValue, OutOfMemory}
+use Rattle.census_core.specs.declared.search_text.SearchForm.{SearchForm}
 use Rattle.census_core.specs.declared.searching.TheConstants.{SEARCH_LIMIT}
 
 -- a number of nim-values that a search may compute
 abbrev pub searchable : ℕ → Result ℕ Fault
 searchable count = if nat_le 1 count && nat_le count SEARCH_LIMIT then Ok count else Err Number
 
--- the period, the heap from which on it holds, how many nim-values prove it, and how many were computed
-abbrev pub found_line : Code → SeenPeriod → ℕ → Text
-found_line c seen values = code_text c ++ found_text (Some (repeating c seen.start seen.period)) ++ labelled (codes " values ") values ++ codes "\n"
-
--- so many nim-values prove no period
-abbrev pub vain_line : Code → ℕ → Text
-vain_line c count = code_text c ++ labelled (codes " no period in ") count ++ codes " values\n"
-
--- the line names the least period that the first nim-values of the game prove, at most `count` of them, from the least heap; it holds for every heap
-pub record NamesPeriod (c : Code) (count : ℕ) (line : Text) : Type 0 where
+-- the text names the least period that the first nim-values of the game prove, at most `count` of them, from the least heap; it holds for every heap
+pub record NamesPeriod (form : SearchForm) (c : Code) (count : ℕ) (heaps : List ℕ) (text : Text) : Type 0 where
   pub seen : SeenPeriod
   pub values : ℕ
   pub few : values ≤ count
   pub least : IsLeastShown c values seen
-  pub is : line ≡ found_line c seen values
+  pub is : text ≡ search_text form c (Some seen) values heaps
 
--- the first `count` nim-values prove none, and the line says so
-pub record NamesNone (c : Code) (count : ℕ) (line : Text) : Type 0 where
+-- the first `count` nim-values prove none, and the text says so
+pub record NamesNone (form : SearchForm) (c : Code) (count : ℕ) (heaps : List ℕ) (text : Text) : Type 0 where
   pub none : NoneIsShown c count count
-  pub is : line ≡ vain_line c count
+  pub is : text ≡ search_text form c None count heaps
 
-abbrev pub IsSearched : Code → ℕ → Text → Type 0
-IsSearched c count line = NamesPeriod c count line ⊎ NamesNone c count line
+abbrev pub IsSearched : SearchForm → Code → ℕ → List ℕ → Text → Type 0
+IsSearched form c count heaps text = NamesPeriod form c count heaps text ⊎ NamesNone form c count heaps text
 
 -- ---- faults
 

@@ -3,7 +3,8 @@
 //! - `fold_lines` reads lines of deltas, and writes the catalogue of what they say; `fold_intake` also gives what they came to.
 //! - `perform` does a `Request`, from the bytes of the state file and of another file to the `Reply` that is to be written;
 //!   `perform_watched` tells a `Progress` how far it is.
-//! - `search` says which period the nim-values of a game prove, computed until they prove one.
+//! - `search` says which period the nim-values of a game prove, computed until they prove one, and the nim-values of any heaps;
+//!   `first_values` computes as many as are asked for, and `write_values` writes them as a b-file.
 //! - `check` compares a b-file with computed values.
 //! - `unite` makes one delta of several files.
 //! - `rejoin` gives what a state file is to hold after a session, and `unchanged` what is said after one that brought nothing.
@@ -29,11 +30,13 @@ mod input;
 mod issuing;
 pub mod laws;
 mod lines;
+mod listing;
 mod moving;
 mod opened;
 mod progress;
 mod reply;
 mod request;
+mod search_text;
 mod searching;
 mod states;
 mod surveying;
@@ -51,10 +54,12 @@ pub use fold::{fold_intake, fold_lines};
 pub use import::import_block;
 pub use import_error::ImportError;
 pub use input::{INPUT_LIMIT, read_whole};
+pub use listing::write_values;
 pub use progress::Progress;
 pub use reply::Reply;
 pub use request::Request;
-pub use searching::{SEARCH_LIMIT, search};
+pub use search_text::SearchForm;
+pub use searching::{SEARCH_LIMIT, first_values, search};
 pub use states::{rejoin, unchanged};
 pub use surveying::Aim;
 pub use taken::Intake;

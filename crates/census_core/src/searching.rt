@@ -1,17 +1,16 @@
 //! How the period of a game is searched for, as far as memory goes.
 
-ghost use Rattle.std.specs.Prelude.{◌≡◌, ◌+◌, ◌*◌, ◌≤◌, max, None, Ok, Err, IfOk, IfErr, IfSome, OnOk, OnErr, MatchOption};
-ghost use Rattle.oct_code.specs.Code.{len};
+ghost use Rattle.std.specs.Prelude.{◌≡◌, ◌≤◌, max, None, Ok, Err, IfOk, IfErr, OnOk, OnErr};
 ghost use Rattle.oct_search.specs.Found.{IsFound};
-ghost use Rattle.census_core.specs.Searching.{IsPastFrom, IsSearched, IsSearchFault, found_line, searchable, vain_line};
+ghost use Rattle.census_core.specs.Searching.{IsPastFrom, IsSearched, IsSearchFault, searchable};
 
 use crate::fault::Fault;
 use crate::progress::Progress;
+use crate::search_text::{SearchForm, search_text};
 use oct_code::Code;
 use oct_mex::SeenPeriod;
-use oct_pages::{append_labelled, append_text};
 use oct_search::{MOST, Search, SearchError};
-use std::alloc::{AllocError, Global};
+use std::alloc::Global;
 
 /// The most nim-values of a game that a search computes.
 pub const SEARCH_LIMIT: u64 = 4_294_967_296;
@@ -19,10 +18,11 @@ pub const SEARCH_LIMIT: u64 = 4_294_967_296;
 // So many nim-values are computed before it is told again how many are known.
 const PART: usize = 65_536;
 
-/// Computes nim-values of a game until they prove a period, or `count` of them are known, and gives the line that says what
+/// Computes nim-values of a game until they prove a period, or `count` of them are known, and gives the text that says what
 /// was found: the least period that they prove, from the least heap that they prove it from, how many of them prove it, and
-/// how many were computed. It holds for every heap. A period is looked for at lengths that grow by a quarter, so that more
-/// values may be computed than prove it.
+/// how many were computed; and then the nim-value of each of `heaps`, which the period gives for every heap, and which is
+/// not known where no period is found and the heap is not below `count`. A period holds for every heap. It is looked for
+/// at lengths that grow by a quarter, so that more values may be computed than prove it.
 ///
 /// The fault is `Number` where `count` is 0 or above `SEARCH_LIMIT`, before any memory is asked for; `PastValue` where the
 /// nim-value of a heap below `count` is above 65,535, before a period is proved; and `OutOfMemory`.
@@ -30,16 +30,37 @@ pub fn search<P: Progress>(
     alloc: Global,
     code: Code,
     count: u64,
+    heaps: &[u64],
+    form: SearchForm,
     progress: &mut P,
 ) -> Result<Vec<u8>, Fault>
-    ensures ok { IfOk result (λ line. IsSearched code count line.items) }
+    ensures ok { IfOk result (λ text. IsSearched form code count heaps.now text.items) }
     ensures err { IfErr result (IsSearchFault code count) }
     ensures number { IfErr (searchable count) (λ e. result ≡ Err e) }
 {
     check_searchable(count)?;
     let mut game = Search::new(alloc, code);
     let found = search_told(&mut game, count as usize, progress)?;
-    Ok(search_line(alloc, code, found, game.len())?)
+    Ok(search_text(alloc, &game, found, heaps, form)?)
+}
+
+/// Computes the first `count` nim-values of a game. The faults are those of `search`.
+pub fn first_values<P: Progress>(
+    alloc: Global,
+    code: Code,
+    count: u64,
+    progress: &mut P,
+) -> Result<Search<Global>, Fault>
+    ensures ok { OnOk result (searchable count ≡ Ok count) }
+    ensures values { IfOk result (λ game. game ≡ record { code = code; len = count }) }
+    ensures err { IfErr result (IsSearchFault code count) }
+    ensures number { IfErr (searchable count) (λ e. result ≡ Err e) }
+{
+    check_searchable(count)?;
+    let count = count as usize;
+    let mut game = Search::new(alloc, code);
+    extend_told(&mut game, count, count, progress)?;
+    Ok(game)
 }
 
 // Refuses a number of values that no search computes.
@@ -103,59 +124,4 @@ fn tell<P: Progress>(game: &Search<Global>, count: usize, progress: &mut P) {
 // A number as it is told.
 fn told(number: usize) -> u32 {
     u32::try_from(number).unwrap_or(u32::MAX)
-}
-
-// The line of a game: the period that is found among so many nim-values, or that there is none.
-fn search_line(
-    alloc: Global,
-    code: Code,
-    found: Option<SeenPeriod>,
-    values: usize,
-) -> Result<Vec<u8>, AllocError>
-    requires { IfSome found (λ seen. 2 * seen.start + 2 * seen.period + len code ≤ MOST) }
-    ensures { IfOk result (λ line. MatchOption found (line.items ≡ vain_line code values) (λ seen. line.items ≡ found_line code seen values)) }
-{
-    match found {
-        Some(seen) => period_line(alloc, code, seen, values),
-        None => no_period_line(alloc, code, values),
-    }
-}
-
-// The line of a period that is found among so many nim-values.
-fn period_line(
-    alloc: Global,
-    code: Code,
-    seen: SeenPeriod,
-    values: usize,
-) -> Result<Vec<u8>, AllocError>
-    requires { 2 * seen.start + 2 * seen.period + len code ≤ MOST }
-    ensures { IfOk result (λ line. line.items ≡ found_line code seen values) }
-{
-    let mut line = Vec::new(alloc);
-    code.append_text(&mut line)?;
-    append_labelled(&mut line, b" period ", seen.period)?;
-    append_labelled(&mut line, b" from ", seen.start)?;
-    append_labelled(&mut line, b" needs ", needs(code, seen))?;
-    append_labelled(&mut line, b" values ", values)?;
-    append_text(&mut line, b"\n")?;
-    Ok(line)
-}
-
-// How many nim-values prove the period.
-fn needs(code: Code, seen: SeenPeriod) -> usize
-    requires { 2 * seen.start + 2 * seen.period + len code ≤ MOST }
-    ensures { result ≡ 2 * seen.start + 2 * seen.period + len code }
-{
-    2 * seen.start + 2 * seen.period + code.len()
-}
-
-// The line of a game of which so many nim-values prove no period.
-fn no_period_line(alloc: Global, code: Code, values: usize) -> Result<Vec<u8>, AllocError>
-    ensures { IfOk result (λ line. line.items ≡ vain_line code values) }
-{
-    let mut line = Vec::new(alloc);
-    code.append_text(&mut line)?;
-    append_labelled(&mut line, b" no period in ", values)?;
-    append_text(&mut line, b" values\n")?;
-    Ok(line)
 }

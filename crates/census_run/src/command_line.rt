@@ -1,7 +1,7 @@
 //! The command line of the program, made from the table of the commands.
 
 use crate::table::{Row, parts};
-use crate::words::{self, Choice, Times, Word};
+use crate::words::{self, Choice, Takes, Times, Word};
 use clap::{Arg, ArgAction, Command};
 use std::alloc::{AllocError, Global};
 
@@ -54,9 +54,10 @@ fn option_of<'a>(alloc: Global, choice: Choice) -> Arg<'a> {
     let option = Arg::new(alloc, choice.name)
         .long(choice.name)
         .help(choice.meaning);
-    let option = match choice.value {
-        Some(value) => option.value_name(value).action(ArgAction::Set),
-        None => option.action(ArgAction::SetTrue),
+    let option = match choice.takes {
+        Takes::Nothing => option.action(ArgAction::SetTrue),
+        Takes::One(value) => option.value_name(value).action(ArgAction::Set),
+        Takes::Many(value) => option.value_name(value).action(ArgAction::Append),
     };
     match choice.default {
         Some(value) => option.default_value(value),

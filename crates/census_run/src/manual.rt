@@ -3,7 +3,7 @@
 use crate::help::{EXAMPLE, TITLE, words_text};
 use crate::manual_texts::{DESCRIPTION, FILES, SEE_ALSO};
 use crate::table::{Part, Row, parts};
-use crate::words::{self, Choice, Word};
+use crate::words::{self, Choice, Takes, Word};
 use std::alloc::{AllocError, Global};
 
 // What stands before the title, and between it and the description.
@@ -83,13 +83,15 @@ fn append_word(alloc: Global, page: &mut String, word: &Word) -> Result<(), Allo
 fn append_option(alloc: Global, page: &mut String, option: &Choice) -> Result<(), AllocError> {
     let Choice {
         name,
-        value,
+        takes,
         meaning,
         default,
     } = *option;
-    let line = match value {
-        Some(value) => format!(in alloc; ".br\n.BI \\-\\-{name} \" {value}\" :\n{meaning}")?,
-        None => format!(in alloc; ".br\n.BR \\-\\-{name} :\n{meaning}")?,
+    let line = match takes {
+        Takes::Nothing => format!(in alloc; ".br\n.BR \\-\\-{name} :\n{meaning}")?,
+        Takes::One(value) | Takes::Many(value) => {
+            format!(in alloc; ".br\n.BI \\-\\-{name} \" {value}\" :\n{meaning}")?
+        }
     };
     page.push_str(&line)?;
     if let Some(default) = default {

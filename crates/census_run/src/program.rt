@@ -10,11 +10,12 @@ use crate::network::{serve, sync};
 use crate::out_file::{Out, Replaced};
 use crate::progress_line::ProgressLine;
 use crate::state_file::StateFile;
-use crate::task::{Task, read_task};
+use crate::task::{Sought, Task, read_task};
 use crate::turns::{Games, give_turns};
 use crate::words::EXPLAIN;
 use census_core::{
-    Fault, Reply, Request, check, fold_intake, perform, perform_watched, search, unite,
+    Fault, Progress, Reply, Request, check, first_values, fold_intake, perform, perform_watched,
+    search, unite, write_values,
 };
 use clap::ArgMatches;
 use clap::error::ErrorKind;
@@ -151,9 +152,13 @@ where
 {
     match task {
         Task::Fold => fold(rt.alloc(), input, output, errors)?,
-        Task::Search { count, codes } => {
+        Task::Search(sought) => {
             let mut progress = ProgressLine::new(rt, errors, audience);
-            search_each(rt, *count, codes, output, &mut progress)?;
+            search_each(rt, sought, output, &mut progress)?;
+        }
+        Task::List { count, code } => {
+            let mut progress = ProgressLine::new(rt, errors, audience);
+            list(rt, *code, *count, output, &mut progress)?;
         }
         Task::Check { code, file } => return check_file(rt, code, file, output),
         Task::Manual => {
@@ -214,11 +219,10 @@ fn fold<I: Read, O: Write, E: Write>(
     Ok(())
 }
 
-// Searches for the period of each game, and prints its line before it goes on to the next.
+// Searches for the period of each game, and prints its lines before it goes on to the next.
 fn search_each<R, O, E>(
     rt: &R,
-    count: u64,
-    codes: &[Code],
+    sought: &Sought,
     output: &mut O,
     progress: &mut ProgressLine<'_, R, E>,
 ) -> Result<(), Fault>
@@ -227,12 +231,36 @@ where
     O: Write,
     E: Write,
 {
+    let Sought {
+        count,
+        heaps,
+        codes,
+        form,
+    } = sought;
     for code in codes {
-        let searched = search(rt.alloc(), *code, count, progress);
+        let searched = search(rt.alloc(), *code, *count, heaps, *form, progress);
         progress.clear();
         write_out(output, &searched?)?;
     }
     Ok(())
+}
+
+// Prints the first values of a game, once all are computed.
+fn list<R, O, E>(
+    rt: &R,
+    code: Code,
+    count: u64,
+    output: &mut O,
+    progress: &mut ProgressLine<'_, R, E>,
+) -> Result<(), Fault>
+where
+    R: AllocGlobal + Clock,
+    O: Write,
+    E: Write,
+{
+    let values = first_values(rt.alloc(), code, count, progress);
+    progress.clear();
+    write_values(rt.alloc(), &values?, output)
 }
 
 // Compares the values of a file with those of a game. The status is 0 where all are right, and else 1.

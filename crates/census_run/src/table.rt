@@ -155,7 +155,7 @@ Example:
     Row {
         name: "search",
         words: &[words::VALUES, words::CODES],
-        options: &[],
+        options: &[words::AT, words::AS_JSON, words::AS_BFILE],
         does: Does::Search,
         line: "The period of each game, by at most COUNT values",
         about: "Computes values of each game until they prove a period, and says which",
@@ -166,6 +166,11 @@ holds, how many values prove it: 2E + 2P + k, k the number of digits of the code
 computed: a period is looked for from time to time, so these may be more. Or it says `no period in
 COUNT values`. A period that is named holds for all heaps.
 
+Each --at HEAP adds a line behind that of a game: the value of the heap by the period, however large
+it is; or where no period is found, its value if it is below COUNT, and else `not known`. With --json
+there is one line of JSON for a game, and null stands for what is not known. With --bfile, which takes
+one game and none of these, the first COUNT values are printed, a line `n v` for each heap n.
+
 No state is needed. A value takes two bytes of memory, and room for as many again while the list
 grows. On a terminal a line on standard error says how far it is. All codes are read before the first
 value is computed; after a later fault the lines of the games before it stand.
@@ -173,8 +178,10 @@ value is computed; after a later fault the lines of the games before it stand.
 Exit status: 0 done (also where there is no period), 1 refused: Code, PastValue (a value is above
 65535); 2 command line, 3 output, 4 memory
 
-Example:
-  census search 1000000 0.16",
+Examples:
+  census search 1000000 0.16
+  census search 1000000 0.16 --at 1000000000000
+  census search --bfile 100000 0.16 > b.txt",
     },
     Row {
         name: "check",

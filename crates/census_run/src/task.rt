@@ -6,7 +6,7 @@ use crate::network::Place;
 use crate::out_file::Out;
 use crate::table::{Asked, Does, row_named};
 use crate::words::{self, Choice, Word};
-use census_core::{Fault, Request, SEARCH_LIMIT, number};
+use census_core::{Fault, Request, SEARCH_LIMIT, SearchForm, number};
 use clap::ArgMatches;
 use oct_code::{Code, LIMIT};
 use std::alloc::Global;
@@ -20,10 +20,12 @@ const MAX_SESSIONS: u32 = 1_024;
 pub(crate) enum Task<'a> {
     /// The catalogue of the lines of standard input.
     Fold,
-    /// The period of each game, by at most so many values.
-    Search {
+    /// The period of each game.
+    Search(Sought),
+    /// The first values of a game, as a b-file.
+    List {
         count: u64,
-        codes: Vec<Code>,
+        code: Code,
     },
     /// How the values of a b-file compare with those of a game.
     Check {
@@ -69,8 +71,17 @@ pub(crate) enum Task<'a> {
     },
 }
 
+/// What a search is for: the period of each game, by at most so many values, and the values of these heaps.
+#[derive(Drop)]
+pub(crate) struct Sought {
+    pub(crate) count: u64,
+    pub(crate) heaps: Vec<u64>,
+    pub(crate) codes: Vec<Code>,
+    pub(crate) form: SearchForm,
+}
+
 /// What the matches of a command line ask for. The fault is `Number` where a word is no number of its range, `Code` where a
-/// word of a search is no code, `Words` where one is missing, and `OutOfMemory`.
+/// word of a search is no code, `Words` where one is missing or does not go with another, and `OutOfMemory`.
 pub(crate) fn read_task<'a>(alloc: Global, matches: &ArgMatches<'a>) -> Result<Task<'a>, Fault> {
     let Some((name, found)) = matches.subcommand() else {
         return Err(Fault::Words);
@@ -85,10 +96,8 @@ pub(crate) fn read_task<'a>(alloc: Global, matches: &ArgMatches<'a>) -> Result<T
 fn task_of<'a>(alloc: Global, does: Does, found: &ArgMatches<'a>) -> Result<Task<'a>, Fault> {
     match does {
         Does::Fold => Ok(Task::Fold),
-        Does::Search => Ok(Task::Search {
-            count: value_count(found)?,
-            codes: games(alloc, found)?,
-        }),
+        Does::Search if found.get_flag(words::AS_BFILE.name) => list(alloc, found),
+        Does::Search => Ok(Task::Search(search(alloc, found)?)),
         Does::Check => Ok(Task::Check {
             code: word(found, words::CODE)?,
             file: word(found, words::BFILE)?,
@@ -148,6 +157,36 @@ fn request_of(alloc: Global, asked: Asked, found: &ArgMatches<'_>) -> Result<Req
         Asked::Json => Ok(Request::Json),
         Asked::Report => Ok(Request::Report),
     }
+}
+
+// The values that are asked for as a b-file: those of one game, and nothing else.
+fn list<'a>(alloc: Global, found: &ArgMatches<'a>) -> Result<Task<'a>, Fault> {
+    if found.get_flag(words::AS_JSON.name) || found.get_strs(words::AT.name).is_some() {
+        return Err(Fault::Words);
+    }
+    let codes = repeated(alloc, found, words::CODES)?;
+    let [code] = codes.as_slice() else {
+        return Err(Fault::Words);
+    };
+    Ok(Task::List {
+        count: value_count(found)?,
+        code: Code::parse(code.as_bytes())?,
+    })
+}
+
+// What is searched for.
+fn search(alloc: Global, found: &ArgMatches<'_>) -> Result<Sought, Fault> {
+    let form = if found.get_flag(words::AS_JSON.name) {
+        SearchForm::Json
+    } else {
+        SearchForm::Lines
+    };
+    Ok(Sought {
+        count: value_count(found)?,
+        heaps: heaps(alloc, found, words::AT.name)?,
+        codes: games(alloc, found)?,
+        form,
+    })
 }
 
 // Where a state meets its peers; a session lasts no longer than this, where it is said.
@@ -230,14 +269,14 @@ fn unnote(alloc: Global, found: &ArgMatches<'_>) -> Result<Request, Fault> {
 
 fn value(alloc: Global, found: &ArgMatches<'_>) -> Result<Request, Fault> {
     Ok(Request::Value {
-        heaps: heaps(alloc, found)?,
+        heaps: heaps(alloc, found, words::HEAP.name)?,
         code: bytes(alloc, found, words::CODE)?,
     })
 }
 
 fn winning_move(alloc: Global, found: &ArgMatches<'_>) -> Result<Request, Fault> {
     Ok(Request::Move {
-        heaps: heaps(alloc, found)?,
+        heaps: heaps(alloc, found, words::HEAP.name)?,
         code: bytes(alloc, found, words::CODE)?,
     })
 }
@@ -388,10 +427,10 @@ fn games(alloc: Global, found: &ArgMatches<'_>) -> Result<Vec<Code>, Fault> {
     Ok(games)
 }
 
-// The heaps of a position.
-fn heaps(alloc: Global, found: &ArgMatches<'_>) -> Result<Vec<u64>, Fault> {
+// The heaps that stand under a name.
+fn heaps(alloc: Global, found: &ArgMatches<'_>, name: &str) -> Result<Vec<u64>, Fault> {
     let mut heaps = Vec::new(alloc);
-    if let Some(words) = found.get_strs(words::HEAP.name) {
+    if let Some(words) = found.get_strs(name) {
         for word in words {
             let Some(heap) = number(word, u64::MAX) else {
                 return Err(Fault::Number);

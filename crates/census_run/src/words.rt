@@ -20,11 +20,21 @@ pub(crate) enum Times {
 #[derive(Clone, Copy)]
 pub(crate) struct Choice {
     pub(crate) name: &'static str,
-    /// What stands in the place of its value; none where it has no value.
-    pub(crate) value: Option<&'static str>,
+    pub(crate) takes: Takes,
     pub(crate) meaning: &'static str,
     /// The value where the option is left out; none where it may be left out.
     pub(crate) default: Option<&'static str>,
+}
+
+/// What stands behind an option, and how often the option stands.
+#[derive(Clone, Copy)]
+pub(crate) enum Takes {
+    /// Nothing, once.
+    Nothing,
+    /// A value of this name, once.
+    One(&'static str),
+    /// A value of this name, as often as one likes.
+    Many(&'static str),
 }
 
 pub(crate) const STATE: Word = Word {
@@ -147,51 +157,72 @@ pub(crate) const HEAP: Word = Word {
     times: Times::Any,
 };
 
+pub(crate) const AT: Choice = Choice {
+    name: "at",
+    takes: Takes::Many("HEAP"),
+    meaning: "Says the value of this heap too, 0 to 18446744073709551615; may stand several times",
+    default: None,
+};
+
+pub(crate) const AS_JSON: Choice = Choice {
+    name: "json",
+    takes: Takes::Nothing,
+    meaning: "Prints a line of JSON for each game",
+    default: None,
+};
+
+pub(crate) const AS_BFILE: Choice = Choice {
+    name: "bfile",
+    takes: Takes::Nothing,
+    meaning: "Prints the first COUNT values of one game as a b-file, and looks for no period",
+    default: None,
+};
+
 pub(crate) const PATIENCE: Choice = Choice {
     name: "patience",
-    value: Some("SECONDS"),
+    takes: Takes::One("SECONDS"),
     meaning: "How long the other side may be silent in a session, 1 to 4294967295 seconds",
     default: Some("60"),
 };
 
 pub(crate) const LONGEST: Choice = Choice {
     name: "longest",
-    value: Some("SECONDS"),
+    takes: Takes::One("SECONDS"),
     meaning: "How long one session may last, 1 to 4294967295 seconds",
     default: Some("600"),
 };
 
 pub(crate) const PEERS: Choice = Choice {
     name: "peers",
-    value: Some("N"),
+    takes: Takes::One("N"),
     meaning: "Ends after so many connections, 0 to 4294967295; without it, not by itself",
     default: None,
 };
 
 pub(crate) const SESSIONS: Choice = Choice {
     name: "sessions",
-    value: Some("N"),
+    takes: Takes::One("N"),
     meaning: "How many sessions go on at once, 1 to 1024, while the others wait",
     default: Some("64"),
 };
 
 pub(crate) const MOST: Choice = Choice {
     name: "most",
-    value: Some("BYTES"),
+    takes: Takes::One("BYTES"),
     meaning: "How many bytes one session may send to the hub, 1 to 4294967295",
     default: Some("67108864"),
 };
 
 pub(crate) const REPLACE: Choice = Choice {
     name: "replace",
-    value: None,
+    takes: Takes::Nothing,
     meaning: "Writes OUT in place of whatever file stands there",
     default: None,
 };
 
 pub(crate) const EXPLAIN: Choice = Choice {
     name: "explain",
-    value: None,
+    takes: Takes::Nothing,
     meaning: "Says more on standard error, as on a terminal",
     default: None,
 };

@@ -147,7 +147,8 @@ fn folds_and_refuses_lines(rt: HostRuntime) {
     }
 }
 
-// Searches: the periods of the literature, by as many values as prove them and by one fewer, and each refusal.
+// Searches: the periods of the literature, by as many values as prove them and by one fewer; the values of heaps, of any
+// size, and those of a b-file; and each refusal.
 const SEARCHES: &[Case<'static>] = &[
     (
         &["search", "168", "0.77"],
@@ -167,6 +168,62 @@ const SEARCHES: &[Case<'static>] = &[
         "0.77 no period in 167 values\n0.6 no period in 167 values\n",
         "",
     ),
+    (
+        &[
+            "search",
+            "168",
+            "0.77",
+            "--at",
+            "1000000000000",
+            "--at",
+            "11",
+        ],
+        0,
+        "0.77 period 12 from 71 needs 168 values 168\n0.77 at 1000000000000 value 1\n0.77 at 11 value 6\n",
+        "",
+    ),
+    (
+        &["search", "12", "0.77", "--at", "11", "--at", "12"],
+        0,
+        "0.77 no period in 12 values\n0.77 at 11 value 6\n0.77 at 12 not known\n",
+        "",
+    ),
+    (
+        &["search", "168", "0.77", "--json"],
+        0,
+        "{\"code\":\"0.77\",\"period\":12,\"from\":71,\"needs\":168,\"values\":168}\n",
+        "",
+    ),
+    (
+        &["search", "12", "0.77", "--json", "--at", "11", "--at", "12"],
+        0,
+        "{\"code\":\"0.77\",\"period\":null,\"values\":12,\"at\":[{\"heap\":11,\"value\":6},{\"heap\":12,\"value\":null}]}\n",
+        "",
+    ),
+    (
+        &["search", "--bfile", "5", "0.77"],
+        0,
+        "0 0\n1 1\n2 2\n3 3\n4 1\n",
+        "",
+    ),
+    (
+        &["search", "--bfile", "0", "0.77", "0.6"],
+        2,
+        "",
+        "census: Words\n",
+    ),
+    (
+        &["search", "--bfile", "5", "0.77", "--at", "5"],
+        2,
+        "",
+        "census: Words\n",
+    ),
+    (
+        &["search", "--bfile", "5", "0.77", "--json"],
+        2,
+        "",
+        "census: Words\n",
+    ),
     (&["search", "0", "0.8"], 2, "", "census: Number\n"),
     (&["search", "4294967297", "0.6"], 2, "", "census: Number\n"),
     (&["search", "x", "0.6"], 2, "", "census: Number\n"),
@@ -175,6 +232,12 @@ const SEARCHES: &[Case<'static>] = &[
         1,
         "",
         "census: Code Head\n",
+    ),
+    (
+        &["search", "9", "0.8", "--at", "18446744073709551616"],
+        2,
+        "",
+        "census: Number\n",
     ),
     (&["search", "1000"], 2, "", "error: .."),
 ];
