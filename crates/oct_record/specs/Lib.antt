@@ -3,6 +3,7 @@ pub use Rattle.oct_store.specs.Summary
 pub mod Content
 pub mod Index
 pub mod Kept
+pub mod Numbers
 pub mod Removals
 pub mod States
 pub mod Taking

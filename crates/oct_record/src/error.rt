@@ -7,6 +7,15 @@ pub enum AuthorError {
     Zero,
 }
 
+/// Why a record does not go on under an author.
+#[derive(Clone, Copy, Debug, PartialEq, Eq)]
+pub enum RenumberError {
+    /// The author is 0.
+    Zero,
+    /// The record holds operations by the author.
+    Held,
+}
+
 /// Why operations were not all taken in.
 #[derive(Clone, Copy, Debug, PartialEq, Eq)]
 pub enum TakeError {

@@ -10,6 +10,8 @@
 //!     said.games()                          // those of each game
 //!     said.save(&mut out)?;                 // `OGS1`, the author, and the delta of all operations
 //!     Record::load(alloc, &out)?            // the record again
+//!     said.first_foreign(&later)            // an operation by its author that it never held, in what is later
+//!     said.renumber(4711)?;                 // what is issued from now on is by another author
 //!
 //! Beside the set a record keeps the operations of each game, and the notes; the three agree at the end of every call, also of
 //! a refused one. Whoever keeps more beside it is a `Holder`, and takes operations in by the functions of `taking`.
@@ -23,7 +25,7 @@ mod state;
 pub mod taking;
 mod valid;
 
-pub use error::{AuthorError, IssueError, LoadError, RemovalError, TakeError};
+pub use error::{AuthorError, IssueError, LoadError, RemovalError, RenumberError, TakeError};
 pub use holder::Holder;
 pub use record::Record;
 pub use state::read_state;

@@ -1,8 +1,8 @@
 //! A record of what was said.
 
-ghost use Rattle.std.specs.Prelude.{◌≡◌, ◌↔◌, ◌+◌, ◌≤◌, ◌<◌, ◌^◌, ◌++◌, not, length, true, false, None, List, IsTrue, IsSome, IfSome, IfOk, IfErr, OnOk, OnErr, IsErrOf};
+ghost use Rattle.std.specs.Prelude.{◌≡◌, ◌≢◌, ◌↔◌, ◌+◌, ◌≤◌, ◌<◌, ◌^◌, ◌++◌, not, length, true, false, None, List, IsTrue, IsSome, IfSome, IfOk, IfErr, OnOk, OnErr, IsErrOf};
 ghost use Rattle.std.specs.BTreeMap as tree;
-ghost use Rattle.std.specs.Option.{is_some, option_copied, unwrap_or};
+ghost use Rattle.std.specs.Option.{is_some, option_copied, option_map, unwrap_or};
 ghost use Rattle.oct_code.specs.Code as octal;
 ghost use Rattle.oct_ops.specs.Body.{Operation};
 ghost use Rattle.oct_ops.specs.Operation.{dot_of, removing};
@@ -18,12 +18,13 @@ ghost use Rattle.oct_store.specs.Summary as summary;
 ghost use Rattle.oct_notes.specs.Notes.{live_dots, notes_of};
 ghost use Rattle.oct_record.specs.Content.{RecordContent};
 ghost use Rattle.oct_record.specs.Index.{index_of};
+ghost use Rattle.oct_record.specs.Numbers.{foreign_of, holds_any};
 ghost use Rattle.oct_record.specs.Removals.{removal_fault, RefusesRemoval};
 ghost use Rattle.oct_record.specs.States.{state_text, RefusesState};
 ghost use Rattle.oct_record.specs.Taking.{count_new, has_number, issue_error, next_op, with_all, IsCutBy, LeavesAt};
 ghost use Rattle.oct_record.specs.Valid.{AreValid};
 
-use crate::error::{AuthorError, IssueError, LoadError, RemovalError, TakeError};
+use crate::error::{AuthorError, IssueError, LoadError, RemovalError, RenumberError, TakeError};
 use crate::holder::Holder;
 use crate::index::{file, unfile};
 use crate::state::{put_state, read_state};
@@ -38,6 +39,7 @@ use oct_store::Store;
 use std::alloc::{AllocError, Allocator};
 use std::collections::BTreeMap;
 use std::marker::Model;
+use std::mem;
 use std::rc::Rc;
 
 /// An author and a set of operations, in memory of `A`. Beside the set it keeps which operations are of each game, and the
@@ -91,6 +93,23 @@ impl<A: Allocator + Copy> Record<A> {
         ensures valid { (1 ≤ self.now.author) × IsU32 self.now.author }
     {
         self.author
+    }
+
+    /// Goes on under another author, and answers the old one: the operations stay, and what is issued from now on is by the new
+    /// one. The first refusal is `Zero`, exactly where the author is 0; then `Held`, exactly where an operation by the author is
+    /// here. After a refusal nothing changes. Takes no memory.
+    pub fn renumber(&mut self, author: u32) -> Result<u32, RenumberError>
+        ensures ok { OnOk result (self.new ≡ record self.old { author = author }) }
+        ensures was { IfOk result (λ was. was ≡ self.old.author) }
+        ensures zero { IsErrOf result RenumberError.Zero ↔ (author ≡ 0) }
+        ensures held { IsErrOf result RenumberError.Held ↔ ((author ≢ 0) × (holds_any self.old.ops author ≡ true)) }
+        ensures err { OnErr result (self.new ≡ self.old) }
+    {
+        match author {
+            0 => Err(RenumberError::Zero),
+            _ if self.store.last(author) != 0 => Err(RenumberError::Held),
+            _ => Ok(mem::replace(&mut self.author, author)),
+        }
     }
 
     /// The memory that it grows in.
@@ -300,6 +319,21 @@ impl<A: Allocator + Copy> Record<A> {
             Ok(_) => Ok(said),
             Err(_) => Err(LoadError::OutOfMemory),
         }
+    }
+
+    /// The dot of the least operation by the author of this record that `later` holds and this one does not; none where there
+    /// is none. Where `later` is what this record became without issuing anything, someone else issues under its author, or it
+    /// is an old copy. This is one pass over `later`. Takes no memory.
+    pub fn first_foreign(&self, later: &Record<A>) -> Option<Dot>
+        ensures { result ≡ option_map (λ o. o.dot) (foreign_of self.now.ops later.now.ops self.now.author) }
+    {
+        for op in later.store.iter() {
+            let dot = op.dot();
+            if dot.author() == self.author && !self.store.contains(op) {
+                return Some(dot);
+            }
+        }
+        None
     }
 
     /// The dot of what the author issues next, under the number after its greatest; none after the last number.
