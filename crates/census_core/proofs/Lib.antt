@@ -3,6 +3,7 @@ mod Chunks
 mod CodeTexts
 mod DigitPairs
 mod DigitTables
+mod Digested
 mod Folding
 mod Gathering
 mod Growing
@@ -17,6 +18,7 @@ mod Numbers
 mod OpenGame
 mod Outcomes
 mod Rejoining
+mod Renumbering
 mod Stepping
 mod StoredStates
 mod Taking

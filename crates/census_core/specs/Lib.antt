@@ -1,6 +1,7 @@
 pub mod Asking
 pub mod Claiming
 pub mod Codes
+pub mod Digests
 pub mod Extending
 pub mod FaultTexts
 pub mod Finding

@@ -5,6 +5,7 @@
 //!   `perform_watched` tells a `Progress` how far it is.
 //! - `search` says which period the nim-values of a game prove, computed until they prove one.
 //! - `unite` makes one delta of several files.
+//! - `digest` names the set of operations of a file by 64 digits, and `first_foreign` says whether an author's number is used twice.
 //! - `rejoin` gives what a state file is to hold after a session, and `unchanged` what is said after one that brought nothing.
 //! - `import_block` reads the block of a JSON value, and `number` a word of the command line.
 //! - `read_whole` reads all of a stream.
@@ -15,6 +16,7 @@ mod asking;
 mod claiming;
 mod codes;
 mod command;
+mod digests;
 mod extending;
 mod fault;
 mod fault_text;
@@ -43,6 +45,7 @@ mod viewing;
 mod words;
 
 pub use command::{perform, perform_watched};
+pub use digests::digest;
 pub use fault::Fault;
 pub use fold::{fold_intake, fold_lines};
 pub use import::import_block;
@@ -52,7 +55,7 @@ pub use progress::Progress;
 pub use reply::Reply;
 pub use request::Request;
 pub use searching::{SEARCH_LIMIT, search};
-pub use states::{rejoin, unchanged};
+pub use states::{first_foreign, rejoin, unchanged};
 pub use surveying::Aim;
 pub use taken::Intake;
 pub use turning::Turns;

@@ -7,6 +7,7 @@ use std::env::{self, Env};
 use std::fs::File;
 use std::io::{ErrorKind, IsTerminal, Read, Write};
 use std::net::{Net, TcpListener, TcpStream};
+use std::random::RandomSource;
 use std::rt::Files;
 use std::time::Clock;
 
@@ -18,7 +19,8 @@ where
         + Files<File = File>
         + AllocGlobal
         + Net<Stream = TcpStream, Listener = TcpListener>
-        + Clock,
+        + Clock
+        + RandomSource,
     I: Read,
     O: Write,
     E: Write + IsTerminal,

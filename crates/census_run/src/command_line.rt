@@ -1,7 +1,7 @@
 //! The command line of the program, made from the table of the commands.
 
 use crate::table::{Row, parts};
-use crate::words::{Choice, Times, Word};
+use crate::words::{Choice, Flag, Times, Word};
 use clap::{Arg, ArgAction, Command};
 use std::alloc::{AllocError, Global};
 
@@ -27,7 +27,10 @@ fn command_of<'a>(alloc: Global, row: &Row) -> Result<Command<'a>, AllocError> {
         .about(row.about)
         .after_help(row.after);
     for &word in row.words {
-        command = command.arg(argument_of(alloc, word))?;
+        command = command.arg(argument_of(alloc, word)?)?;
+        if let Times::OneOr(flag) = word.times {
+            command = command.arg(flag_of(alloc, flag))?;
+        }
     }
     for &option in row.options {
         command = command.arg(option_of(alloc, option))?;
@@ -36,16 +39,30 @@ fn command_of<'a>(alloc: Global, row: &Row) -> Result<Command<'a>, AllocError> {
 }
 
 // The argument that this word is.
-fn argument_of<'a>(alloc: Global, word: Word) -> Arg<'a> {
+fn argument_of<'a>(alloc: Global, word: Word) -> Result<Arg<'a>, AllocError> {
     let argument = Arg::new(alloc, word.name).help(word.meaning);
     match word.times {
-        Times::One => argument.required(true),
-        Times::OneOrMore => argument
-            .action(ArgAction::Append)
-            .num_args(1..)
-            .required(true),
-        Times::Any => argument.action(ArgAction::Append).num_args(0..),
+        Times::One => Ok(argument.required(true)),
+        Times::OneOr(flag) => argument
+            .required_unless_present(flag.name)?
+            .conflicts_with(flag.name),
+        Times::OneOrNone => Ok(argument),
+        Times::OneOrMore => Ok(
+            argument
+                .action(ArgAction::Append)
+                .num_args(1..)
+                .required(true),
+        ),
+        Times::Any => Ok(argument.action(ArgAction::Append).num_args(0..)),
     }
+}
+
+// The argument that this flag is.
+fn flag_of<'a>(alloc: Global, flag: Flag) -> Arg<'a> {
+    Arg::new(alloc, flag.name)
+        .long(flag.name)
+        .help(flag.meaning)
+        .action(ArgAction::SetTrue)
 }
 
 // The argument that this option is.

@@ -10,6 +10,7 @@
 mod arguments;
 mod command_line;
 mod connection;
+mod drawing;
 mod files;
 mod help;
 mod kept;

@@ -3,7 +3,7 @@
 use crate::help::{EXAMPLE, TITLE, words_text};
 use crate::manual_texts::{DESCRIPTION, FILES, SEE_ALSO};
 use crate::table::{Part, Row, parts};
-use crate::words::{self, Choice, Word};
+use crate::words::{self, Choice, Flag, Times, Word};
 use std::alloc::{AllocError, Global};
 
 // What stands before the title, and between it and the description.
@@ -76,6 +76,17 @@ fn append_word(alloc: Global, page: &mut String, word: &Word) -> Result<(), Allo
         return Ok(());
     }
     let line = format!(in alloc; ".br\n.IR {name} :\n{meaning}.\n")?;
+    page.push_str(&line)?;
+    match word.times {
+        Times::OneOr(flag) => append_flag(alloc, page, flag),
+        _ => Ok(()),
+    }
+}
+
+// What a flag means.
+fn append_flag(alloc: Global, page: &mut String, flag: Flag) -> Result<(), AllocError> {
+    let Flag { name, meaning } = flag;
+    let line = format!(in alloc; ".br\n.BR \\-\\-{name} :\n{meaning}.\n")?;
     page.push_str(&line)
 }
 

@@ -10,7 +10,7 @@ use crate::state_file::StateFile;
 use crate::task::{Task, read_task};
 use crate::turns::{Games, give_turns};
 use census_core::{
-    Fault, Progress, Reply, Request, fold_intake, perform, perform_watched, search, unite,
+    Fault, Progress, Reply, Request, digest, fold_intake, perform, perform_watched, search, unite,
 };
 use clap::error::ErrorKind;
 use oct_code::Code;
@@ -21,6 +21,7 @@ use std::fs::File;
 use std::io::{Read, Write};
 use std::mem;
 use std::net::{Net, TcpListener, TcpStream};
+use std::random::RandomSource;
 use std::rt::Files;
 use std::time::Clock;
 
@@ -29,7 +30,11 @@ use std::time::Clock;
 /// Answers the exit status: 0 done, 1 refused, 2 command line, 3 file, stream or network, 4 memory.
 pub fn run<R, S, I, O, E>(rt: &R, words: &[S], input: &mut I, output: &mut O, errors: &mut E) -> u8
 where
-    R: Files<File = File> + AllocGlobal + Net<Stream = TcpStream, Listener = TcpListener> + Clock,
+    R: Files<File = File>
+        + AllocGlobal
+        + Net<Stream = TcpStream, Listener = TcpListener>
+        + Clock
+        + RandomSource,
     S: AsStr,
     I: Read,
     O: Write,
@@ -48,7 +53,11 @@ pub(crate) fn run_watched<R, S, I, O, E>(
     is_watched: bool,
 ) -> u8
 where
-    R: Files<File = File> + AllocGlobal + Net<Stream = TcpStream, Listener = TcpListener> + Clock,
+    R: Files<File = File>
+        + AllocGlobal
+        + Net<Stream = TcpStream, Listener = TcpListener>
+        + Clock
+        + RandomSource,
     S: AsStr,
     I: Read,
     O: Write,
@@ -62,7 +71,7 @@ where
         return refuse(errors, Fault::OutOfMemory);
     };
     match command.try_get_matches_from(words) {
-        Ok(matches) => match read_task(alloc, &matches) {
+        Ok(matches) => match read_task(rt, &matches) {
             Ok(task) => match done(rt, &task, input, output, errors, is_watched) {
                 Ok(()) => 0,
                 Err(fault) => refuse(errors, fault),
@@ -140,6 +149,7 @@ where
             }
         }
         Task::Union { out, deltas } => union(rt, out, deltas, output),
+        Task::Digest { files } => digest_each(rt, files, output),
         Task::Ask {
             state,
             written,
@@ -316,6 +326,23 @@ fn union_held<R: Files<File = File> + AllocGlobal>(
         file.replace(rt, bytes)?;
     }
     Ok(reply)
+}
+
+// Prints the digest of each file before it goes on to the next.
+fn digest_each<R, O>(rt: &R, files: &[&str], output: &mut O) -> Result<(), Fault>
+where
+    R: Files + AllocGlobal,
+    O: Write,
+{
+    for path in files {
+        let bytes = read_file(rt, path)?;
+        let mut line = digest(rt.alloc(), &bytes)?;
+        line.extend_from_slice(b"  ")?;
+        line.extend_from_slice(path.as_bytes())?;
+        line.extend_from_slice(b"\n")?;
+        write_out(output, &line)?;
+    }
+    Ok(())
 }
 
 // Asks a state file, and writes the file of the reply and then its text. The state file is not written over.

@@ -12,8 +12,19 @@ pub(crate) struct Word {
 #[derive(Clone, Copy)]
 pub(crate) enum Times {
     One,
+    /// Once, or this flag in its place.
+    OneOr(Flag),
+    /// Once or not at all.
+    OneOrNone,
     OneOrMore,
     Any,
+}
+
+/// An option without a value.
+#[derive(Clone, Copy)]
+pub(crate) struct Flag {
+    pub(crate) name: &'static str,
+    pub(crate) meaning: &'static str,
 }
 
 /// An option that a command takes, with one value.
@@ -35,7 +46,24 @@ pub(crate) const STATE: Word = Word {
 pub(crate) const ID: Word = Word {
     name: "ID",
     meaning: "The author of what is issued there, 1 to 4294967295; each person needs a different one",
-    times: Times::One,
+    times: Times::OneOr(DRAW),
+};
+
+pub(crate) const DRAW: Flag = Flag {
+    name: "draw",
+    meaning: "In place of ID: the number is drawn, so that nobody need know the numbers of others",
+};
+
+pub(crate) const OTHER_ID: Word = Word {
+    name: "ID",
+    meaning: "The new number, 1 to 4294967295; it is drawn where it is left out",
+    times: Times::OneOrNone,
+};
+
+pub(crate) const FILES: Word = Word {
+    name: "FILE",
+    meaning: "One or more files, each a state or a delta",
+    times: Times::OneOrMore,
 };
 
 pub(crate) const FILE: Word = Word {
