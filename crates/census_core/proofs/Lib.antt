@@ -3,6 +3,7 @@ mod Chunks
 mod CodeTexts
 mod DigitPairs
 mod DigitTables
+mod Digested
 mod Folding
 mod Gathering
 mod Growing
@@ -18,6 +19,7 @@ mod OpenGame
 mod Outcomes
 mod Pieces
 mod Rejoining
+mod Renumbering
 mod Stepping
 mod StoredStates
 mod Taking

@@ -29,7 +29,7 @@ unnamed : (file : Bytes) → format_at file ≡ None → read_delta file ≡ Non
 unnamed file none = ap (λ (f : Option Format). read_as f file) none
 
 -- a refusal that is not want of memory is the one that reading gives
-delta_refused : Law → (file : Bytes) (result : Result ℕ TakeError) (cause : TakeError) → IsBytes file → result ≡ Err cause
+pub delta_refused : Law → (file : Bytes) (result : Result ℕ TakeError) (cause : TakeError) → IsBytes file → result ≡ Err cause
     → IsErrOf result Version ↔ (format_at file ≡ None)
     → IsErrOf result Refused ↔ (IsSome (format_at file) × ((ops : List Operation) → ¬ IsDeltaText file ops))
     → take_fault cause ≢ fault.OutOfMemory → delta_of file ≡ Err (take_fault cause)

@@ -2,6 +2,7 @@ pub mod Asking
 pub mod Checking
 pub mod Claiming
 pub mod Codes
+pub mod Digests
 pub mod Extending
 pub mod FaultTexts
 pub mod Finding

@@ -13,6 +13,10 @@ number_line label n = labelled label n ++ codes "\n"
 abbrev pub union_line : ℕ → ℕ → Text
 union_line new all = labelled (codes "new ") new ++ labelled (codes " operations ") all ++ codes "\n"
 
+-- which author a state had, and which it has
+abbrev pub renumbered_line : ℕ → ℕ → Text
+renumbered_line old new = labelled (codes "author ") old ++ labelled (codes " renumbered ") new ++ codes "\n"
+
 -- which operation was issued
 abbrev pub issued_line : Dot → Text
 issued_line d = codes "issued " ++ dot_text d ++ codes "\n"

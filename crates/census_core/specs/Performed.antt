@@ -14,12 +14,13 @@ use Rattle.census_core.specs.Replies.{Answer}
 use Rattle.census_core.specs.declared.fault.Fault.{Fault}
 use Rattle.census_core.specs.declared.fault.Fault.TheVariants.{Zero}
 use Rattle.census_core.specs.declared.request.Request.{Request}
-use Rattle.census_core.specs.declared.request.Request.TheVariants.{Init, Import, Claim, Compute, Extend, Find, Survey, Period, Note, Unnote, Merge, Delta, Value, Move, Page, Show, Bfile, Plot, Json, Report}
+use Rattle.census_core.specs.declared.request.Request.TheVariants.{Init, Renumber, Import, Claim, Compute, Extend, Find, Survey, Period, Note, Unnote, Merge, Delta, Value, Move, Page, Show, Bfile, Plot, Json, Report}
 
 -- the new state, the file and the text, or the first fault: a number out of its range, then that of the state, then those of the command in its order, then
 -- that no number is left, then that there are too many operations
 abbrev pub performed : Request → Bytes → Bytes → Result Answer Fault
 performed (Init id) state file = states.init id
+performed (Renumber id) state file = states.renumber id state
 performed Import state file = issuing.import state file
 performed (Claim code) state file = claiming.claim state code.items file
 performed (Compute code count) state file = issuing.compute state code.items count
@@ -43,6 +44,7 @@ performed Report state file = viewing.report state
 -- the fault that the numbers of a command show, whatever its files hold
 abbrev pub number_fault : Request → Option Fault
 number_fault (Init id) = if id == 0 then Some Zero else None
+number_fault (Renumber id) = if id == 0 then Some Zero else None
 number_fault (Extend count codes) = result_err (extending.wanted count)
 number_fault (Survey count codes) = result_err (extending.wanted count)
 number_fault request = None

@@ -11,6 +11,8 @@ use Rattle.oct_record.specs.declared.error.LoadError.{LoadError}
 use Rattle.oct_record.specs.declared.error.LoadError.TheVariants as load
 use Rattle.oct_record.specs.declared.error.RemovalError.{RemovalError}
 use Rattle.oct_record.specs.declared.error.RemovalError.TheVariants as removal
+use Rattle.oct_record.specs.declared.error.RenumberError.{RenumberError}
+use Rattle.oct_record.specs.declared.error.RenumberError.TheVariants as renumber
 use Rattle.oct_record.specs.declared.error.TakeError.{TakeError}
 use Rattle.oct_record.specs.declared.error.TakeError.TheVariants as take
 use Rattle.oct_search.specs.declared.error.SearchError.{SearchError}
@@ -20,7 +22,7 @@ use Rattle.oct_sync.specs.declared.error.SyncError.TheVariants as sync
 use Rattle.oct_views.specs.declared.bfile_error.BfileError.{BfileError}
 use Rattle.oct_views.specs.declared.bfile_error.BfileError.TheVariants as bfile
 use Rattle.census_core.specs.declared.fault.Fault.{Fault}
-use Rattle.census_core.specs.declared.fault.Fault.TheVariants.{Load, Import, Bfile, Compute, Note, Removal, Merge, Sync, Issue, TooMany, PastValue, OutOfMemory}
+use Rattle.census_core.specs.declared.fault.Fault.TheVariants.{Load, Zero, Held, Import, Bfile, Compute, Note, Removal, Merge, Sync, Issue, TooMany, PastValue, OutOfMemory}
 use Rattle.census_core.specs.declared.import_error.ImportError.{ImportError}
 use Rattle.census_core.specs.declared.import_error.ImportError.TheVariants as import
 
@@ -55,6 +57,10 @@ take_fault cause = Merge cause
 abbrev pub issue_fault : IssueError → Fault
 issue_fault issue.OutOfMemory = OutOfMemory
 issue_fault cause = Issue cause
+
+abbrev pub renumber_fault : RenumberError → Fault
+renumber_fault renumber.Zero = Zero
+renumber_fault renumber.Held = Held
 
 abbrev pub encode_fault : EncodeError → Fault
 encode_fault encode.OutOfMemory = OutOfMemory

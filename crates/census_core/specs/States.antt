@@ -1,23 +1,39 @@
--- What the commands give that make a state, or merge a delta into one.
-use Rattle.std.specs.Prelude.{◌==◌, ◌-◌, ℕ, length, is_none, is_some, codes, Result, Ok, Err, if◌then◌else◌}
+-- What the commands give that make a state, have it go on under another author, or merge a delta into it.
+use Rattle.std.specs.Prelude.{◌==◌, ◌-◌, ℕ, length, is_none, is_some, codes, Option, option_map, Result, Ok, Err, if◌then◌else◌}
 use Rattle.oct_delta.specs.Decoding.{format_at, read_delta}
 use Rattle.oct_delta.specs.Taken.{operations_of}
 use Rattle.oct_delta.specs.Text.{Bytes}
 use Rattle.oct_ops.specs.Operations.{Operations, empty, listed, union}
+use Rattle.oct_ops.specs.Operation.{Dot}
 use Rattle.oct_record.specs.Content.{RecordContent}
+use Rattle.oct_record.specs.Numbers.{foreign_of, holds_any}
 use Rattle.oct_record.specs.Taking.{count_new, with_all}
 use Rattle.oct_record.specs.declared.error.TakeError.{TakeError}
 use Rattle.oct_record.specs.declared.error.TakeError.TheVariants.{Version, Refused}
-use Rattle.census_core.specs.Lines.{number_line, union_line}
+use Rattle.census_core.specs.Lines.{number_line, renumbered_line, union_line}
 use Rattle.census_core.specs.Replies.{Answer}
 use Rattle.census_core.specs.Steps.{◌>>=◌}
 use Rattle.census_core.specs.Stored.{loaded, saved}
 use Rattle.census_core.specs.declared.fault.Fault.{Fault}
-use Rattle.census_core.specs.declared.fault.Fault.TheVariants.{Zero, Author, Merge}
+use Rattle.census_core.specs.declared.fault.Fault.TheVariants.{Zero, Held, Author, Merge}
 
 -- a state without operations
 abbrev pub init : ℕ → Result Answer Fault
 init id = if id == 0 then Err Zero else saved (record { author = id; ops = empty }) (number_line (codes "author ") id)
+
+-- the same operations under another author, of whom there is none
+abbrev pub renumbered : RecordContent → ℕ → Result Answer Fault
+renumbered r id = if holds_any r.ops id then Err Held else saved (record r { author = id }) (renumbered_line r.author id)
+
+abbrev pub renumber : ℕ → Bytes → Result Answer Fault
+renumber id state = if id == 0 then Err Zero else (loaded state >>= λ r. renumbered r id)
+
+-- of two texts of one state, the dot of the least operation by the author of the first that the second has and the first has not
+abbrev pub first_foreign : Bytes → Bytes → Result (Option Dot) Fault
+first_foreign before later = do
+  was ← loaded before
+  now ← loaded later
+  Ok (option_map (λ o. o.dot) (foreign_of was.ops now.ops was.author))
 
 -- why bytes that are no delta are refused
 abbrev pub delta_refusal : Bytes → TakeError

@@ -12,7 +12,7 @@ use crate::issuing::{compute, import, note, unnote};
 use crate::progress::{Progress, Silent};
 use crate::reply::Reply;
 use crate::request::Request;
-use crate::states::{init, merge};
+use crate::states::{init, merge, renumber};
 use crate::surveying::{Aim, give_turns};
 use crate::viewing::{View, show};
 use std::alloc::Global;
@@ -21,7 +21,7 @@ use std::alloc::Global;
 /// does not look at `state`; only `Import`, `Claim` and `Merge` look at `file`. After a fault nothing is to be written.
 ///
 /// The first fault is answered: `Number`, then `Load`, then the command's own in the order in which it reads its words, then `Issue`, then
-/// `TooMany`. `OutOfMemory` may come before any of them but those of a number alone, `Number` and the `Zero` of `Init`.
+/// `TooMany`. `OutOfMemory` may come before any of them but those of a number alone, `Number` and the `Zero` of `Init` and `Renumber`.
 pub fn perform(alloc: Global, request: &Request, state: &[u8], file: &[u8]) -> Result<Reply, Fault>
     ensures ok { IfOk result (λ reply. performed request.now state.now file.now ≡ Ok (answer_of reply)) }
     ensures err { IfErr result (λ e. e ≢ Fault.OutOfMemory → performed request.now state.now file.now ≡ Err e) }
@@ -44,6 +44,7 @@ pub fn perform_watched<P: Progress>(
 {
     match request {
         Request::Init { id } => init(alloc, *id),
+        Request::Renumber { id } => renumber(alloc, state, *id),
         Request::Import => import(alloc, state, file),
         Request::Claim { code } => claim(alloc, state, code, file),
         Request::Compute { code, count } => compute(alloc, state, code, *count),

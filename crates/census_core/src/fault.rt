@@ -4,6 +4,7 @@ use crate::import_error::ImportError;
 use oct_code::CodeError;
 use oct_delta::EncodeError;
 use oct_ops::{NoteError, PeriodError};
+use oct_record::RenumberError;
 use oct_replica::{ComputeError, IssueError, LoadError, RemovalError, TakeError};
 use oct_search::SearchError;
 use oct_sync::{SyncError, Unwritten};
@@ -30,8 +31,10 @@ pub enum Fault {
     TooLong,
     /// The state file holds no state.
     Load(LoadError),
-    /// The author of a new state is 0.
+    /// The author of a state is to be 0.
     Zero,
+    /// The state holds operations by this author.
+    Held,
     /// The state file became another author's during a session.
     Author,
     /// The file is no JSON text.
@@ -251,6 +254,20 @@ impl From<SearchError> for Fault {
         match cause {
             SearchError::PastValue => Fault::PastValue,
             SearchError::OutOfMemory => Fault::OutOfMemory,
+        }
+    }
+}
+
+impl From<RenumberError> for Fault {
+    ghost use Rattle.std.specs.Prelude.{◌≡◌};
+    ghost use Rattle.census_core.specs.Refusals.{renumber_fault};
+
+    ghost from_gives = { λ cause fault. fault ≡ renumber_fault cause };
+
+    fn from(cause: RenumberError) -> Fault {
+        match cause {
+            RenumberError::Zero => Fault::Zero,
+            RenumberError::Held => Fault::Held,
         }
     }
 }

@@ -39,6 +39,7 @@ fn fault_name(fault: Fault) -> &'static str
         Fault::TooLong => "TooLong",
         Fault::Load(_) => "Load",
         Fault::Zero => "Zero",
+        Fault::Held => "Held",
         Fault::Author => "Author",
         Fault::Json => "Json",
         Fault::Import(_) => "Import",

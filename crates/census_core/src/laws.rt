@@ -5,12 +5,13 @@ ghost use Rattle.oct_delta.specs.Bytes.{IsBytes};
 ghost use Rattle.oct_delta.specs.State.{IsState};
 ghost use Rattle.oct_delta.specs.Text.{Bytes};
 ghost use Rattle.oct_record.specs.Content.{RecordContent};
+ghost use Rattle.census_core.specs.Digests.{DigestIsOfSet, TextIsOfOneSet};
 ghost use Rattle.census_core.specs.Extending.{ExtendedIsKnown};
 ghost use Rattle.census_core.specs.Folded.{FoldedIsPrinted, FoldedIsSpelled, FoldedIsUnion, RefusedIsNoDelta};
 ghost use Rattle.census_core.specs.Stored.{loaded};
 ghost use Rattle.census_core.specs.declared.input.TheConstants.{INPUT_LIMIT};
 
-use oct_delta::laws::texts_are_read;
+use oct_delta::laws::{a_text_has_one_list, texts_are_read, what_is_written_is_a_text};
 
 /// What the commands read as a state is exactly the text of one.
 pub fn states_are_read()
@@ -34,6 +35,18 @@ pub fn lines_fold_to_their_union()
 pub fn extended_is_known()
     ensures { ExtendedIsKnown }
 {}
+
+/// The digest of a file, be it a state of whatever author or a delta, is that of the one text of its operations. So files of the
+/// same operations have the same digest. And that text has one set: two files with one digest hold the same operations, unless
+/// their texts are two with one SHA-256.
+pub fn digests_are_of_sets()
+    ensures digest { DigestIsOfSet }
+    ensures text { TextIsOfOneSet }
+{
+    texts_are_read();
+    a_text_has_one_list();
+    what_is_written_is_a_text();
+}
 
 /// The limit as a number: the most bytes of an input or a file.
 pub fn the_limit_is_this()

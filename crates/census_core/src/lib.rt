@@ -7,6 +7,7 @@
 //!   `first_values` computes as many as are asked for, and `write_values` writes them as a b-file.
 //! - `check` compares a b-file with computed values.
 //! - `unite` makes one delta of several files.
+//! - `digest` names the set of operations of a file by 64 digits, and `first_foreign` says whether an author's number is used twice.
 //! - `rejoin` gives what a state file is to hold after a session, and `unchanged` what is said after one that brought nothing.
 //! - `import_block` reads the block of a JSON value, and `number` a word of the command line.
 //! - `read_whole` reads all of a stream.
@@ -18,6 +19,7 @@ mod checking;
 mod claiming;
 mod codes;
 mod command;
+mod digests;
 mod extending;
 mod fault;
 mod fault_text;
@@ -49,6 +51,7 @@ mod words;
 
 pub use checking::{Checked, check};
 pub use command::{perform, perform_watched};
+pub use digests::digest;
 pub use fault::Fault;
 pub use fold::{fold_intake, fold_lines};
 pub use import::import_block;
@@ -60,7 +63,7 @@ pub use reply::Reply;
 pub use request::Request;
 pub use search_text::SearchForm;
 pub use searching::{SEARCH_LIMIT, first_values, search};
-pub use states::{rejoin, unchanged};
+pub use states::{first_foreign, rejoin, unchanged};
 pub use surveying::Aim;
 pub use taken::Intake;
 pub use turning::Turns;

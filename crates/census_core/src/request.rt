@@ -8,6 +8,10 @@ pub enum Request {
     Init {
         id: u32,
     },
+    /// The state under another author, from then on.
+    Renumber {
+        id: u32,
+    },
     /// Issues the block of a JSON file.
     Import,
     /// Issues the values of a b-file as blocks of a code.

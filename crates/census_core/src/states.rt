@@ -1,4 +1,5 @@
-//! The commands that make a state, or merge a delta into one; what a session leaves; and states as files hold them.
+//! The commands that make a state, have it go on under another author, or merge a delta into it; what a session leaves; whether
+//! an author's number is used twice; and states as files hold them.
 
 ghost use Rattle.std.specs.Prelude.{◌≡◌, ◌≢◌, Ok, Err, IfOk, IfErr};
 ghost use Rattle.std.specs.List.{All};
@@ -6,13 +7,14 @@ ghost use Rattle.oct_delta.specs.Text.{Bytes};
 ghost use Rattle.oct_ops.specs.Operations.{listed};
 ghost use Rattle.oct_ops.specs.Valid.{IsOp};
 ghost use Rattle.census_core.specs.Replies.{answer_of};
-ghost use Rattle.census_core.specs.States.{init, merge, rejoined, unchanged};
+ghost use Rattle.census_core.specs.States.{first_foreign, init, merge, rejoined, renumber, unchanged};
 ghost use Rattle.census_core.specs.Stored.{loaded, saved};
 
 use crate::fault::Fault;
 use crate::reply::Reply;
-use crate::texts::{number_line, union_line};
+use crate::texts::{number_line, renumbered_line, union_line};
 use oct_delta::laws::texts_are_read;
+use oct_ops::Dot;
 use oct_record::Record;
 use std::alloc::{AllocError, Global};
 
@@ -61,6 +63,34 @@ pub(crate) fn init(alloc: Global, id: u32) -> Result<Reply, Fault>
     };
     let text = number_line(alloc, b"author ", u64::from(id))?;
     save(alloc, &said, 0, text)
+}
+
+/// The state under another author, from then on. `Zero` is answered before the state is looked at.
+pub(crate) fn renumber(alloc: Global, state: &[u8], id: u32) -> Result<Reply, Fault>
+    ensures ok { IfOk result (λ reply. renumber id state.now ≡ Ok (answer_of reply)) }
+    ensures err { IfErr result (λ e. e ≢ Fault.OutOfMemory → renumber id state.now ≡ Err e) }
+    ensures zero { id ≡ 0 → result ≡ Err Fault.Zero }
+{
+    if id == 0 {
+        return Err(Fault::Zero);
+    }
+    let mut said = load(alloc, state)?;
+    let old = said.renumber(id)?;
+    let text = renumbered_line(alloc, old, id)?;
+    save(alloc, &said, state.len(), text)
+}
+
+/// Whether the number of an author is used twice, by two texts of one state, of which `later` was written after `before`, and
+/// between which the state issued nothing: the dot of the least operation by the author of `before` that `later` holds and
+/// `before` does not; none where there is none. Someone else issues under that number, or `before` is an old copy. The first
+/// refusal is `Load` where `before` is no state, then where `later` is none. Want of memory is `OutOfMemory`.
+pub fn first_foreign(alloc: Global, before: &[u8], later: &[u8]) -> Result<Option<Dot>, Fault>
+    ensures ok { IfOk result (λ found. first_foreign before.now later.now ≡ Ok found) }
+    ensures err { IfErr result (λ e. e ≢ Fault.OutOfMemory → first_foreign before.now later.now ≡ Err e) }
+{
+    let held = load(alloc, before)?;
+    let now = load(alloc, later)?;
+    Ok(held.first_foreign(&now))
 }
 
 /// Takes the file's delta in.

@@ -5,7 +5,7 @@ ghost use Rattle.census_core.specs.Claiming.{claimed_line, range_line};
 ghost use Rattle.census_core.specs.Extending.{extended_line};
 ghost use Rattle.census_core.specs.Finding.{found_line, found_text};
 ghost use Rattle.oct_period.specs.Periods.{needs};
-ghost use Rattle.census_core.specs.Lines.{issued_line, number_line, union_line};
+ghost use Rattle.census_core.specs.Lines.{issued_line, number_line, renumbered_line, union_line};
 ghost use Rattle.census_core.specs.Moving.{left_text, move_line};
 
 use oct_code::Code;
@@ -31,6 +31,17 @@ pub(crate) fn union_line(alloc: Global, new: usize, all: usize) -> Result<Vec<u8
     let mut line = Vec::new(alloc);
     append_labelled(&mut line, b"new ", new)?;
     append_labelled(&mut line, b" operations ", all)?;
+    append_text(&mut line, b"\n")?;
+    Ok(line)
+}
+
+/// The line of a state that goes on under another author: the old one, and the new one.
+pub(crate) fn renumbered_line(alloc: Global, old: u32, new: u32) -> Result<Vec<u8>, AllocError>
+    ensures { IfOk result (λ line. line.items ≡ renumbered_line old new) }
+{
+    let mut line = Vec::new(alloc);
+    append_labelled(&mut line, b"author ", old)?;
+    append_labelled(&mut line, b" renumbered ", new)?;
     append_text(&mut line, b"\n")?;
     Ok(line)
 }

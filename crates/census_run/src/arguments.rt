@@ -8,6 +8,7 @@ use std::env::{self, Env};
 use std::fs::File;
 use std::io::{ErrorKind, IsTerminal, Read, Write};
 use std::net::{Net, TcpListener, TcpStream};
+use std::random::RandomSource;
 use std::rt::Files;
 use std::time::Clock;
 
@@ -23,7 +24,8 @@ where
         + Files<File = File>
         + AllocGlobal
         + Net<Stream = TcpStream, Listener = TcpListener>
-        + Clock,
+        + Clock
+        + RandomSource,
     I: Read,
     O: Write,
     E: Write + IsTerminal,

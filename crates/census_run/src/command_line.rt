@@ -28,7 +28,10 @@ fn command_of<'a>(alloc: Global, row: &Row) -> Result<Command<'a>, AllocError> {
         .about(row.about)
         .after_help(row.after);
     for &word in row.words {
-        command = command.arg(argument_of(alloc, word))?;
+        command = command.arg(argument_of(alloc, word)?)?;
+        if let Times::OneOr(option) = word.times {
+            command = command.arg(option_of(alloc, option))?;
+        }
     }
     for &option in row.options {
         command = command.arg(option_of(alloc, option))?;
@@ -37,15 +40,21 @@ fn command_of<'a>(alloc: Global, row: &Row) -> Result<Command<'a>, AllocError> {
 }
 
 // The argument that this word is.
-fn argument_of<'a>(alloc: Global, word: Word) -> Arg<'a> {
+fn argument_of<'a>(alloc: Global, word: Word) -> Result<Arg<'a>, AllocError> {
     let argument = Arg::new(alloc, word.name).help(word.meaning);
     match word.times {
-        Times::One => argument.required(true),
-        Times::OneOrMore => argument
-            .action(ArgAction::Append)
-            .num_args(1..)
-            .required(true),
-        Times::Any => argument.action(ArgAction::Append).num_args(0..),
+        Times::One => Ok(argument.required(true)),
+        Times::OneOr(option) => argument
+            .required_unless_present(option.name)?
+            .conflicts_with(option.name),
+        Times::OneOrNone => Ok(argument),
+        Times::OneOrMore => Ok(
+            argument
+                .action(ArgAction::Append)
+                .num_args(1..)
+                .required(true),
+        ),
+        Times::Any => Ok(argument.action(ArgAction::Append).num_args(0..)),
     }
 }
 

@@ -78,15 +78,19 @@ fn called(alloc: Global, row: &Row) -> Result<String, AllocError> {
     format!(in alloc; "{name}{words}")
 }
 
-/// Words as they stand on a command line, a space before each. Two dots follow one that may stand several times.
+/// Words as they stand on a command line, a space before each. Two dots follow one that may stand several times, and one that may
+/// be left out stands in brackets.
 pub(crate) fn words_text(alloc: Global, words: &[Word]) -> Result<String, AllocError> {
     let mut text = String::new(alloc);
     for word in words {
-        text.push_str(" ")?;
+        let (front, back) = match word.times {
+            Times::One | Times::OneOr(_) => (" ", ""),
+            Times::OneOrNone => (" [", "]"),
+            Times::OneOrMore | Times::Any => (" ", ".."),
+        };
+        text.push_str(front)?;
         text.push_str(word.name)?;
-        if !matches!(word.times, Times::One) {
-            text.push_str("..")?;
-        }
+        text.push_str(back)?;
     }
     Ok(text)
 }

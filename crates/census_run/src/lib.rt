@@ -14,6 +14,7 @@ mod advice;
 mod arguments;
 mod command_line;
 mod connection;
+mod drawing;
 mod files;
 mod guest;
 mod help;

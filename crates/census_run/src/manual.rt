@@ -3,7 +3,7 @@
 use crate::help::{EXAMPLE, TITLE, words_text};
 use crate::manual_texts::{DESCRIPTION, FILES, SEE_ALSO};
 use crate::table::{Part, Row, parts};
-use crate::words::{self, Choice, Takes, Word};
+use crate::words::{self, Choice, Takes, Times, Word};
 use std::alloc::{AllocError, Global};
 
 // What stands before the title, and between it and the description.
@@ -76,7 +76,11 @@ fn append_word(alloc: Global, page: &mut String, word: &Word) -> Result<(), Allo
         return Ok(());
     }
     let line = format!(in alloc; ".br\n.IR {name} :\n{meaning}.\n")?;
-    page.push_str(&line)
+    page.push_str(&line)?;
+    match word.times {
+        Times::OneOr(option) => append_option(alloc, page, &option),
+        _ => Ok(()),
+    }
 }
 
 // What an option means.

@@ -94,13 +94,12 @@ trusted network; over any other use a tunnel, such as
 ssh \-N \-L 4000:127.0.0.1:4000 hub.example.org
 .fi
 .PP
-Each person has one number. A state file is never copied to a second person, nor put back from a
-backup: what is issued then
-has numbers that were used before. Instead
-.B init
-a state under a new number, and
-.B merge
-a delta of anyone who has the operations.
+Each person has one number, which
+.B init \-\-draw
+draws. A state file that was copied to a second person, or put back from a backup, is to go on under
+another number before anything is issued there, by
+.BR renumber :
+what is issued under the old one may have numbers that were used before.
 .SH EXIT STATUS
 .TP
 0
@@ -135,7 +134,12 @@ it does not begin as one.
 it is damaged.
 .TP
 .B Zero
-The author of a new state is 0.
+The author of a state is to be 0.
+.TP
+.B Held
+The state holds operations by the number that
+.B renumber
+was given.
 .TP
 .B Author
 The state file became another author's during a session; nothing was written.

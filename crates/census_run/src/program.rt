@@ -14,8 +14,8 @@ use crate::task::{Sought, Task, read_task};
 use crate::turns::{Games, give_turns};
 use crate::words::EXPLAIN;
 use census_core::{
-    Fault, Progress, Reply, Request, check, first_values, fold_intake, perform, perform_watched,
-    search, unite, write_values,
+    Fault, Progress, Reply, Request, check, digest, first_values, fold_intake, perform,
+    perform_watched, search, unite, write_values,
 };
 use clap::ArgMatches;
 use clap::error::ErrorKind;
@@ -27,6 +27,7 @@ use std::fs::File;
 use std::io::{Read, Write};
 use std::mem;
 use std::net::{Net, TcpListener, TcpStream};
+use std::random::RandomSource;
 use std::rt::Files;
 use std::time::Clock;
 
@@ -35,7 +36,11 @@ use std::time::Clock;
 /// the third. Answers the exit status: 0 done, 1 refused, 2 command line, 3 file, stream or network, 4 memory.
 pub fn run<R, S, I, O, E>(rt: &R, words: &[S], input: &mut I, output: &mut O, errors: &mut E) -> u8
 where
-    R: Files<File = File> + AllocGlobal + Net<Stream = TcpStream, Listener = TcpListener> + Clock,
+    R: Files<File = File>
+        + AllocGlobal
+        + Net<Stream = TcpStream, Listener = TcpListener>
+        + Clock
+        + RandomSource,
     S: AsStr,
     I: Read,
     O: Write,
@@ -59,7 +64,11 @@ pub(crate) fn run_watched<R, S, I, O, E>(
     audience: Audience,
 ) -> u8
 where
-    R: Files<File = File> + AllocGlobal + Net<Stream = TcpStream, Listener = TcpListener> + Clock,
+    R: Files<File = File>
+        + AllocGlobal
+        + Net<Stream = TcpStream, Listener = TcpListener>
+        + Clock
+        + RandomSource,
     S: AsStr,
     I: Read,
     O: Write,
@@ -180,6 +189,7 @@ where
         Task::Union { out, deltas } => {
             union(rt, *out, deltas, output, &mut Advice::new(errors, audience))?;
         }
+        Task::Digest { files } => digest_each(rt, files, output)?,
         Task::Ask {
             state,
             written,
@@ -448,6 +458,23 @@ fn united<R: Files + AllocGlobal>(rt: &R, deltas: &[&str]) -> Result<Reply, Faul
         files.push(bytes).or(Err(Fault::OutOfMemory))?;
     }
     unite(rt.alloc(), &files)
+}
+
+// Prints the digest of each file before it goes on to the next.
+fn digest_each<R, O>(rt: &R, files: &[&str], output: &mut O) -> Result<(), Fault>
+where
+    R: Files + AllocGlobal,
+    O: Write,
+{
+    for path in files {
+        let bytes = read_file(rt, path)?;
+        let mut line = digest(rt.alloc(), &bytes)?;
+        line.extend_from_slice(b"  ")?;
+        line.extend_from_slice(path.as_bytes())?;
+        line.extend_from_slice(b"\n")?;
+        write_out(output, &line)?;
+    }
+    Ok(())
 }
 
 // Asks a state file, and writes the file of the reply and then its text. The state file is not written over.

@@ -37,6 +37,7 @@ pub(crate) enum Does {
         request: Asked,
     },
     Union,
+    Digest,
     Serve,
     Sync,
     Hub,
@@ -45,6 +46,7 @@ pub(crate) enum Does {
 /// The request that the words of a command make.
 #[derive(Clone, Copy)]
 pub(crate) enum Asked {
+    Renumber,
     Import,
     Claim,
     Merge,
@@ -228,11 +230,35 @@ const OWN: &[Row] = &[
         line: "Makes one, for the author ID",
         about: "Makes a state file, and prints its author",
         after: "\
+With --draw the author is a number that the system draws, 1 to 4294967295, each as likely as another.
+
 Exit status: 0 done, 1 Zero (the author is 0), 2 command line, 3 Exists, or the file can't be
 written, 4 memory
 
 Example:
-  census init anna.state 1",
+  census init anna.state 1
+  census init ben.state --draw",
+    },
+    Row {
+        name: "renumber",
+        words: &[words::STATE, words::OTHER_ID],
+        options: &[],
+        does: Does::Change {
+            read: None,
+            request: Asked::Renumber,
+        },
+        line: "Goes on under another number, drawn where none is given",
+        about: "Has a state go on under another number, and prints the old one and the new one",
+        after: "\
+What was issued stays under the old number. What is issued from then on is under the new one, of which
+the state may hold no operation. It is for a state that is put back from a copy, since what was issued
+after the copy may still come back from others, and for one whose number somebody else has too.
+
+Exit status: 0 done, 1 refused: Load (the state), Zero (the number is 0), Held (the state holds
+operations by this number), TooMany; 2 command line, 3 file, 4 memory
+
+Example:
+  census renumber anna.state",
     },
     Row {
         name: "import",
@@ -630,6 +656,25 @@ Exit status: 0 done, 1 refused: Union (a file is no delta), TooMany; 2 command l
 
 Example, as a merge driver of git (docs/GROUP.md):
   git config merge.census.driver 'census union %A %A %B'",
+    },
+    Row {
+        name: "digest",
+        words: &[words::FILES],
+        options: &[],
+        does: Does::Digest,
+        line: "64 digits for the operations of each file, to be compared",
+        about: "Prints the digest of the operations of each file, and its name",
+        after: "\
+A line for each file has 64 hexadecimal digits, two spaces and the name. Files have the same digits
+where they hold the same operations, be they states, whoever their authors are, or deltas. The digits
+are the SHA-256 of the file that `census delta` writes. The first file that is refused ends it; the
+lines before it stand.
+
+Exit status: 0 done, 1 refused: Load (a state), Merge (a file is neither), TooMany; 2 command line,
+3 file, 4 memory
+
+Example:
+  census digest anna.state ben.delta",
     },
     Row {
         name: "serve",

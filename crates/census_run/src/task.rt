@@ -1,6 +1,7 @@
 //! What a command line asks for.
 
 use crate::connection::Patience;
+use crate::drawing::draw_number;
 use crate::hub::Limits;
 use crate::network::Place;
 use crate::out_file::Out;
@@ -10,6 +11,7 @@ use census_core::{Fault, Request, SEARCH_LIMIT, SearchForm, number};
 use clap::ArgMatches;
 use oct_code::{Code, LIMIT};
 use std::alloc::Global;
+use std::random::RandomSource;
 use std::time::Duration;
 
 /// The most sessions of a hub at once.
@@ -50,6 +52,10 @@ pub(crate) enum Task<'a> {
         out: Out<'a>,
         deltas: Vec<&'a str>,
     },
+    /// The digest of each file.
+    Digest {
+        files: Vec<&'a str>,
+    },
     /// A command that reads a state file, and the file that it writes beside it.
     Ask {
         state: &'a str,
@@ -81,19 +87,28 @@ pub(crate) struct Sought {
 }
 
 /// What the matches of a command line ask for. The fault is `Number` where a word is no number of its range, `Code` where a
-/// word of a search is no code, `Words` where one is missing or does not go with another, and `OutOfMemory`.
-pub(crate) fn read_task<'a>(alloc: Global, matches: &ArgMatches<'a>) -> Result<Task<'a>, Fault> {
+/// word of a search is no code, `Words` where one is missing or does not go with another, `File` where a number is to
+/// be drawn and the system draws none, and `OutOfMemory`.
+pub(crate) fn read_task<'a, R: AllocGlobal + RandomSource>(
+    rt: &R,
+    matches: &ArgMatches<'a>,
+) -> Result<Task<'a>, Fault> {
     let Some((name, found)) = matches.subcommand() else {
         return Err(Fault::Words);
     };
     match row_named(name) {
-        Some(row) => task_of(alloc, row.does, found),
+        Some(row) => task_of(rt, row.does, found),
         None => Err(Fault::Words),
     }
 }
 
 // What a command that does this asks for with these words.
-fn task_of<'a>(alloc: Global, does: Does, found: &ArgMatches<'a>) -> Result<Task<'a>, Fault> {
+fn task_of<'a, R: AllocGlobal + RandomSource>(
+    rt: &R,
+    does: Does,
+    found: &ArgMatches<'a>,
+) -> Result<Task<'a>, Fault> {
+    let alloc = rt.alloc();
     match does {
         Does::Fold => Ok(Task::Fold),
         Does::Search if found.get_flag(words::AS_BFILE.name) => list(alloc, found),
@@ -105,21 +120,24 @@ fn task_of<'a>(alloc: Global, does: Does, found: &ArgMatches<'a>) -> Result<Task
         Does::Manual => Ok(Task::Manual),
         Does::Init => Ok(Task::Init {
             state: word(found, words::STATE)?,
-            id: number_of(found, words::ID)?,
+            id: author(rt, found)?,
         }),
         Does::Change { read, request } => Ok(Task::Change {
             state: word(found, words::STATE)?,
             read: maybe_word(found, read)?,
-            request: request_of(alloc, request, found)?,
+            request: request_of(rt, request, found)?,
         }),
         Does::Ask { written, request } => Ok(Task::Ask {
             state: word(found, words::STATE)?,
             written: maybe_out(found, written)?,
-            request: request_of(alloc, request, found)?,
+            request: request_of(rt, request, found)?,
         }),
         Does::Union => Ok(Task::Union {
             out: out(found, words::UNION)?,
             deltas: repeated(alloc, found, words::DELTAS)?,
+        }),
+        Does::Digest => Ok(Task::Digest {
+            files: repeated(alloc, found, words::FILES)?,
         }),
         Does::Serve => Ok(Task::Serve {
             place: place(found, None)?,
@@ -135,8 +153,16 @@ fn task_of<'a>(alloc: Global, does: Does, found: &ArgMatches<'a>) -> Result<Task
 }
 
 // The request that these words make.
-fn request_of(alloc: Global, asked: Asked, found: &ArgMatches<'_>) -> Result<Request, Fault> {
+fn request_of<R: AllocGlobal + RandomSource>(
+    rt: &R,
+    asked: Asked,
+    found: &ArgMatches<'_>,
+) -> Result<Request, Fault> {
+    let alloc = rt.alloc();
     match asked {
+        Asked::Renumber => Ok(Request::Renumber {
+            id: author(rt, found)?,
+        }),
         Asked::Import => Ok(Request::Import),
         Asked::Claim => claim(alloc, found),
         Asked::Merge => Ok(Request::Merge),
@@ -324,6 +350,14 @@ fn bytes(alloc: Global, found: &ArgMatches<'_>, which: Word) -> Result<Vec<u8>, 
 // A word as a number of 32 bits.
 fn number_of(found: &ArgMatches<'_>, which: Word) -> Result<u32, Fault> {
     number_in(word(found, which)?)
+}
+
+// The number of an author, which is drawn where it is left out.
+fn author<R: RandomSource>(rt: &R, found: &ArgMatches<'_>) -> Result<u32, Fault> {
+    match found.get_str(words::ID.name) {
+        Some(text) => number_in(text),
+        None => draw_number(rt),
+    }
 }
 
 // A text as a number of 32 bits.

@@ -12,6 +12,10 @@ pub(crate) struct Word {
 #[derive(Clone, Copy)]
 pub(crate) enum Times {
     One,
+    /// Once, or this option in its place, which takes nothing.
+    OneOr(Choice),
+    /// Once or not at all.
+    OneOrNone,
     OneOrMore,
     Any,
 }
@@ -46,7 +50,26 @@ pub(crate) const STATE: Word = Word {
 pub(crate) const ID: Word = Word {
     name: "ID",
     meaning: "The author of what is issued there, 1 to 4294967295; each person needs a different one",
-    times: Times::One,
+    times: Times::OneOr(DRAW),
+};
+
+pub(crate) const DRAW: Choice = Choice {
+    name: "draw",
+    takes: Takes::Nothing,
+    meaning: "In place of ID: the number is drawn, so that nobody need know the numbers of others",
+    default: None,
+};
+
+pub(crate) const OTHER_ID: Word = Word {
+    name: "ID",
+    meaning: "The new number, 1 to 4294967295; it is drawn where it is left out",
+    times: Times::OneOrNone,
+};
+
+pub(crate) const FILES: Word = Word {
+    name: "FILE",
+    meaning: "One or more files, each a state or a delta",
+    times: Times::OneOrMore,
 };
 
 pub(crate) const FILE: Word = Word {

@@ -5,9 +5,11 @@ use crate::texts::{
     EARLY, EMPTY_STATE, FIRST, FIRST_STATE, FORKED_SHOWN, LAST, LATER, ONE, REMOVAL, SECOND_PAGE,
     TWO, bytes, long_claimed, many_blocks, many_notes,
 };
-use census_core::{Fault, ImportError, Reply, Request, number, perform, rejoin};
+use census_core::{
+    Fault, ImportError, Reply, Request, digest, first_foreign, number, perform, rejoin,
+};
 use oct_code::CodeError;
-use oct_ops::{NoteError, PeriodError};
+use oct_ops::{Dot, NoteError, PeriodError};
 use oct_record::Record;
 use oct_replica::{ComputeError, IssueError, LoadError, RemovalError, TakeError};
 use oct_sync::SyncError;
@@ -21,6 +23,7 @@ use std::test::Fail;
 #[derive(Clone, Copy, Debug)]
 enum Ask<'a> {
     Init(u32),
+    Renumber(u32),
     Import(&'a [u8]),
     Claim(&'a str, &'a [u8]),
     Compute(&'a str, u32),
@@ -97,6 +100,7 @@ end
 fn request_of(alloc: Global, ask: Ask) -> Result<Request, AllocError> {
     Ok(match ask {
         Ask::Init(id) => Request::Init { id },
+        Ask::Renumber(id) => Request::Renumber { id },
         Ask::Import(_) => Request::Import,
         Ask::Claim(code, _) => {
             let code = Vec::from_slice(alloc, code.as_bytes())?;
@@ -249,6 +253,27 @@ const STATES: &[Script<'static>] = &[
         CUT_STATE,
         &[(Ask::Show, Err(Fault::Load(LoadError::Refused)))],
         None,
+    ),
+    // A state goes on under a number of which it holds nothing, and under no other.
+    (
+        FIRST_STATE,
+        &[
+            (Ask::Renumber(0), Err(Fault::Zero)),
+            (Ask::Renumber(1), Err(Fault::Held)),
+            (Ask::Renumber(8), Ok("author 7 renumbered 8\n")),
+            (Ask::Note("one"), Ok("issued 8.1\n")),
+            (Ask::Renumber(8), Err(Fault::Held)),
+            (Ask::Renumber(7), Ok("author 8 renumbered 7\n")),
+        ],
+        None,
+    ),
+    (
+        CUT_STATE,
+        &[
+            (Ask::Renumber(0), Err(Fault::Zero)),
+            (Ask::Renumber(8), Err(Fault::Load(LoadError::Refused))),
+        ],
+        Some(CUT_STATE),
     ),
     // FIRST is merged once, and what is no delta is refused.
     (
@@ -479,6 +504,54 @@ fn commands_follow_each_other(rt: HostRuntime) {
         for &script in scripts {
             follows(&rt, script);
         }
+    }
+}
+
+/// What `sha256sum` prints of FIRST.
+const FIRST_DIGEST: &str = "7176004b6d2783c37b83e3f13ea0292d58b30b808636d686af833df5298103c6";
+
+// Files, and the digest or the fault of each.
+const DIGESTS: &[(&str, Result<&str, Fault>)] = &[
+    (FIRST, Ok(FIRST_DIGEST)),
+    (FIRST_STATE, Ok(FIRST_DIGEST)),
+    (CUT_STATE, Err(Fault::Load(LoadError::Refused))),
+    (CUT_FIRST, Err(Fault::Merge(TakeError::Refused))),
+    ("", Err(Fault::Merge(TakeError::Version))),
+];
+
+#[test]
+fn digests_are_of_operations(rt: HostRuntime) {
+    for &(file, wanted) in DIGESTS {
+        match (digest(rt.alloc(), &bytes(&rt, file)), wanted) {
+            (Ok(digits), Ok(wanted)) => is_text(&rt, &digits, wanted, file),
+            (Ok(_), Err(fault)) => panic!(rt; "{file} is not refused as {fault:?}"),
+            (Err(fault), wanted) => assert_eq!(rt; Err(fault), wanted, "{file}"),
+        }
+    }
+}
+
+/// The state of author 7 with ONE.
+const ONE_STATE: &str = "\
+4f475331 00000007 4f474431 00000001
+00000007 00000001 03 01 61 03 6f6e65";
+
+// Two texts of a state, and the least operation by its author that is only in the second, or the fault.
+const TWICE: &[(&str, &str, Result<Option<(u32, u32)>, Fault>)] = &[
+    (EMPTY_STATE, ONE_STATE, Ok(Some((7, 1)))),
+    (ONE_STATE, EMPTY_STATE, Ok(None)),
+    (ONE_STATE, ONE_STATE, Ok(None)),
+    (EMPTY_STATE, FIRST_STATE, Ok(None)),
+    (OTHER_STATE, ONE_STATE, Ok(None)),
+    (CUT_STATE, "", Err(Fault::Load(LoadError::Refused))),
+    (ONE_STATE, "", Err(Fault::Load(LoadError::Version))),
+];
+
+#[test]
+fn a_number_that_two_use_is_seen(rt: HostRuntime) {
+    for &(before, later, wanted) in TWICE {
+        let found = first_foreign(rt.alloc(), &bytes(&rt, before), &bytes(&rt, later));
+        let found = found.map(|dot| dot.map(|dot: Dot| (dot.author(), dot.number())));
+        assert_eq!(rt; found, wanted, "between {before} and {later}");
     }
 }
 

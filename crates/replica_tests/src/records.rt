@@ -1,8 +1,8 @@
 //! Records: the operations of each game, the notes, and an operation that is taken out again.
 
-use crate::texts::{EARLY, FIRST, NEXT, TURNS, bytes};
+use crate::texts::{EARLY, FIRST, NEXT, ONE, TURNS, bytes};
 use oct_code::Code;
-use oct_record::Record;
+use oct_record::{Record, RenumberError};
 use std::alloc::Global;
 use std::process::Abort;
 
@@ -46,4 +46,27 @@ fn what_is_taken_out_is_of_no_game(rt: HostRuntime) {
     assert!(rt; !said.remove(&first), "it is there no more");
     assert!(rt; said.is_empty(), "nothing is left");
     has_of_game(&rt, &said, "0.77", 0);
+}
+
+#[test]
+fn a_record_goes_on_under_another_number(rt: HostRuntime) {
+    let mut said = record_of(&rt, &[FIRST]);
+    assert_eq!(rt; said.renumber(0), Err(RenumberError::Zero));
+    assert_eq!(rt; said.renumber(1), Err(RenumberError::Held));
+    assert_eq!(rt; said.author(), 7);
+    assert_eq!(rt; said.renumber(8), Ok(()));
+    assert_eq!(rt; said.author(), 8);
+    assert_eq!(rt; said.len(), 1, "operations");
+}
+
+#[test]
+fn an_operation_that_one_never_held_is_found(rt: HostRuntime) {
+    let said = record_of(&rt, &[FIRST]);
+    let later = record_of(&rt, &[FIRST, NEXT, ONE]);
+    let found = said.first_foreign(&later);
+    assert_eq!(rt; found.map(|dot| (dot.author(), dot.number())), Some((7, 1)));
+    assert!(rt;
+        later.first_foreign(&said).is_none(),
+        "all of the other are held"
+    );
 }

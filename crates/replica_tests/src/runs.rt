@@ -83,6 +83,19 @@ const ON_FILES: &[Case<'static>] = &[
     (&["delta", "STATE", "STATE"], 3, "", "census: Same\n"),
     (&["import", "STATE", "JSON"], 0, "issued 7.1\n", ""),
     (&["show", "STATE"], 0, DAWSON, ""),
+    (&["digest", "STATE"], 0, DAWSON_DIGEST, ""),
+    (&["digest", "JSON"], 1, "", "census: Merge Version\n"),
+    (&["init", "STATE", "--draw"], 3, "", "census: Exists\n"),
+    (&["init", "STATE", "8", "--draw"], 2, "", "error: .."),
+    (&["renumber", "STATE", "7"], 1, "", "census: Held\n"),
+    (
+        &["renumber", "STATE", "8"],
+        0,
+        "author 7 renumbered 8\n",
+        "",
+    ),
+    (&["renumber", "STATE"], 0, "author 8 renumbered ..", ""),
+    (&["digest", "STATE"], 0, DAWSON_DIGEST, ""),
 ];
 
 // The words over these files.
@@ -129,6 +142,9 @@ block 7.1 at 0 count 7 proved
 author 7 through 1 last 1
 end
 ";
+
+// What `sha256sum` prints of the delta of that block, before the name of the file.
+const DAWSON_DIGEST: &str = "e7632fc4dbf044be5e28784d37ebbd1ce31d56f16a2e3bcab00e5ca68e1e99b7  ..";
 
 const CASES: &[Case<'static>] = &[
     (&["fold"], 0, "census 2\nend\n", "refused 1\n"),

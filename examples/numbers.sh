@@ -1,0 +1,106 @@
+#!/usr/bin/env bash
+# Numbers of authors, and digests: two states whose numbers are drawn; one that is put back from a copy, and goes on under another
+# number; digests that are the same where the operations are, whoever the authors are; and numbers that are refused.
+# Takes some seconds.
+#
+#     numbers.sh [PROGRAM [WORD ..]]      the program is ../census where none is named
+set -Eeuo pipefail
+top=$(cd "$(dirname "${BASH_SOURCE[0]}")/.." && pwd)
+census=("${@:-$top/census}")
+census[0]=$(command -v "${census[0]}") && census[0]=$(realpath -s "${census[0]}")
+"${census[@]}" --help >/dev/null # builds the program, where it was not built
+
+room=$(mktemp -d)
+cd "$room"
+trap 'rm -rf "$room"' EXIT
+trap 'echo "numbers: this failed, at line $LINENO: $BASH_COMMAND" >&2' ERR
+
+census() {
+  "${census[@]}" "$@"
+}
+
+# The command is refused with this status and this line.
+refused() {
+  local status=0
+  census "${@:3}" >output 2>fault || status=$?
+  test "$status" = "$1"
+  test "$(cat fault)" = "census: $2"
+  test ! -s output
+}
+
+# The digits of a file's digest.
+digits() {
+  census digest "$1" | cut -c 1-64
+}
+
+# Takes all operations of each state into the other.
+exchange() {
+  census delta "$1" one.delta >/dev/null
+  census delta "$2" other.delta >/dev/null
+  census merge "$1" other.delta >/dev/null
+  census merge "$2" one.delta >/dev/null
+}
+
+# Two numbers are drawn, of which neither is 0. That they are the same has a chance of 1 in 4294967295.
+census init anna --draw >first
+census init ben --draw >second
+grep -qx 'author [1-9][0-9]*' first
+grep -qx 'author [1-9][0-9]*' second
+if cmp -s first second; then exit 1; fi
+anna=$(sed 's/author //' first)
+
+# A number, or one that is drawn, and not both; nor neither.
+if census init none 1 --draw 2>fault; then exit 1; fi
+if census init none 2>fault; then exit 1; fi
+grep -qx '  <ID>' fault
+test ! -e none
+
+# States of different authors have one digest where they hold the same operations; it is that of their delta, and of its bytes.
+test "$(digits anna)" = "$(digits ben)"
+census note anna first 'of Anna' >/dev/null
+census compute ben 0.77 168 >/dev/null
+if [ "$(digits anna)" = "$(digits ben)" ]; then exit 1; fi
+exchange anna ben
+test "$(digits anna)" = "$(digits ben)"
+census delta anna all.delta >/dev/null
+census digest anna ben all.delta >printed
+test "$(wc -l <printed)" = 3
+test "$(cut -c 1-64 printed | sort -u)" = "$(digits anna)"
+test "$(sed -n 3p printed)" = "$(sha256sum all.delta)"
+
+# Anna's state is lost, and put back from a copy, after an operation that Ben has. It goes on under another number.
+cp anna copy
+census note anna second 'after the copy' >/dev/null
+exchange anna ben
+mv copy anna
+census renumber anna >printed
+grep -qx "author $anna renumbered [1-9][0-9]*" printed
+new=$(sed 's/.* //' printed)
+test "$new" != "$anna"
+test "$(census note anna third 'of Anna again')" = "issued $new.1"
+exchange anna ben
+test "$(digits anna)" = "$(digits ben)"
+census show anna >catalogue
+census show ben | diff - catalogue
+grep -qx "note second $anna.2 after the copy" catalogue
+grep -qx "note third $new.1 of Anna again" catalogue
+if grep '^fork ' catalogue; then exit 1; fi
+
+# A number that the state holds operations by is refused, and so is 0; the state stays as it is.
+cp anna before
+refused 1 Held renumber anna "$anna"
+refused 1 Held renumber anna "$new"
+refused 1 Zero renumber anna 0
+refused 2 Number renumber anna 4294967296
+cmp anna before
+test "$(census renumber anna 7)" = "author $new renumbered 7"
+
+# The first file that is refused ends the digests; the lines before it stand.
+printf 'OGS1' >cut
+printf 'x' >neither
+if census digest ben cut ben >printed 2>fault; then exit 1; fi
+test "$(cat printed)" = "$(census digest ben)"
+test "$(cat fault)" = 'census: Load Refused'
+refused 1 'Merge Version' digest neither
+refused 3 File digest missing
+echo "numbers were drawn, a state that was put back went on under another, and digests told where operations are the same"
