@@ -52,9 +52,11 @@ fn argument_of<'a>(alloc: Global, word: Word) -> Arg<'a> {
 fn option_of<'a>(alloc: Global, choice: Choice) -> Arg<'a> {
     let option = Arg::new(alloc, choice.name)
         .long(choice.name)
-        .value_name(choice.value)
-        .help(choice.meaning)
-        .action(ArgAction::Set);
+        .help(choice.meaning);
+    let Some(value) = choice.value else {
+        return option.action(ArgAction::SetTrue);
+    };
+    let option = option.value_name(value).action(ArgAction::Set);
     match choice.default {
         Some(value) => option.default_value(value),
         None => option,

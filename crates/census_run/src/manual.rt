@@ -87,8 +87,12 @@ fn append_option(alloc: Global, page: &mut String, option: &Choice) -> Result<()
         meaning,
         default,
     } = *option;
-    let line = format!(in alloc; ".br\n.BI \\-\\-{name} \" {value}\" :\n{meaning}")?;
-    page.push_str(&line)?;
+    let head = match value {
+        Some(value) => format!(in alloc; ".br\n.BI \\-\\-{name} \" {value}\" :\n")?,
+        None => format!(in alloc; ".br\n.B \\-\\-{name}:\n")?,
+    };
+    page.push_str(&head)?;
+    page.push_str(meaning)?;
     if let Some(default) = default {
         let line = format!(in alloc; "; {default} where it is left out")?;
         page.push_str(&line)?;

@@ -149,8 +149,8 @@ where
             serve(rt, *place)?;
             Ok(write_out(output, b"done\n")?)
         }
-        Task::Sync { place } => {
-            sync(rt, *place)?;
+        Task::Sync { place, role } => {
+            sync(rt, *place, *role)?;
             Ok(write_out(output, b"done\n")?)
         }
         Task::Hub { place, peers } => hub(rt, *place, *peers, output, errors),

@@ -7,6 +7,7 @@ use crate::words::{self, Choice, Word};
 use census_core::{Fault, Request, SEARCH_LIMIT, number};
 use clap::ArgMatches;
 use oct_code::{Code, LIMIT};
+use oct_sync::Role;
 use std::alloc::Global;
 use std::time::Duration;
 
@@ -48,9 +49,10 @@ pub(crate) enum Task<'a> {
     Serve {
         place: Place<'a>,
     },
-    /// One session with a replica that serves.
+    /// One session with a replica that serves, as this kind of client.
     Sync {
         place: Place<'a>,
+        role: Role,
     },
     /// A session with each of so many replicas that connect.
     Hub {
@@ -103,6 +105,7 @@ fn task_of<'a>(alloc: Global, does: Does, found: &ArgMatches<'a>) -> Result<Task
         }),
         Does::Sync => Ok(Task::Sync {
             place: place(found, None)?,
+            role: client_role(found),
         }),
         Does::Hub => Ok(Task::Hub {
             place: place(found, Some(seconds(found, words::LONGEST)?))?,
@@ -273,6 +276,15 @@ fn seconds(found: &ArgMatches<'_>, choice: Choice) -> Result<Duration, Fault> {
     match number_in(text)? {
         0 => Err(Fault::Number),
         seconds => Ok(Duration::from_secs(u64::from(seconds))),
+    }
+}
+
+// Which client a session has.
+fn client_role(found: &ArgMatches<'_>) -> Role {
+    if found.get_flag(words::ALL.name) {
+        Role::ClientOfAll
+    } else {
+        Role::Client
     }
 }
 

@@ -16,11 +16,12 @@ pub(crate) enum Times {
     Any,
 }
 
-/// An option that a command takes, with one value.
+/// An option that a command takes, with one value or none.
 #[derive(Clone, Copy)]
 pub(crate) struct Choice {
     pub(crate) name: &'static str,
-    pub(crate) value: &'static str,
+    /// What its value is called; none where it has no value.
+    pub(crate) value: Option<&'static str>,
     pub(crate) meaning: &'static str,
     /// The value where the option is left out; none where it may be left out.
     pub(crate) default: Option<&'static str>,
@@ -148,21 +149,28 @@ pub(crate) const HEAP: Word = Word {
 
 pub(crate) const PATIENCE: Choice = Choice {
     name: "patience",
-    value: "SECONDS",
+    value: Some("SECONDS"),
     meaning: "How long the other side may be silent in a session, 1 to 4294967295 seconds",
     default: Some("60"),
 };
 
 pub(crate) const LONGEST: Choice = Choice {
     name: "longest",
-    value: "SECONDS",
+    value: Some("SECONDS"),
     meaning: "How long one session may last, 1 to 4294967295 seconds",
     default: Some("600"),
 };
 
 pub(crate) const PEERS: Choice = Choice {
     name: "peers",
-    value: "N",
+    value: Some("N"),
     meaning: "Ends after so many connections, 0 to 4294967295; without it, not by itself",
+    default: None,
+};
+
+pub(crate) const ALL: Choice = Choice {
+    name: "all",
+    value: None,
+    meaning: "Exchanges all operations, and not only what each side is seen to lack",
     default: None,
 };
