@@ -5,7 +5,7 @@ use crate::files::read_file;
 use crate::state_file::StateFile;
 use census_core::{Fault, rejoin};
 use oct_record::Record;
-use oct_sync::{Role, drive};
+use oct_sync::{Role, SyncError, converse, drive, write_out};
 use std::alloc::Global;
 use std::fs::File;
 use std::net::{Net, SocketAddr, TcpListener, TcpStream};
@@ -23,9 +23,10 @@ pub(crate) struct Place<'a> {
     pub(crate) patience: Patience,
 }
 
-/// Waits for one connection to the address, without end, and serves its session. The state is saved also where the session
-/// ended early. The fault is that of the state, as it is read first; then `Net`; then that of the session, or else of the
-/// state, as it is saved.
+/// Waits for one connection to the address, without end, and serves its session. Its last frame, by which the other side is
+/// done, is sent once the state is saved. The state is saved also where the session ended early. The fault is that of the
+/// state, as it is read first; then `Net`; then that of the session, or else of the state, as it is saved; then that of the
+/// last frame.
 pub(crate) fn serve<R>(rt: &R, place: Place<'_>) -> Result<(), Fault>
 where
     R: Files<File = File> + AllocGlobal + Net<Stream = TcpStream, Listener = TcpListener> + Clock,
@@ -33,12 +34,13 @@ where
     let said = load(rt, place.state)?;
     let listener = bound(rt, place.address)?;
     let (stream, _) = accepted(&listener)?;
-    meet(rt, Role::Server, place, said, &stream)?;
-    Ok(())
+    answer(rt, place, said, &stream)
 }
 
-/// Connects to the address, and has one session with what serves there. Its faults are those of `serve`.
-pub(crate) fn sync<R>(rt: &R, place: Place<'_>) -> Result<(), Fault>
+/// Connects to the address, and has one session with what serves there, as this kind of client. The state is saved once the
+/// session is done, and also where it ended early. The fault is that of the state, as it is read first; then `Net`; then that
+/// of the session, or else of the state, as it is saved.
+pub(crate) fn sync<R>(rt: &R, place: Place<'_>, role: Role) -> Result<(), Fault>
 where
     R: Files<File = File> + AllocGlobal + Net<Stream = TcpStream, Listener = TcpListener> + Clock,
 {
@@ -46,7 +48,7 @@ where
     let Ok(stream) = TcpStream::connect(rt, place.address) else {
         return Err(Fault::Net);
     };
-    meet(rt, Role::Client, place, said, &stream)?;
+    meet(rt, role, place, said, &stream)?;
     Ok(())
 }
 
@@ -90,6 +92,36 @@ where
     settle(rt, place.state, &said, ended)
 }
 
+// Answers a client over the connection, and saves what is held then; after that the client is told, by the last frame. Where
+// the state can't be saved, it is not told.
+fn answer<R>(
+    rt: &R,
+    place: Place<'_>,
+    mut said: Record<Global>,
+    stream: &TcpStream,
+) -> Result<(), Fault>
+where
+    R: Files<File = File> + AllocGlobal + Clock,
+{
+    let (mut reader, mut writer) = both_ways(rt, place.patience, stream)?;
+    let mut owed = Vec::new(rt.alloc());
+    let ended = match converse(
+        rt.alloc(),
+        Role::Server,
+        &mut said,
+        &mut reader,
+        &mut writer,
+    ) {
+        Ok(last) => {
+            owed = last;
+            Ok(())
+        }
+        Err(fault) => Err(Fault::from(fault)),
+    };
+    settle(rt, place.state, &said, ended)?;
+    write_out(&mut writer, &owed).or(Err(Fault::Sync(SyncError::Write)))
+}
+
 // Saves what is held after a session that ended so, also after a fault of the session. The text is that of the union.
 fn settle<R>(
     rt: &R,
@@ -121,13 +153,23 @@ fn exchange<R>(
 where
     R: AllocGlobal + Clock,
 {
-    let (Ok(mut reader), Ok(mut writer)) = (
-        Connection::new(rt, stream, patience),
-        Connection::new(rt, stream, patience),
-    ) else {
-        return Err(Fault::Net);
-    };
+    let (mut reader, mut writer) = both_ways(rt, patience, stream)?;
     Ok(drive(rt.alloc(), role, said, &mut reader, &mut writer)?)
+}
+
+// The two directions of a connection, whose session begins now. The fault is `Net`.
+fn both_ways<'a, R: Clock>(
+    rt: &'a R,
+    patience: Patience,
+    stream: &'a TcpStream,
+) -> Result<(Connection<'a, R>, Connection<'a, R>), Fault> {
+    match (
+        Connection::new(rt, stream, patience),
+        Connection::new(rt, stream, patience),
+    ) {
+        (Ok(reader), Ok(writer)) => Ok((reader, writer)),
+        _ => Err(Fault::Net),
+    }
 }
 
 /// Saves the union of what the state file holds now and what is held, while no other command changes the file.

@@ -135,12 +135,16 @@ fn attempted<R, I, O, E>(
     audience: Audience,
 ) -> Result<u8, Fault>
 where
-    R: Files<File = File> + AllocGlobal + Net<Stream = TcpStream, Listener = TcpListener> + Clock,
+    R: Files<File = File>
+        + AllocGlobal
+        + Net<Stream = TcpStream, Listener = TcpListener>
+        + Clock
+        + RandomSource,
     I: Read,
     O: Write,
     E: Write,
 {
-    let task = read_task(rt.alloc(), matches)?;
+    let task = read_task(rt, matches)?;
     done(rt, &task, input, output, errors, audience)
 }
 
@@ -206,8 +210,8 @@ where
             serve(rt, *place)?;
             write_out(output, b"done\n")?;
         }
-        Task::Sync { place } => {
-            sync(rt, *place)?;
+        Task::Sync { place, role } => {
+            sync(rt, *place, *role)?;
             write_out(output, b"done\n")?;
         }
         Task::Hub { place, limits } => hub(rt, *place, *limits, output, errors)?,

@@ -696,12 +696,18 @@ Example:
     Row {
         name: "sync",
         words: &[words::STATE, words::ADDR],
-        options: &[words::PATIENCE],
+        options: &[words::ALL, words::PATIENCE],
         does: Does::Sync,
         line: "Exchanges all that is new with a `serve` or a `hub`",
         about: "Connects to an address, and exchanges all that is new with the `serve` or `hub` there",
         after: of_sessions!(
-            "",
+            "\
+Each side says how far it has each author's numbers, and is sent what is beyond. So where digests
+differ although both sides say `done`, one number was used by two: each side has the number, with
+what only it knows. `sync --all` takes and sends everything, whatever either side says it has. It
+brings both to one set, and forks then show on both.
+
+",
             "
 Exit status: 0 done, 1 refused: Load (the state), Sync (the other side's bytes), Author, TooMany;
 2 command line, 3 file or network, 4 memory

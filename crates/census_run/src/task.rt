@@ -10,6 +10,7 @@ use crate::words::{self, Choice, Word};
 use census_core::{Fault, Request, SEARCH_LIMIT, SearchForm, number};
 use clap::ArgMatches;
 use oct_code::{Code, LIMIT};
+use oct_sync::Role;
 use std::alloc::Global;
 use std::random::RandomSource;
 use std::time::Duration;
@@ -66,9 +67,10 @@ pub(crate) enum Task<'a> {
     Serve {
         place: Place<'a>,
     },
-    /// One session with a replica that serves.
+    /// One session with a replica that serves, as this kind of client.
     Sync {
         place: Place<'a>,
+        role: Role,
     },
     /// A session with each of the replicas that connect, within these limits.
     Hub {
@@ -144,6 +146,7 @@ fn task_of<'a, R: AllocGlobal + RandomSource>(
         }),
         Does::Sync => Ok(Task::Sync {
             place: place(found, None)?,
+            role: client_role(found),
         }),
         Does::Hub => Ok(Task::Hub {
             place: place(found, Some(seconds(found, words::LONGEST)?))?,
@@ -382,6 +385,15 @@ fn at_least_one(found: &ArgMatches<'_>, choice: Choice) -> Result<u32, Fault> {
     match number_in(text)? {
         0 => Err(Fault::Number),
         count => Ok(count),
+    }
+}
+
+// Which client a session has.
+fn client_role(found: &ArgMatches<'_>) -> Role {
+    if found.get_flag(words::ALL.name) {
+        Role::ClientOfAll
+    } else {
+        Role::Client
     }
 }
 

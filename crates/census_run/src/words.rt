@@ -222,6 +222,13 @@ pub(crate) const PEERS: Choice = Choice {
     default: None,
 };
 
+pub(crate) const ALL: Choice = Choice {
+    name: "all",
+    takes: Takes::Nothing,
+    meaning: "Exchanges all operations, and not only what each side is seen to lack",
+    default: None,
+};
+
 pub(crate) const SESSIONS: Choice = Choice {
     name: "sessions",
     takes: Takes::One("N"),

@@ -9,7 +9,7 @@ use Rattle.oct_ops.specs.Operations.{Operations}
 use Rattle.oct_sync.specs.Frames.{clock_tag, delta_tag, end_frame, end_tag, frame_bytes, max_frame}
 use Rattle.oct_sync.specs.Session.{AwaitsClock, AwaitsDeltas, AwaitsEnd, IsDone, Phase, Session, on_clock, on_delta, on_end, on_frame, on_split, received}
 use Rattle.oct_sync.specs.declared.role.Role.{Role}
-use Rattle.oct_sync.specs.declared.role.Role.TheVariants.{Client}
+use Rattle.oct_sync.specs.declared.role.Role.TheVariants.{Client, ClientOfAll, Server}
 use Rattle.oct_sync.proofs.Framing.{framed, split_frame}
 
 abbrev pub session : Phase → Operations → Bytes → Session
@@ -34,5 +34,7 @@ pub end_arrives : (role : Role) (t : Clock) (held : Operations) (sent rest : Byt
 end_arrives role t held sent rest = arrives role (session (AwaitsDeltas t) held sent) end_tag [] rest (omega arith)
 
 -- the client's last frame
-pub last_arrives : (held : Operations) (sent : Bytes) → received Client (session AwaitsEnd held sent) end_frame ≡ session IsDone held sent
-last_arrives held sent = refl
+pub last_arrives : (role : Role) (held : Operations) (sent : Bytes) → received role (session AwaitsEnd held sent) end_frame ≡ session IsDone held sent
+last_arrives Client held sent = refl
+last_arrives ClientOfAll held sent = refl
+last_arrives Server held sent = refl

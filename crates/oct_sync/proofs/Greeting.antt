@@ -20,7 +20,9 @@ use Rattle.oct_delta.proofs.ClockTexts.{clock_is_read, entries_again}
 use Rattle.oct_join.specs.Clock.{Clock, IsClock, IsEntry, covers, entries, through}
 use Rattle.oct_join.specs.Entries.{Entries}
 use Rattle.oct_ops.specs.Operation.{Dot}
-use Rattle.oct_ops.specs.Operations.{Operations, listed}
+use Rattle.oct_ops.specs.Operations.{Operations, empty, listed}
+use Rattle.oct_ops.specs.OrderLaws.{op_cmp_exact, op_cmp_total}
+use Rattle.oct_ops.specs.SetLaws as laws
 use Rattle.oct_store.specs.Summary.{clock_of, positive, through as through_of}
 use Rattle.oct_store.proofs.Greatest.{clock_of-is}
 use Rattle.oct_store.proofs.Throughs.{is_through}
@@ -28,8 +30,8 @@ use Rattle.oct_record.specs.Valid.{AreValid}
 use Rattle.oct_replica.proofs.Authors.{has_dot_source}
 use Rattle.oct_replica.proofs.Members.{Has-listed}
 use Rattle.oct_sync.specs.Exchange.{sent_clock}
-use Rattle.oct_sync.specs.Frames.{max_frame}
-use Rattle.oct_sync.specs.Session.{max_authors}
+use Rattle.oct_sync.specs.Frames.{clock_tag, frame_bytes, max_frame}
+use Rattle.oct_sync.specs.Session.{clock_frame, empty_clock_frame, max_authors}
 use Rattle.oct_sync.proofs.Written.{length-entries_bytes}
 
 -- ---- entries in order
@@ -122,6 +124,12 @@ sent_text held valid = record {
 
 pub clock_read : (held : Operations) → AreValid held → read_clock (entries_bytes (first_entries held)) ≡ Some (sent_clock held)
 clock_read held valid = clock_is_read (entries_bytes (first_entries held)) (sent_clock held) (entries_again (entries_bytes (first_entries held)) (sent_clock held) (sent_text held valid))
+
+-- that of a side that says that it has nothing
+pub none_said : clock_frame empty ≡ empty_clock_frame
+none_said =
+    ap (λ ops. frame_bytes clock_tag (entries_bytes (take max_authors (entries (clock_of ops))))) (laws.listed-empty op_cmp_total op_cmp_exact)
+    ∙ ap (λ es. frame_bytes clock_tag (entries_bytes (take max_authors es))) (entries_of [] refl)
 
 few_taken : (n : ℕ) (es : Entries) → length (take n es) ≤ n
 few_taken n es = let size = length-take n es in omega (arith, size)

@@ -10,7 +10,7 @@ use Rattle.oct_sync.specs.Frames.{Frame, Split, clock_tag, delta_tag, end_frame,
 use Rattle.oct_sync.specs.Session.{Phase, AwaitsClock, AwaitsDeltas, AwaitsEnd, IsDone, HasFailed, Session, clock_frame, missing_frames, failed_if, fed, head_fault, on_clock, on_delta, on_due, on_end, on_frame, on_frame_in, on_head, on_rest_in, on_split, rest_fault}
 use Rattle.oct_sync.specs.declared.error.SyncError.{SyncError}
 use Rattle.oct_sync.specs.declared.role.Role.{Role}
-use Rattle.oct_sync.specs.declared.role.Role.TheVariants.{Client, Server}
+use Rattle.oct_sync.specs.declared.role.Role.TheVariants.{Client, ClientOfAll, Server}
 
 -- the session with something sent before all that it sent
 abbrev pub past : Bytes → Session → Session
@@ -19,8 +19,10 @@ past front s = record s { sent = front ++ s.sent }
 module _ (front : Bytes) where
   clock_past : (role : Role) (s : Session) (o : Option Clock) → on_clock role (past front s) o ≡ past front (on_clock role s o)
   clock_past Client s None = refl
+  clock_past ClientOfAll s None = refl
   clock_past Server s None = refl
   clock_past Client s (Some t) = refl
+  clock_past ClientOfAll s (Some t) = refl
   clock_past Server s (Some t) = ap (λ sent. record s { phase = AwaitsDeltas t; sent = sent })
       (ap (λ z. z ++ missing_frames s.held t) (append_assoc front s.sent (clock_frame s.held)) ∙ append_assoc front (s.sent ++ clock_frame s.held) (missing_frames s.held t))
 
@@ -34,6 +36,11 @@ module _ (front : Bytes) where
   end_past Client s AwaitsEnd = refl
   end_past Client s IsDone = refl
   end_past Client s (HasFailed f) = refl
+  end_past ClientOfAll s AwaitsClock = refl
+  end_past ClientOfAll s (AwaitsDeltas t) = ap (λ sent. record s { phase = AwaitsEnd; sent = sent }) (append_assoc front s.sent (missing_frames s.held t))
+  end_past ClientOfAll s AwaitsEnd = refl
+  end_past ClientOfAll s IsDone = refl
+  end_past ClientOfAll s (HasFailed f) = refl
   end_past Server s AwaitsClock = refl
   end_past Server s (AwaitsDeltas t) = ap (λ sent. record s { phase = IsDone; sent = sent }) (append_assoc front s.sent end_frame)
   end_past Server s AwaitsEnd = refl

@@ -6,7 +6,7 @@ use Rattle.std.proofs.lemmas.List.{append-nil, take_at, drop_at}
 use Rattle.std.proofs.Math.Seq.{take-add}
 use Rattle.oct_delta.specs.Text.{Bytes}
 use Rattle.oct_ops.specs.Operations.{Operations}
-use Rattle.oct_sync.specs.Driven.{Breaks, Completes, IsOutside, RunsOut, Tells, begun}
+use Rattle.oct_sync.specs.Driven.{Breaks, Completes, Concludes, IsOutside, RunsOut, Tells, begun}
 use Rattle.oct_sync.specs.Output.{AppendsPrefix}
 use Rattle.oct_sync.specs.Session.{Phase, AwaitsClock, AwaitsDeltas, AwaitsEnd, IsDone, HasFailed, Session, Point, fed, wanted}
 use Rattle.oct_sync.specs.SessionState.{IsOpenPhase}
@@ -15,7 +15,7 @@ use Rattle.oct_sync.specs.declared.error.SyncError.{SyncError}
 use Rattle.oct_sync.specs.declared.error.SyncError.TheVariants as fault
 use Rattle.oct_sync.specs.declared.progress.Progress.TheVariants.{Done}
 use Rattle.oct_sync.specs.declared.role.Role.{Role}
-use Rattle.oct_sync.specs.declared.role.Role.TheVariants.{Client, Server}
+use Rattle.oct_sync.specs.declared.role.Role.TheVariants.{Client, ClientOfAll, Server}
 use Rattle.oct_sync.proofs.Cutting.{any_cutting}
 use Rattle.oct_sync.proofs.Owing.{past, fed_past}
 
@@ -32,6 +32,7 @@ pub record IsRunning (role : Role) (reader reader' writer writer' : Option Bytes
 
 started : (role : Role) (held : Operations) (owed : Bytes) → owed ≡ (begun role held).sent → IsAt role (at_start role) held owed (fed role (record { session = begun role held; rest = [] }) [])
 started Client held owed e = record { role_is = refl; session = ap (λ sent. record { phase = AwaitsClock; held = held; sent = sent }) (sym e); rest = refl }
+started ClientOfAll held owed e = record { role_is = refl; session = ap (λ sent. record { phase = AwaitsClock; held = held; sent = sent }) (sym e); rest = refl }
 started Server held owed e = record { role_is = refl; session = ap (λ sent. record { phase = AwaitsClock; held = held; sent = sent }) (sym e); rest = refl }
 
 pub IsRunning-begun : (role : Role) (reader writer : Option Bytes) (held : Operations) (s : Option Standing) (none owed : Bytes) → s ≡ Some (at_start role) → none ≡ [] → owed ≡ none ++ (begun role held).sent → IsRunning role reader reader writer writer held s held owed
@@ -139,15 +140,33 @@ module _ (role : Role) (r r' w w' : Option Bytes) (before : Operations) (s : Opt
     );
   }
 
-  -- all is written, and the session is done
-  pub completed : owed ≡ [] → progress_of s ≡ Done → Completes role r r' w w' before held
-  completed none done = record {
-    bytes = running.bytes;
-    read = running.read;
-    done = done_at role s held (running.written ++ owed) here done running.at;
-    held_is = sym (held_at role s held (running.written ++ owed) here running.at).0;
-    written = subst (λ z. Appends w w' z) (sym ((held_at role s held (running.written ++ owed) here running.at).1 ∙ ap (λ z. running.written ++ z) none ∙ append-nil running.written)) running.put;
+-- ---- the last of what a session sends
+
+module _ (role : Role) (r r' w w' w'' : Option Bytes) (before held : Operations) (owed : Bytes) (c : Concludes role r r' w w' before held owed) where
+  -- it is written
+  pub completed : Appends w' w'' owed → Completes role r r' w w'' before held
+  completed put = record {
+    bytes = c.before ++ c.last;
+    read = c.read;
+    done = c.done;
+    held_is = c.held_is;
+    written = subst (λ z. Appends w w'' z) (sym c.sent_is) (Appends-trans w w' w'' _ owed c.written put);
   }
+
+  -- a part of it is written, and the writer fails
+  pub Breaks-at_last : AppendsPrefix w' w'' owed → Breaks role fault.Write r r' w w'' before held
+  Breaks-at_last put =
+      let front = (fed role (record { session = begun role before; rest = [] }) c.before).session.sent in
+      record {
+        bytes = c.before ++ c.last;
+        read = c.read;
+        told = subst HasNotFailed (sym c.done) tt;
+        held_is = c.held_is;
+        written = (
+          length front + put.0,
+          subst (λ z. Appends w w'' z) (sym (ap (take (length front + put.0)) c.sent_is ∙ take_past front owed put.0)) (Appends-trans w w' w'' front (take put.0 owed) c.written put.1),
+        );
+      }
 
 -- ---- a piece is read and fed, where nothing is owed
 
@@ -240,6 +259,25 @@ module _ (role : Role) (r r' r'' w w' : Option Bytes) (before : Operations) (s :
     at = subst (λ p. StandsAt role s' held' (running.written ++ owed) p) (sym whole)
         (past_at role s' held' running.written owed (fed role (unsent none now) piece) (feeds role (unsent none now) (unsent_at role s held (running.written ++ []) none now running.at)));
   }
+
+  -- with this piece the session is done, and what it sends for it is owed
+  pub concluded : (s' : Option Standing) (held' : Operations) (owed : Bytes) → ((t : Role) (p : Point) → StandsAt t s held none p → StandsAt t s' held' owed (fed t p piece)) → StandsSound s → (progress_of s ≡ Done → ⊥) → progress_of s' ≡ Done
+      → Concludes role r r'' w w' before held' owed
+  unfolding IsRunning-fed
+  concluded s' held' owed feeds sound more done =
+      let next = IsRunning-fed s' held' owed feeds in
+      let there = held_at role s' held' (running.written ++ owed) (fed role (record { session = begun role before; rest = [] }) (running.bytes ++ piece)) next.at in
+      let sent = (held_at role s held (running.written ++ []) now running.at).1 ∙ append-nil running.written in
+      record {
+        before = running.bytes;
+        last = piece;
+        read = next.read;
+        is_open = open_at role s held (running.written ++ []) now running.at sound more;
+        done = done_at role s' held' (running.written ++ owed) (fed role (record { session = begun role before; rest = [] }) (running.bytes ++ piece)) done next.at;
+        held_is = sym there.0;
+        written = subst (λ z. Appends w w' z) (sym sent) running.put;
+        sent_is = there.1 ∙ ap (λ z. z ++ owed) (sym sent);
+      }
 
   pub RunsOut-feeding : (e : SyncError) (held' : Operations) (owed : Bytes) → e ≡ fault.OutOfMemory → ((t : Role) (p : Point) → StandsAt t s held none p → Ends t p piece e held' owed) → RunsOut role r r'' w w' before held'
   RunsOut-feeding e held' owed memory feeds =

@@ -1,20 +1,21 @@
 -- What a driver of a session read and wrote.
-use Rattle.std.specs.Prelude.{◌≡◌, ◌⊎◌, [], Option}
+use Rattle.std.specs.Prelude.{◌≡◌, ◌⊎◌, ◌++◌, [], Option}
 use Rattle.std.specs.Io.KnownBytes.{Appends, Consumes, Keeps}
 use Rattle.oct_delta.specs.Text.{Bytes}
 use Rattle.oct_ops.specs.Operations.{Operations}
 use Rattle.oct_sync.specs.Output.{AppendsPrefix}
-use Rattle.oct_sync.specs.Session.{Phase, Session, HasFailed, IsDone, fed, new_client, new_server}
+use Rattle.oct_sync.specs.Session.{Phase, Session, HasFailed, IsDone, fed, new_client, new_client_of_all, new_server}
 use Rattle.oct_sync.specs.SessionState.{IsOpenPhase}
 use Rattle.oct_sync.specs.Standing.{HasNotFailed, StopsShort}
 use Rattle.oct_sync.specs.declared.error.SyncError.{SyncError}
 use Rattle.oct_sync.specs.declared.error.SyncError.TheVariants as fault
 use Rattle.oct_sync.specs.declared.role.Role.{Role}
-use Rattle.oct_sync.specs.declared.role.Role.TheVariants.{Client, Server}
+use Rattle.oct_sync.specs.declared.role.Role.TheVariants.{Client, ClientOfAll, Server}
 
 -- a session of this role at its start
 abbrev pub begun : Role → Operations → Session
 begun Client held = new_client held
+begun ClientOfAll held = new_client_of_all held
 begun Server held = new_server held
 
 -- what it is once these bytes came
@@ -28,6 +29,17 @@ pub record Completes (role : Role) (reader reader' writer writer' : Option Bytes
   pub done : (after role held bytes).phase ≡ IsDone
   pub held_is : held' ≡ (after role held bytes).held
   pub written : Appends writer writer' (after role held bytes).sent
+
+-- These bytes were read, and only with the last of them the session is done. What is held is what it makes of them all. What it sends for those before was written, and what it sends for the last is owed.
+pub record Concludes (role : Role) (reader reader' writer writer' : Option Bytes) (held held' : Operations) (owed : Bytes) : Type 0 where
+  pub before : Bytes
+  pub last : Bytes
+  pub read : Consumes reader reader' (before ++ last)
+  pub is_open : IsOpenPhase (after role held before).phase
+  pub done : (after role held (before ++ last)).phase ≡ IsDone
+  pub held_is : held' ≡ (after role held (before ++ last)).held
+  pub written : Appends writer writer' (after role held before).sent
+  pub sent_is : (after role held (before ++ last)).sent ≡ (after role held before).sent ++ owed
 
 -- a fault of a device, an end of the input, or too many reads
 abbrev pub IsOutside : SyncError → Type 0

@@ -8,12 +8,13 @@ use Rattle.oct_ops.specs.Operations.{Operations, contains, listed, union}
 use Rattle.oct_store.specs.Summary.{clock_of, beyond}
 use Rattle.oct_record.specs.Valid.{AreValid}
 use Rattle.oct_sync.specs.Driven.{after}
-use Rattle.oct_sync.specs.Session.{IsDone, max_authors}
+use Rattle.oct_sync.specs.Session.{IsDone, max_authors, said}
 use Rattle.oct_sync.specs.declared.role.Role.{Role}
-use Rattle.oct_sync.specs.declared.role.Role.TheVariants.{Client, Server}
+use Rattle.oct_sync.specs.declared.role.Role.TheVariants.{Client, ClientOfAll, Server}
 
 abbrev pub other_role : Role → Role
 other_role Client = Server
+other_role ClientOfAll = Server
 other_role Server = Client
 
 -- the clock that is sent of a set: its first authors
@@ -27,7 +28,7 @@ IsAnsweredBy others role held bytes = bytes ≡ (after (other_role role) others 
 -- the session is done, and what the clock that was sent does not cover came from the other side
 pub record TakesMissing (others : Operations) (role : Role) (held : Operations) (bytes : Bytes) : Type 0 where
   pub done : (after role held bytes).phase ≡ IsDone
-  pub held_is : (after role held bytes).held ≡ union held (beyond others (sent_clock held))
+  pub held_is : (after role held bytes).held ≡ union held (beyond others (sent_clock (said role held)))
 
 abbrev pub EachTakesMissing : Type 0
 EachTakesMissing = (others : Operations) (role : Role) (held : Operations) (bytes : Bytes) → AreValid others → AreValid held → IsAnsweredBy others role held bytes → TakesMissing others role held bytes
@@ -44,3 +45,24 @@ EachHoldsAll = (others : Operations) (role : Role) (held : Operations) (bytes : 
 -- whatever the two sides hold, there is such a session
 abbrev pub EachIsAnswered : Type 0
 EachIsAnswered = (others : Operations) (role : Role) (held : Operations) → AreValid others → AreValid held → (bytes : Bytes) × IsAnsweredBy others role held bytes
+
+-- ---- a client that sends all
+
+-- the bytes that came to a client that sends all, and to its server: to each came what the other one sends, by what it held and what came to it
+pub record IsExchangeOfAll (client server : Operations) (to_client to_server : Bytes) : Type 0 where
+  pub to_client_is : to_client ≡ (after Server server to_server).sent
+  pub to_server_is : to_server ≡ (after ClientOfAll client to_client).sent
+
+-- the session is done, and these are held
+pub record EndsWith (all : Operations) (role : Role) (held : Operations) (bytes : Bytes) : Type 0 where
+  pub done : (after role held bytes).phase ≡ IsDone
+  pub held_is : (after role held bytes).held ≡ all
+
+-- both sides end with all that either held, also where a dot has two contents
+abbrev pub BothEndWithAll : Type 0
+BothEndWithAll = (client server : Operations) (to_client to_server : Bytes) → AreValid client → AreValid server → IsExchangeOfAll client server to_client to_server →
+    EndsWith (union client server) ClientOfAll client to_client × EndsWith (union client server) Server server to_server
+
+-- whatever the two sides hold, there is such an exchange
+abbrev pub AllIsExchanged : Type 0
+AllIsExchanged = (client server : Operations) → AreValid client → AreValid server → (to_client : Bytes) × (to_server : Bytes) × IsExchangeOfAll client server to_client to_server

@@ -2,8 +2,8 @@
 use Rattle.std.specs.Prelude.{ℕ, ◌+◌, ◌-◌, Bool, true, false, ◌&&◌, ◌||◌, ◌==◌, nat_le, nat_lt, List, [], ◌∷◌, ◌++◌, length, take, Option, Some, None}
 use Rattle.std.specs.List.{fold}
 use Rattle.oct_ops.specs.Body.{Operation}
-use Rattle.oct_ops.specs.Operations.{Operations, listed, union, set_of}
-use Rattle.oct_join.specs.Clock.{Clock, entries}
+use Rattle.oct_ops.specs.Operations.{Operations, empty, listed, union, set_of}
+use Rattle.oct_join.specs.Clock.{Clock, entries, empty as empty_clock}
 use Rattle.oct_delta.specs.Clocks.{entries_bytes, read_clock}
 use Rattle.oct_delta.specs.Decoding.{read_delta}
 use Rattle.oct_delta.specs.Text.{Bytes}
@@ -12,9 +12,9 @@ use Rattle.oct_sync.specs.Frames.{Frame, Split, frame_bytes, end_frame, delta_fr
 use Rattle.oct_sync.specs.declared.error.SyncError.{SyncError}
 use Rattle.oct_sync.specs.declared.error.SyncError.TheVariants as fault
 use Rattle.oct_sync.specs.declared.role.Role.{Role}
-use Rattle.oct_sync.specs.declared.role.Role.TheVariants.{Client, Server}
+use Rattle.oct_sync.specs.declared.role.Role.TheVariants.{Client, ClientOfAll, Server}
 
--- which frames are due: a clock; deltas and an end, where the other's clock is known; an end; or none
+-- which frames are due: a clock; deltas and an end, where the other side is answered as one with this clock; an end; or none
 pub data Phase : Type 0 where
   AwaitsClock : Phase
   AwaitsDeltas : Clock → Phase
@@ -36,6 +36,16 @@ max_authors = 65536
 -- the clock of the set, cut to its first authors
 abbrev pub clock_frame : Operations → Bytes
 clock_frame held = frame_bytes clock_tag (entries_bytes (take max_authors (entries (clock_of (listed held)))))
+
+-- the clock frame of a side that says that it has nothing
+abbrev pub empty_clock_frame : Bytes
+empty_clock_frame = frame_bytes clock_tag (entries_bytes [])
+
+-- what a side says by its clock that it has: one that sends all says that it has nothing
+abbrev pub said : Role → Operations → Operations
+said Client held = held
+said ClientOfAll held = empty
+said Server held = held
 
 -- the operations that a clock does not cover, and an end
 abbrev pub missing_frames : Operations → Clock → Bytes
@@ -60,6 +70,7 @@ failed s f = record s { phase = HasFailed f }
 abbrev pub on_clock : Role → Session → Option Clock → Session
 on_clock role s None = failed s fault.Clock
 on_clock Client s (Some t) = record s { phase = AwaitsDeltas t }
+on_clock ClientOfAll s (Some t) = record s { phase = AwaitsDeltas empty_clock }
 on_clock Server s (Some t) = record s { phase = AwaitsDeltas t; sent = s.sent ++ clock_frame s.held ++ missing_frames s.held t }
 
 abbrev pub on_delta : Session → Option (List Operation) → Session
@@ -68,6 +79,7 @@ on_delta s (Some ops) = record s { held = union s.held (set_of ops) }
 
 abbrev pub on_end : Role → Session → Phase → Session
 on_end Client s (AwaitsDeltas t) = record s { phase = AwaitsEnd; sent = s.sent ++ missing_frames s.held t }
+on_end ClientOfAll s (AwaitsDeltas t) = record s { phase = AwaitsEnd; sent = s.sent ++ missing_frames s.held t }
 on_end Server s (AwaitsDeltas t) = record s { phase = IsDone; sent = s.sent ++ end_frame }
 on_end role s phase = record s { phase = IsDone }
 
@@ -133,6 +145,9 @@ received role s bytes = on_split role s (split_frames bytes)
 
 abbrev pub new_client : Operations → Session
 new_client held = record { phase = AwaitsClock; held = held; sent = clock_frame held }
+
+abbrev pub new_client_of_all : Operations → Session
+new_client_of_all held = record { phase = AwaitsClock; held = held; sent = empty_clock_frame }
 
 abbrev pub new_server : Operations → Session
 new_server held = record { phase = AwaitsClock; held = held; sent = [] }

@@ -1,8 +1,8 @@
 -- What a session keeps of the point at which it is.
-use Rattle.std.specs.Prelude.{◌≡◌, ◌⊎◌, ℕ, ◌+◌, ◌≤◌, ◌==◌, Bool, true, false, List, [], ◌∷◌, ◌++◌, length, take, Option, Some, None, if◌then◌else◌, refl}
+use Rattle.std.specs.Prelude.{◌≡◌, ◌⊎◌, ℕ, ◌+◌, ◌≤◌, ◌==◌, List, [], ◌∷◌, ◌++◌, length, take, Option, Some, None, if◌then◌else◌, refl}
 use mathlib.Core.Logic.{inl, inr}
 use base.Stored.{coded_unit}
-use Rattle.std.specs.Coded.{Coded, code_by, coded×, coded⊎, coded_ℕ, coded_bool, coded_list, coded_option}
+use Rattle.std.specs.Coded.{Coded, code_by, coded×, coded⊎, coded_ℕ, coded_list, coded_option}
 use Rattle.oct_delta.specs.Bytes.{IsBytes}
 use Rattle.oct_delta.specs.Decoding.{read_delta}
 use Rattle.oct_delta.specs.ReaderState.{IsHopeless}
@@ -15,7 +15,7 @@ use Rattle.oct_sync.specs.Session.{Phase, AwaitsClock, AwaitsDeltas, AwaitsEnd, 
 use Rattle.oct_sync.specs.declared.error.SyncError.{SyncError}
 use Rattle.oct_sync.specs.declared.error.SyncError.TheVariants as fault
 use Rattle.oct_sync.specs.declared.role.Role.{Role}
-use Rattle.oct_sync.specs.declared.role.Role.TheVariants.{Client, Server}
+use Rattle.oct_sync.specs.declared.role.Role.TheVariants.{Client, ClientOfAll, Server}
 use Rattle.oct_sync.specs.declared.progress.Progress.{Progress}
 use Rattle.oct_sync.specs.declared.progress.Progress.TheVariants.{More, Done}
 
@@ -125,20 +125,21 @@ Ends role p bytes e held sent = (fed role p bytes).session ≡ ended e held sent
 
 -- ---- standings as numbers and lists
 
-abbrev role_flag : Role → Bool
-role_flag Client = true
-role_flag Server = false
+abbrev role_number : Role → ℕ
+role_number Client = 0
+role_number ClientOfAll = 1
+role_number Server = 2
 
-abbrev flag_role : Bool → Role
-flag_role true = Client
-flag_role false = Server
+abbrev number_role : ℕ → Role
+number_role n = if n == 0 then Client else if n == 1 then ClientOfAll else Server
 
-pub flag_role-flag : (r : Role) → flag_role (role_flag r) ≡ r
-flag_role-flag Client = refl
-flag_role-flag Server = refl
+pub number_role-number : (r : Role) → number_role (role_number r) ≡ r
+number_role-number Client = refl
+number_role-number ClientOfAll = refl
+number_role-number Server = refl
 
 abbrev pub role_code : Coded Role
-role_code = code_by Bool coded_bool role_flag flag_role flag_role-flag
+role_code = code_by ℕ coded_ℕ role_number number_role number_role-number
 
 abbrev fault_number : SyncError → ℕ
 fault_number fault.Frame = 0

@@ -2,7 +2,7 @@
 
 ghost use Rattle.std.specs.Prelude.{◌≡◌, ◌≢◌, ◌++◌, ◌<◌, ◌≤◌, [], Some, length, take, vec_len, IfOk, IfErr, OnOk, OnErr, IsErrOf};
 ghost use Rattle.std.specs.Io.KnownBytes.{Appends, Consumes, IsAtEnd, Keeps};
-ghost use Rattle.oct_sync.specs.Driven.{Breaks, Completes, IsOutside, LacksMemory, RunsOut, begun};
+ghost use Rattle.oct_sync.specs.Driven.{Breaks, Completes, Concludes, IsOutside, LacksMemory, RunsOut, begun};
 ghost use Rattle.oct_sync.specs.Output.{AppendsPrefix};
 ghost use Rattle.oct_sync.specs.Standing.{at_start};
 
@@ -46,6 +46,28 @@ pub fn drive<A: Allocator + Copy, P: Peer<A>, R: Read, W: Write>(
     ensures cut { IsErrOf result SyncError.Cut → IsAtEnd (R.remaining reader.new) }
     ensures author { P.author peer.new ≡ P.author peer.old }
 {
+    let owed = converse(alloc, role, peer, reader, writer)?;
+    write_out(writer, &owed)?;
+    Ok(())
+}
+
+/// Does what `drive` does, except that the bytes that are owed once the session is done are the answer, and not written. So
+/// a server can keep what it holds before it says, by its last frame, that it has it: the caller writes them, by `write_out`.
+///
+/// The errors are those of `drive`, which come while the session is not done.
+pub fn converse<A: Allocator + Copy, P: Peer<A>, R: Read, W: Write>(
+    alloc: A,
+    role: Role,
+    peer: &mut P,
+    reader: &mut R,
+    writer: &mut W,
+) -> Result<Vec<u8, A>, SyncError>
+    ensures ok { IfOk result (λ owed. Concludes role (R.remaining reader.old) (R.remaining reader.new) (W.contents writer.old) (W.contents writer.new) (P.held peer.old) (P.held peer.new) owed.items) }
+    ensures err { IfErr result (λ e. e ≢ SyncError.OutOfMemory → Breaks role e (R.remaining reader.old) (R.remaining reader.new) (W.contents writer.old) (W.contents writer.new) (P.held peer.old) (P.held peer.new)) }
+    ensures memory { IfErr result (λ e. e ≡ SyncError.OutOfMemory → LacksMemory role (R.remaining reader.old) (R.remaining reader.new) (W.contents writer.old) (W.contents writer.new) (P.held peer.old) (P.held peer.new)) }
+    ensures cut { IsErrOf result SyncError.Cut → IsAtEnd (R.remaining reader.new) }
+    ensures author { P.author peer.new ≡ P.author peer.old }
+{
     let mut buffer = zeros(alloc, MAX_READ)?;
     let mut owed = Vec::new(alloc);
     let mut session = begin(alloc, role, peer, &mut owed)?;
@@ -57,10 +79,11 @@ pub fn drive<A: Allocator + Copy, P: Peer<A>, R: Read, W: Write>(
         writer,
         &mut buffer,
         &mut owed,
-    )
+    )?;
+    Ok(owed)
 }
 
-// Writes all that is owed and reads what the session wants, by turns, until it is done.
+// Writes all that is owed and reads what the session wants, by turns, until it is done. What is owed then is not written.
 fn take_turns<A: Allocator + Copy, P: Peer<A>, R: Read, W: Write>(
     role: Role,
     session: &mut Session<A>,
@@ -73,27 +96,23 @@ fn take_turns<A: Allocator + Copy, P: Peer<A>, R: Read, W: Write>(
     requires at { session.now ≡ Some (at_start role) }
     requires owed { owed.now.items ≡ (begun role (P.held peer.now)).sent }
     requires room { 0 < length buffer.old }
-    ensures ok { OnOk result (Completes role (R.remaining reader.old) (R.remaining reader.new) (W.contents writer.old) (W.contents writer.new) (P.held peer.old) (P.held peer.new)) }
+    ensures ok { OnOk result (Concludes role (R.remaining reader.old) (R.remaining reader.new) (W.contents writer.old) (W.contents writer.new) (P.held peer.old) (P.held peer.new) owed.new.items) }
     ensures err { IfErr result (λ e. e ≢ SyncError.OutOfMemory → Breaks role e (R.remaining reader.old) (R.remaining reader.new) (W.contents writer.old) (W.contents writer.new) (P.held peer.old) (P.held peer.new)) }
     ensures memory { IfErr result (λ e. e ≡ SyncError.OutOfMemory → RunsOut role (R.remaining reader.old) (R.remaining reader.new) (W.contents writer.old) (W.contents writer.new) (P.held peer.old) (P.held peer.new)) }
     ensures cut { IsErrOf result SyncError.Cut → IsAtEnd (R.remaining reader.new) }
     ensures author { P.author peer.new ≡ P.author peer.old }
 {
-    let mut progress = Progress::More;
     for _ in 0..MAX_READS {
         send(writer, owed)?;
+        let count = receive(reader, buffer, session.wanted())?;
+        let piece = &buffer[..count];
+        let progress = session.feed(peer, piece, owed)?;
         if let Progress::Done = progress {
             return Ok(());
         }
-        let count = receive(reader, buffer, session.wanted())?;
-        let piece = &buffer[..count];
-        progress = session.feed(peer, piece, owed)?;
     }
     send(writer, owed)?;
-    match progress {
-        Progress::Done => Ok(()),
-        Progress::More => Err(SyncError::Turns),
-    }
+    Err(SyncError::Turns)
 }
 
 // A session of the role, whose first bytes are owed.
@@ -108,6 +127,7 @@ fn begin<A: Allocator + Copy, P: Peer<A>>(
 {
     match role {
         Role::Client => Session::client(alloc, peer, owed),
+        Role::ClientOfAll => Session::client_of_all(alloc, owed),
         Role::Server => Ok(Session::server(alloc)),
     }
 }

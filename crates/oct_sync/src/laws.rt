@@ -1,6 +1,6 @@
 //! What holds of all sessions. A caller gets each law from the contract of its function.
 
-ghost use Rattle.oct_sync.specs.Exchange.{EachHoldsAll, EachIsAnswered, EachTakesMissing};
+ghost use Rattle.oct_sync.specs.Exchange.{AllIsExchanged, BothEndWithAll, EachHoldsAll, EachIsAnswered, EachTakesMissing};
 ghost use Rattle.oct_sync.specs.Laws.{AnyCutting};
 
 /// However bytes are cut into pieces, a session ends with the same phase, the same set and the same bytes sent, and a
@@ -16,4 +16,11 @@ pub fn both_sides_hold_all()
     ensures missing { EachTakesMissing }
     ensures all { EachHoldsAll }
     ensures answered { EachIsAnswered }
+{}
+
+/// Where the client sends all, both sides are done in the end and hold all that either held, also where a dot has two contents.
+/// Whatever the two sides hold, there is such a session.
+pub fn sending_all_joins_both()
+    ensures both { BothEndWithAll }
+    ensures answered { AllIsExchanged }
 {}

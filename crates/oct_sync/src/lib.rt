@@ -9,12 +9,16 @@
 //!     deltas, end               ->
 //!                               <-    end
 //!
+//! Clocks do not show where a number was used for two things. A client that sends all says by its clock that it has nothing,
+//! and sends back all that it holds then: so both sides come to one set there too.
+//!
 //! Each frame is a length of four bytes, which counts what follows it, a tag of one byte and a payload. Bytes may come
 //! in pieces of any size: what a side holds and sends follows from the bytes alone, and not from how they were cut.
 //!
 //! - `Session` is one side, which is fed the other side's bytes and appends what it sends to a vector.
 //! - `Peer` is whoever a side speaks for: it keeps a set of operations, as a `Replica` does.
-//! - `drive` runs a session to its end over a reader and a writer, and `write_out` writes all bytes to a writer.
+//! - `drive` runs a session to its end over a reader and a writer; `converse` does so too, and leaves its last answer to the
+//!   caller; `write_out` writes all bytes to a writer.
 //! - `SyncError` says why a session ended early, and `laws` what holds of all sessions: bytes may be cut anywhere, and two
 //!   sides that answer each other both end with all that either held.
 //!
@@ -37,7 +41,7 @@ mod sending;
 mod session;
 mod state;
 
-pub use driver::{MAX_READS, drive};
+pub use driver::{MAX_READS, converse, drive};
 pub use error::SyncError;
 pub use output::{Unwritten, write_out};
 pub use peer::Peer;

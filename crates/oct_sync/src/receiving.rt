@@ -19,9 +19,10 @@ use crate::sending::{send_answer, send_end, send_missing};
 use crate::state::{Delta, Due, Incoming, SessionState};
 use oct_delta::laws::texts_are_read;
 use oct_delta::{ClockError, DeltaError, Reader, decode_clock};
+use oct_join::Clock;
 use std::alloc::{AllocError, Allocator};
 
-// Takes the other side's clock. A server answers it.
+// Takes the other side's clock. A server answers it; a client that sends all does as if it covered nothing.
 fn on_clock<A: Allocator + Copy, P: Peer<A>>(
     alloc: A,
     role: Role,
@@ -41,6 +42,7 @@ fn on_clock<A: Allocator + Copy, P: Peer<A>>(
     };
     match role {
         Role::Client => Ok(Due::Deltas(clock)),
+        Role::ClientOfAll => Ok(Due::Deltas(Clock::new(alloc))),
         Role::Server => {
             send_answer(alloc, peer, &clock, out)?;
             Ok(Due::Deltas(clock))
@@ -62,7 +64,7 @@ fn on_end<A: Allocator + Copy, P: Peer<A>>(
 {
     match due {
         Due::Deltas(clock) => match role {
-            Role::Client => {
+            Role::Client | Role::ClientOfAll => {
                 send_missing(alloc, peer, &clock, out)?;
                 Ok(Due::End)
             }

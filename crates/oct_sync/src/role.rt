@@ -5,6 +5,8 @@
 pub enum Role {
     /// It speaks first.
     Client,
+    /// It speaks first, says that it has nothing, and sends all.
+    ClientOfAll,
     /// It answers.
     Server,
 }

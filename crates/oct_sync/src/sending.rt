@@ -3,7 +3,7 @@
 ghost use Rattle.std.specs.Prelude.{◌≡◌, ◌++◌, take, OnOk, OnErr};
 ghost use Rattle.oct_delta.specs.Writing.{Keeps};
 ghost use Rattle.oct_sync.specs.Frames.{end_frame};
-ghost use Rattle.oct_sync.specs.Session.{clock_frame, missing_frames};
+ghost use Rattle.oct_sync.specs.Session.{clock_frame, empty_clock_frame, missing_frames};
 
 use crate::deltas::put_delta_frames;
 use crate::frame::{put_clock_frame, put_end_frame};
@@ -84,6 +84,16 @@ pub(crate) fn send_clock<A: Allocator + Copy, P: Peer<A>>(
 {
     let length = out.len();
     let added = put_clock(peer, out);
+    keep_or_cut(out, length, added)
+}
+
+/// Sends the clock frame of a side that says that it has nothing.
+pub(crate) fn send_empty_clock<A: Allocator>(out: &mut Vec<u8, A>) -> Result<(), AllocError>
+    ensures ok { OnOk result (out.new.items ≡ out.old.items ++ empty_clock_frame) }
+    ensures err { OnErr result (out.new.items ≡ out.old.items) }
+{
+    let length = out.len();
+    let added = put_clock_frame(out, &[]);
     keep_or_cut(out, length, added)
 }
 

@@ -4,7 +4,7 @@ ghost use Rattle.std.specs.Prelude.{◌≡◌, ◌≢◌, ◌↔◌, ◌≤◌, 
 ghost use Rattle.oct_delta.specs.Text.{Bytes};
 ghost use Rattle.oct_ops.specs.Operations.{Operations};
 ghost use Rattle.oct_sync.specs.Frames.{max_frame};
-ghost use Rattle.oct_sync.specs.Session.{Point, clock_frame, fed, wanted};
+ghost use Rattle.oct_sync.specs.Session.{Point, clock_frame, empty_clock_frame, fed, wanted};
 ghost use Rattle.oct_sync.specs.SessionState.{phase_of};
 ghost use Rattle.oct_sync.specs.Standing.{Ends, StandsAt, StandsSound, at_start, progress_in, progress_of};
 ghost use Rattle.oct_sync.specs.declared.role.Role.TheVariants as roles;
@@ -14,7 +14,7 @@ use crate::peer::Peer;
 use crate::progress::Progress;
 use crate::receiving;
 use crate::role::Role;
-use crate::sending::send_clock;
+use crate::sending::{send_clock, send_empty_clock};
 use crate::state::{Due, SessionState};
 use std::alloc::{AllocError, Allocator};
 use std::marker::Model;
@@ -59,6 +59,18 @@ impl<A: Allocator + Copy> Session<A> {
     {
         send_clock(peer, out)?;
         Ok(Session::begin(alloc, Role::Client))
+    }
+
+    /// The side that speaks first and sends all: its clock frame, which covers nothing, is appended to `out`, which a refusal
+    /// leaves as it was. Whatever the other side's clock is, all that the peer then holds is sent back. So both sides come to
+    /// one set also where two of them used a number twice, which clocks do not show.
+    pub fn client_of_all(alloc: A, out: &mut Vec<u8, A>) -> Result<Session<A>, AllocError>
+        ensures ok { IfOk result (λ session. session ≡ Some (at_start roles.ClientOfAll)) }
+        ensures sent { OnOk result (out.new.items ≡ out.old.items ++ empty_clock_frame) }
+        ensures err { OnErr result (out.new.items ≡ out.old.items) }
+    {
+        send_empty_clock(out)?;
+        Ok(Session::begin(alloc, Role::ClientOfAll))
     }
 
     /// The side that answers. It takes no memory.

@@ -6,12 +6,12 @@ mod driven;
 
 use crate::replica::{new_replica, shows};
 use crate::texts::{
-    BOTH_SHOWN, FIRST, Frame, NEXT, NEXT_SHOWN, NONE_SHOWN, NOTHING, NOTHING_NEW, ONE, bytes,
-    frame_bytes,
+    BOTH, BOTH_SHOWN, FIRST, FORKED_SHOWN, Frame, NEXT, NEXT_SHOWN, NONE_SHOWN, NOTHING,
+    NOTHING_NEW, ONE, ONE_AND_TWO, TWO, bytes, frame_bytes,
 };
 use metered::Metered;
 use oct_replica::Replica;
-use oct_sync::{MAX_READS, Progress, Role, Session, SyncError, drive};
+use oct_sync::{MAX_READS, Progress, Role, Session, SyncError, converse, drive};
 use std::alloc::{Allocator, Global};
 use std::process::Abort;
 
@@ -55,6 +55,16 @@ impl Side {
         }
     }
 
+    // The same client, which sends all.
+    fn client_of_all(rt: &(impl Abort + AllocGlobal)) -> Side {
+        let mut side = Side::client(rt);
+        side.name = "the client that sends all";
+        side.role = Role::ClientOfAll;
+        side.sends = frame_bytes(rt, &[Frame::Clock(&[]), Frame::Delta(BOTH), Frame::End]);
+        side.first = 9;
+        side
+    }
+
     // The server with Kayles from heap 0 on, by author 1, to which comes what the client sends.
     fn server(rt: &(impl Abort + AllocGlobal)) -> Side {
         let client = Side::client(rt);
@@ -73,6 +83,7 @@ impl Side {
     fn of(rt: &(impl Abort + AllocGlobal), role: Role) -> Side {
         match role {
             Role::Client => Side::client(rt),
+            Role::ClientOfAll => Side::client_of_all(rt),
             Role::Server => Side::server(rt),
         }
     }
@@ -106,6 +117,7 @@ fn empty_side(rt: &(impl Abort + AllocGlobal), role: Role) -> Side {
     let of_server = frame_bytes(rt, OF_EMPTY_SERVER);
     let (name, frames) = match role {
         Role::Client => ("the empty client", [of_server, of_client]),
+        Role::ClientOfAll => ("the empty client of all", [of_server, of_client]),
         Role::Server => ("the empty server", [of_client, of_server]),
     };
     Side::of(rt, role).with(name, bytes(rt, NOTHING), frames, NONE_SHOWN)
@@ -175,6 +187,30 @@ fn forked(rt: &(impl Abort + AllocGlobal)) -> Side {
     side
 }
 
+// The two sides of that fork where the client sends all: each has its note and gets the other one.
+fn joined(rt: &(impl Abort + AllocGlobal)) -> [Side; 2] {
+    let of_client = [Frame::Clock(&[]), Frame::Delta(ONE_AND_TWO), Frame::End];
+    let of_server = [
+        Frame::Clock(&[(7, 1)]),
+        Frame::Delta(TWO),
+        Frame::End,
+        Frame::End,
+    ];
+    let client = Side::client_of_all(rt).with(
+        "a client that sends all of a fork",
+        bytes(rt, ONE),
+        [frame_bytes(rt, &of_server), frame_bytes(rt, &of_client)],
+        FORKED_SHOWN,
+    );
+    let server = Side::server(rt).with(
+        "a server to which all of a fork comes",
+        bytes(rt, TWO),
+        [frame_bytes(rt, &of_client), frame_bytes(rt, &of_server)],
+        FORKED_SHOWN,
+    );
+    [client, server]
+}
+
 // A session of the role, whose first bytes are in `out`; none where memory is refused.
 fn session_of<A: Allocator + Copy>(
     alloc: A,
@@ -184,6 +220,7 @@ fn session_of<A: Allocator + Copy>(
 ) -> Option<Session<A>> {
     match role {
         Role::Client => Session::client(alloc, replica, out).ok(),
+        Role::ClientOfAll => Session::client_of_all(alloc, out).ok(),
         Role::Server => Some(Session::server(alloc)),
     }
 }
@@ -295,7 +332,7 @@ fn is_done<A: Allocator + Copy>(
 #[test]
 fn sides_exchange_what_they_lack(rt: HostRuntime) {
     let heap = Metered::new(rt.alloc());
-    for role in [Role::Client, Role::Server] {
+    for role in [Role::Client, Role::ClientOfAll, Role::Server] {
         for side in [Side::of(&rt, role), empty_side(&rt, role)] {
             for size in 1..=79usize {
                 is_done(&rt, &heap, &heap, &side, size);
@@ -303,6 +340,9 @@ fn sides_exchange_what_they_lack(rt: HostRuntime) {
         }
     }
     for side in [given_none(&rt), at_limit(&rt), forked(&rt)] {
+        is_done(&rt, &heap, &heap, &side, usize::MAX);
+    }
+    for side in joined(&rt) {
         is_done(&rt, &heap, &heap, &side, usize::MAX);
     }
 }
@@ -423,7 +463,7 @@ fn keeps_its_promise<A: Allocator + Copy>(
 #[test]
 fn each_request_for_memory_may_be_refused(rt: HostRuntime) {
     let heap = Metered::new(rt.alloc());
-    for role in [Role::Client, Role::Server] {
+    for role in [Role::Client, Role::ClientOfAll, Role::Server] {
         keeps_its_promise(&rt, &heap, &heap, &Side::of(&rt, role));
     }
 }

@@ -14,6 +14,12 @@ pub(crate) const NEXT: &str = "\
 4f474431 00000001
 00000002 00000001 01 00020707 00000005 0003 00000004 00000003 00000002";
 
+/// FIRST and NEXT.
+pub(crate) const BOTH: &str = "\
+4f474431 00000002
+00000001 00000001 01 00020707 00000000 0005 00000000 00000001 00000002 00000003 00000001
+00000002 00000001 01 00020707 00000005 0003 00000004 00000003 00000002";
+
 /// The block 1.2 of Kayles from heap 2 on: 2 3.
 pub(crate) const SECOND: &str = "\
 4f474431 00000001
@@ -68,6 +74,12 @@ pub(crate) const ONE: &str = "\
 /// Another note 7.1, `a`, issued from an old state: two.
 pub(crate) const TWO: &str = "\
 4f474431 00000001
+00000007 00000001 03 01 61 03 74776f";
+
+/// ONE and TWO.
+pub(crate) const ONE_AND_TWO: &str = "\
+4f474431 00000002
+00000007 00000001 03 01 61 03 6f6e65
 00000007 00000001 03 01 61 03 74776f";
 
 /// The notes 5.1 and 5.3, `a`, without text.

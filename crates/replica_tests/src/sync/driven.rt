@@ -116,7 +116,7 @@ fn case_of(side: &Side, number: u32) -> Case<'_> {
     let mut source = source_of(side);
     let mut sink = sink_of(side);
     let reads = match side.role {
-        Role::Client => 6,
+        Role::Client | Role::ClientOfAll => 6,
         Role::Server => 5,
     };
     let answer = match number {
@@ -192,9 +192,30 @@ fn is_refused_unflushed(rt: &(impl Abort + AllocGlobal), side: &Side) {
     assert_eq!(rt; answer, Err(SyncError::Write), "{}", side.name);
 }
 
+// The side, where the last of what it sends is left to the caller, is done, and has written all but that, which are so many
+// bytes.
+fn leaves_its_last_frame(rt: &(impl Abort + AllocGlobal), side: &Side, last: usize) {
+    let mut replica = new_replica(rt, rt.alloc(), side.author);
+    let taken = replica.take(&side.holds);
+    assert!(rt; taken.is_ok(), "{}: {taken:?}", side.name);
+    let (mut source, mut sink) = (source_of(side), sink_of(side));
+    let answer = converse(rt.alloc(), side.role, &mut replica, &mut source, &mut sink);
+    let owed = answer.expect(rt, side.name);
+    assert_eq!(rt; owed.as_slice(), sink.expected, "{} owes", side.name);
+    assert_eq!(rt; owed.len(), last, "bytes that {} owes", side.name);
+    shows(rt, rt.alloc(), &replica, side.shows, side.name);
+}
+
+#[test]
+fn the_last_frame_is_left_to_the_caller(rt: HostRuntime) {
+    leaves_its_last_frame(&rt, &Side::client(&rt), 0);
+    leaves_its_last_frame(&rt, &Side::client_of_all(&rt), 0);
+    leaves_its_last_frame(&rt, &Side::server(&rt), 5);
+}
+
 #[test]
 fn devices_may_be_slow_or_end_or_fail(rt: HostRuntime) {
-    for role in [Role::Client, Role::Server] {
+    for role in [Role::Client, Role::ClientOfAll, Role::Server] {
         let side = Side::of(&rt, role);
         for number in 0..92u32 {
             is_answered(&rt, &side, number);
@@ -228,9 +249,9 @@ fn drives_short<A: Allocator + Copy>(
 // answered is owed while it comes.
 fn is_cut_short(side: &Side, read: usize, written: usize, held: usize) -> bool {
     let (ends, owed) = match side.role {
-        Role::Client if read == 0 => (10, 0),
-        Role::Client if read < side.comes.len() => (10, side.first),
-        Role::Client => (10, side.sends.len()),
+        Role::Client | Role::ClientOfAll if read == 0 => (10, 0),
+        Role::Client | Role::ClientOfAll if read < side.comes.len() => (10, side.first),
+        Role::Client | Role::ClientOfAll => (10, side.sends.len()),
         Role::Server if read <= 17 => (5, 0),
         Role::Server => (5, side.first),
     };
@@ -278,7 +299,7 @@ fn keeps_its_promise<A: Allocator + Copy>(
 #[test]
 fn a_driver_writes_nothing_more_where_memory_ends(rt: HostRuntime) {
     let heap = Metered::new(rt.alloc());
-    for role in [Role::Client, Role::Server] {
+    for role in [Role::Client, Role::ClientOfAll, Role::Server] {
         keeps_its_promise(&rt, &heap, &heap, &Side::of(&rt, role));
     }
 }
@@ -353,7 +374,7 @@ fn is_driven_between(
 #[test]
 fn sides_are_driven_over_the_loopback(rt: HostRuntime) -> Result<(), Fail> {
     let ends = connect(&rt)?;
-    for role in [Role::Client, Role::Server] {
+    for role in [Role::Client, Role::ClientOfAll, Role::Server] {
         is_driven_between(&rt, &ends, &Side::of(&rt, role))?;
     }
     Ok(())

@@ -11,3 +11,9 @@ returns-in_ok-send_answer-in-Server-clause-ok g c phase =
     let held = g.P.Peer.held c.args.peer.now in
     (λ i. on_clock (c.in-Server.is i) (record { phase = phase; held = held; sent = c.args.out.now.items }) (c.in-Ok.ensures.read i))
     ∙ ap (λ sent. record { phase = AwaitsDeltas c.in-Ok.clock; held = held; sent = sent }) (sym c.in_ok-send_answer-in-Server.ensures.ok)
+
+pub returns-in-ClientOfAll-clause-ok : goal.returns-in-ClientOfAll-clause-ok
+returns-in-ClientOfAll-clause-ok g c phase =
+    let held = g.P.Peer.held c.args.peer.now in
+    (λ i. on_clock (c.in-ClientOfAll.is i) (record { phase = phase; held = held; sent = c.args.out.now.items }) (c.in-Ok.ensures.read i))
+    ∙ ap (λ t. record { phase = AwaitsDeltas t; held = held; sent = c.args.out.now.items }) (sym c.new.ensures)
