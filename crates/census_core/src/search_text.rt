@@ -76,7 +76,12 @@ fn lines_text(
     let mut text = Vec::new(alloc);
     append_game_line(&mut text, game, found)?;
     for heap in heaps {
-        append_heap_line(&mut text, game.code(), *heap, value_told(game, found, *heap))?;
+        append_heap_line(
+            &mut text,
+            game.code(),
+            *heap,
+            value_told(game, found, *heap),
+        )?;
     }
     Ok(text)
 }

@@ -32,10 +32,11 @@ loop-heap-preserved g c =
     let grown = row_more held.0 c.loop-heap.piece.items piece _ _ c.loop-heap.heap _ (subst (λ vs. c.loop-heap.heap < length vs) same c.loop-heap-test.true)
     (ap (λ vs. get_or vs c.loop-heap.heap 0) same) c.in_ok-append_row.ensures held.2 in
     elim c.if-len-ge-PIECE.branch [
-      | then-len-ge-PIECE+in_ok-write_out w ↦
-        (held.0 ++ piece,
+      | then-len-ge-PIECE+in_ok-write_out w ↦ (
+        held.0 ++ piece,
         rw w.writer-is (Appends-trans _ _ _ held.0 piece held.1 (subst (Appends _ _) w.deref.ensures.value w.in_ok-write_out.ensures.ok)),
-        rw (w.piece-is, w.clear.ensures.items) (piece_written held.0 piece _ _ grown))
+        rw (w.piece-is, w.clear.ensures.items) (piece_written held.0 piece _ _ grown),
+      )
       | else-len-ge-PIECE w ↦ (held.0, rw w.writer-is held.1, rw w.piece-is grown)
     ]
 
