@@ -1,5 +1,8 @@
 //! Words beside the lines that a command always writes to standard error.
 
+use census_core::Fault;
+use oct_ops::Dot;
+use std::alloc::{AllocError, Global};
 use std::io::Write;
 
 /// Who reads standard error.
@@ -45,10 +48,38 @@ impl<'a, E: Write> Advice<'a, E> {
         }
     }
 
+    /// Warns that the number of a state's author is used twice, where an operation came by that number which the state
+    /// never held.
+    pub(crate) fn warn_of_number(&mut self, alloc: Global, foreign: Option<Dot>) {
+        if let Some(dot) = foreign {
+            if let Ok(text) = foreign_text(alloc, dot) {
+                self.warn(text.as_str());
+            }
+        }
+    }
+
+    /// Says what to do after the fault, where there is a way on.
+    pub(crate) fn explain(&mut self, fault: Fault) {
+        if let Fault::Issue(_) = fault {
+            self.say(
+                "the last number of this author is used: go on under a new one with census renumber",
+            );
+        }
+    }
+
     /// Writes the text as an indented line.
     pub(crate) fn say(&mut self, text: &str) {
         if self.is_wanted {
             let _ = writeln!(self.errors, "  {text}");
         }
     }
+}
+
+/// What is said of an operation that is by the number of a state and that the state never held.
+pub(crate) fn foreign_text(alloc: Global, dot: Dot) -> Result<String, AllocError> {
+    let (author, number) = (dot.author(), dot.number());
+    format!(in alloc;
+        "{author}.{number} is by your number and not from this state: the number is used twice, or this \
+                       state is an old copy; go on under a new one with census renumber"
+    )
 }

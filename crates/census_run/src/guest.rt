@@ -2,9 +2,11 @@
 
 use crate::connection::Patience;
 use crate::kept::Kept;
+use crate::network::Saved;
 use census_core::Fault;
 use mio::net::TcpStream;
 use mio::{Interest, Registry, Token};
+use oct_ops::Dot;
 use oct_sync::{Progress, Session, SyncError};
 use std::alloc::Global;
 use std::fs::File;
@@ -37,8 +39,8 @@ pub(crate) struct Guest {
     came: u64,
     /// Whether an operation came that was not there.
     has_brought: bool,
-    /// What is said of the session; none before all came, and what came was saved.
-    text: Option<Vec<u8>>,
+    /// What stands in the state after the session; none before all came, and what came was saved.
+    saved: Option<Saved>,
     /// Whether the next read or write may go without waiting.
     is_ready: bool,
     /// Until when it may be silent.
@@ -69,7 +71,7 @@ impl Guest {
             sent: 0,
             came: 0,
             has_brought: false,
-            text: None,
+            saved: None,
             is_ready: true,
             patient: now.checked_add(bounds.patience.silence),
             end,
@@ -104,14 +106,22 @@ impl Guest {
 
     /// Whether the session is done, and all of it was sent.
     pub(crate) fn is_over(&self) -> bool {
-        self.text.is_some() && self.owed.is_empty()
+        self.saved.is_some() && self.owed.is_empty()
     }
 
     /// What is said of the session where it is done.
     pub(crate) fn text(&self) -> &[u8] {
-        match &self.text {
-            Some(text) => text,
+        match &self.saved {
+            Some(saved) => &saved.text,
             None => &[],
+        }
+    }
+
+    /// An operation by the state's own number that its file never held, where one was saved with this session.
+    pub(crate) fn foreign(&self) -> Option<Dot> {
+        match &self.saved {
+            Some(saved) => saved.foreign,
+            None => None,
         }
     }
 
@@ -197,7 +207,7 @@ impl Guest {
             self.has_brought = true;
         }
         if let Progress::Done = fed? {
-            self.text = Some(kept.settle(rt, state)?);
+            self.saved = Some(kept.settle(rt, state)?);
         }
         Ok(())
     }

@@ -1,11 +1,13 @@
 //! A hub: many sessions over TCP at once, in one thread.
 
+use crate::advice::foreign_text;
 use crate::guest::{Bounds, Guest, sooner};
 use crate::kept::Kept;
 use crate::network::{Place, bound};
 use census_core::Fault;
 use mio::net::TcpStream;
 use mio::{Events, Interest, Poll, Token};
+use oct_ops::Dot;
 use oct_sync::write_out;
 use slab::Slab;
 use std::alloc::Global;
@@ -246,6 +248,7 @@ where
                 if guest.is_over() {
                     if let Some(guest) = self.guests.try_remove(key) {
                         say(self.rt.alloc(), &guest, output)?;
+                        warn_of_number(self.rt.alloc(), errors, guest.foreign());
                     }
                 }
             }
@@ -265,7 +268,9 @@ where
         let is_to_save = guest.has_brought() && matches!(fault, Fault::Sync(_) | Fault::TooLong);
         drop(guest);
         if is_to_save {
-            let _ = self.kept.settle(self.rt, self.place.state);
+            if let Ok(saved) = self.kept.settle(self.rt, self.place.state) {
+                warn_of_number(self.rt.alloc(), errors, saved.foreign);
+            }
         }
         say_fault(errors, peer, fault);
     }
@@ -305,6 +310,15 @@ fn say<O: Write>(alloc: Global, guest: &Guest, output: &mut O) -> Result<(), Fau
 // Says why a session ended early.
 fn say_fault<E: Write>(errors: &mut E, peer: SocketAddr, fault: Fault) {
     let _ = writeln!(errors, "census: peer {peer} {fault}");
+}
+
+// Warns that the state's own number is used twice, where an operation came by it that the state never held.
+fn warn_of_number<E: Write>(alloc: Global, errors: &mut E, foreign: Option<Dot>) {
+    if let Some(dot) = foreign {
+        if let Ok(text) = foreign_text(alloc, dot) {
+            let _ = writeln!(errors, "warning: {text}");
+        }
+    }
 }
 
 // A buffer of this length.

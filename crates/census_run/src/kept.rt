@@ -1,7 +1,7 @@
 //! What a hub keeps of its state between sessions.
 
-use crate::files::read_open;
-use crate::network::save;
+use crate::files::{open_file, read_open};
+use crate::network::{Saved, save};
 use census_core::{Fault, unchanged};
 use oct_record::Record;
 use std::alloc::Global;
@@ -37,9 +37,7 @@ impl Kept {
     where
         R: Files<File = File> + AllocGlobal,
     {
-        let Ok(mut file) = fs::open(rt, state) else {
-            return Err(Fault::File);
-        };
+        let mut file = open_file(rt, state)?;
         // Before it is read, so that what is written into it meanwhile is seen afterwards.
         let Ok(there) = file.metadata() else {
             return Err(Fault::File);
@@ -76,18 +74,21 @@ impl Kept {
         Ok(())
     }
 
-    /// Saves the union of this and of what the file holds by now, where something is not saved. The text says how many
-    /// operations are new to the file, and how many there are. After a fault nothing more is saved than before.
-    pub(crate) fn settle<R>(&mut self, rt: &R, state: &str) -> Result<Vec<u8>, Fault>
+    /// Saves the union of this and of what the file holds by now, where something is not saved. After a fault nothing
+    /// more is saved than before.
+    pub(crate) fn settle<R>(&mut self, rt: &R, state: &str) -> Result<Saved, Fault>
     where
         R: Files<File = File> + AllocGlobal,
     {
         if self.is_saved() {
-            return Ok(unchanged(rt.alloc(), &self.said)?);
+            return Ok(Saved {
+                text: unchanged(rt.alloc(), &self.said)?,
+                foreign: None,
+            });
         }
-        let text = save(rt, state, &self.said)?;
+        let saved = save(rt, state, &self.said, true)?;
         self.saved = self.said.len();
-        Ok(text)
+        Ok(saved)
     }
 
     // Whether the file has all, or had when it was last read or written.

@@ -1,13 +1,16 @@
 //! Sessions over TCP.
 
+use crate::advice::Advice;
 use crate::connection::{Connection, Patience};
 use crate::files::read_file;
 use crate::state_file::StateFile;
 use census_core::{Fault, rejoin};
+use oct_ops::Dot;
 use oct_record::Record;
 use oct_sync::{Role, SyncError, converse, drive, write_out};
 use std::alloc::Global;
 use std::fs::File;
+use std::io::Write;
 use std::net::{Net, SocketAddr, TcpListener, TcpStream};
 use std::rt::Files;
 use std::time::Clock;
@@ -23,33 +26,49 @@ pub(crate) struct Place<'a> {
     pub(crate) patience: Patience,
 }
 
+/// What stands in a state after a session.
+#[derive(Drop)]
+pub(crate) struct Saved {
+    /// How many operations are new to the file, and how many there are.
+    pub(crate) text: Vec<u8>,
+    /// An operation by the state's own number that its file never held; none where there is none, or nobody asked.
+    pub(crate) foreign: Option<Dot>,
+}
+
 /// Waits for one connection to the address, without end, and serves its session. Its last frame, by which the other side is
 /// done, is sent once the state is saved. The state is saved also where the session ended early. The fault is that of the
 /// state, as it is read first; then `Net`; then that of the session, or else of the state, as it is saved; then that of the
 /// last frame.
-pub(crate) fn serve<R>(rt: &R, place: Place<'_>) -> Result<(), Fault>
+pub(crate) fn serve<R, E>(rt: &R, place: Place<'_>, advice: &mut Advice<'_, E>) -> Result<(), Fault>
 where
     R: Files<File = File> + AllocGlobal + Net<Stream = TcpStream, Listener = TcpListener> + Clock,
+    E: Write,
 {
     let said = load(rt, place.state)?;
     let listener = bound(rt, place.address)?;
     let (stream, _) = accepted(&listener)?;
-    answer(rt, place, said, &stream)
+    answer(rt, place, said, &stream, advice)
 }
 
 /// Connects to the address, and has one session with what serves there, as this kind of client. The state is saved once the
 /// session is done, and also where it ended early. The fault is that of the state, as it is read first; then `Net`; then that
 /// of the session, or else of the state, as it is saved.
-pub(crate) fn sync<R>(rt: &R, place: Place<'_>, role: Role) -> Result<(), Fault>
+pub(crate) fn sync<R, E>(
+    rt: &R,
+    place: Place<'_>,
+    role: Role,
+    advice: &mut Advice<'_, E>,
+) -> Result<(), Fault>
 where
     R: Files<File = File> + AllocGlobal + Net<Stream = TcpStream, Listener = TcpListener> + Clock,
+    E: Write,
 {
-    let said = load(rt, place.state)?;
+    let mut said = load(rt, place.state)?;
     let Ok(stream) = TcpStream::connect(rt, place.address) else {
         return Err(Fault::Net);
     };
-    meet(rt, role, place, said, &stream)?;
-    Ok(())
+    let ended = exchange(rt, role, place.patience, &mut said, &stream);
+    settle(rt, place.state, &said, ended, advice)
 }
 
 // What a state file says. No nim-value is computed.
@@ -76,70 +95,73 @@ fn accepted(listener: &TcpListener) -> Result<(TcpStream, SocketAddr), Fault> {
     Err(Fault::Net)
 }
 
-// Runs a session to its end over the connection, and saves what is held then, also after a fault of the session.
-// The text is that of the union.
-fn meet<R>(
-    rt: &R,
-    role: Role,
-    place: Place<'_>,
-    mut said: Record<Global>,
-    stream: &TcpStream,
-) -> Result<Vec<u8>, Fault>
-where
-    R: Files<File = File> + AllocGlobal + Clock,
-{
-    let ended = exchange(rt, role, place.patience, &mut said, stream);
-    settle(rt, place.state, &said, ended)
-}
-
 // Answers a client over the connection, and saves what is held then; after that the client is told, by the last frame. Where
 // the state can't be saved, it is not told.
-fn answer<R>(
+fn answer<R, E>(
     rt: &R,
     place: Place<'_>,
     mut said: Record<Global>,
     stream: &TcpStream,
+    advice: &mut Advice<'_, E>,
 ) -> Result<(), Fault>
 where
     R: Files<File = File> + AllocGlobal + Clock,
+    E: Write,
 {
     let (mut reader, mut writer) = both_ways(rt, place.patience, stream)?;
-    let mut owed = Vec::new(rt.alloc());
-    let ended = match converse(
+    let ended = converse(
         rt.alloc(),
         Role::Server,
         &mut said,
         &mut reader,
         &mut writer,
-    ) {
+    );
+    match ended {
         Ok(last) => {
-            owed = last;
-            Ok(())
+            settle(rt, place.state, &said, Ok(()), advice)?;
+            write_out(&mut writer, &last).or(Err(Fault::Sync(SyncError::Write)))
         }
-        Err(fault) => Err(Fault::from(fault)),
-    };
-    settle(rt, place.state, &said, ended)?;
-    write_out(&mut writer, &owed).or(Err(Fault::Sync(SyncError::Write)))
+        Err(fault) => settle(rt, place.state, &said, Err(Fault::from(fault)), advice),
+    }
 }
 
-// Saves what is held after a session that ended so, also after a fault of the session. The text is that of the union.
-fn settle<R>(
+// Saves what is held after a session that ended so, also after a fault of the session, and warns where the state's own
+// number is used twice.
+fn settle<R, E>(
     rt: &R,
     state: &str,
     said: &Record<Global>,
     ended: Result<(), Fault>,
-) -> Result<Vec<u8>, Fault>
+    advice: &mut Advice<'_, E>,
+) -> Result<(), Fault>
 where
     R: Files<File = File> + AllocGlobal,
+    E: Write,
 {
     match ended {
-        Ok(()) => save(rt, state, said),
+        Ok(()) => save_telling(rt, state, said, advice),
         Err(Fault::Sync(fault)) => {
-            let _ = save(rt, state, said);
+            let _ = save_telling(rt, state, said, advice);
             Err(Fault::Sync(fault))
         }
         Err(fault) => Err(fault),
     }
+}
+
+// Saves what is held, and warns where the state's own number is used twice.
+fn save_telling<R, E>(
+    rt: &R,
+    state: &str,
+    said: &Record<Global>,
+    advice: &mut Advice<'_, E>,
+) -> Result<(), Fault>
+where
+    R: Files<File = File> + AllocGlobal,
+    E: Write,
+{
+    let saved = save(rt, state, said, advice.is_wanted())?;
+    advice.warn_of_number(rt.alloc(), saved.foreign);
+    Ok(())
 }
 
 // The session alone.
@@ -172,13 +194,19 @@ fn both_ways<'a, R: Clock>(
     }
 }
 
-/// Saves the union of what the state file holds now and what is held, while no other command changes the file.
-pub(crate) fn save<R>(rt: &R, state: &str, said: &Record<Global>) -> Result<Vec<u8>, Fault>
+/// Saves the union of what the state file holds now and what is held, while no other command changes the file. Where it
+/// is asked for, it is also seen whether the state's own number is used twice.
+pub(crate) fn save<R>(
+    rt: &R,
+    state: &str,
+    said: &Record<Global>,
+    is_asked: bool,
+) -> Result<Saved, Fault>
 where
     R: Files<File = File> + AllocGlobal,
 {
     let file = StateFile::wait(rt, state)?;
-    let saved = save_held(rt, &file, state, said);
+    let saved = save_held(rt, &file, state, said, is_asked);
     file.release(rt);
     saved
 }
@@ -189,7 +217,8 @@ fn save_held<R>(
     file: &StateFile,
     state: &str,
     said: &Record<Global>,
-) -> Result<Vec<u8>, Fault>
+    is_asked: bool,
+) -> Result<Saved, Fault>
 where
     R: Files<File = File> + AllocGlobal,
 {
@@ -198,5 +227,21 @@ where
     if let Some(text) = &reply.state {
         file.replace(rt, text)?;
     }
-    Ok(reply.text)
+    Ok(Saved {
+        text: reply.text,
+        foreign: if is_asked {
+            foreign_to(rt, &bytes, said)
+        } else {
+            None
+        },
+    })
+}
+
+// The first operation by the state's own number that is held and that its text did not have; none also where memory is
+// refused, since all is saved by then.
+fn foreign_to<R: AllocGlobal>(rt: &R, before: &[u8], said: &Record<Global>) -> Option<Dot> {
+    match Record::load(rt.alloc(), before) {
+        Ok(before) => before.first_foreign(said),
+        Err(_) => None,
+    }
 }

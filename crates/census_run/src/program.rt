@@ -14,8 +14,8 @@ use crate::task::{Sought, Task, read_task};
 use crate::turns::{Games, give_turns};
 use crate::words::EXPLAIN;
 use census_core::{
-    Fault, Progress, Reply, Request, check, digest, first_values, fold_intake, perform,
-    perform_watched, search, unite, write_values,
+    Fault, Progress, Reply, Request, check, digest, first_foreign, first_values, fold_intake,
+    perform, perform_watched, search, unite, write_values,
 };
 use clap::ArgMatches;
 use clap::error::ErrorKind;
@@ -89,7 +89,11 @@ where
             };
             match attempted(rt, &matches, input, output, errors, audience) {
                 Ok(status) => status,
-                Err(fault) => refuse(errors, fault),
+                Err(fault) => {
+                    let status = refuse(errors, fault);
+                    Advice::new(errors, audience).explain(fault);
+                    status
+                }
             }
         }
         Err(error) => show(alloc, &error, output, errors),
@@ -207,11 +211,11 @@ where
             &mut Advice::new(errors, audience),
         )?,
         Task::Serve { place } => {
-            serve(rt, *place)?;
+            serve(rt, *place, &mut Advice::new(errors, audience))?;
             write_out(output, b"done\n")?;
         }
         Task::Sync { place, role } => {
-            sync(rt, *place, *role)?;
+            sync(rt, *place, *role, &mut Advice::new(errors, audience))?;
             write_out(output, b"done\n")?;
         }
         Task::Hub { place, limits } => hub(rt, *place, *limits, output, errors)?,
@@ -386,8 +390,24 @@ where
     let reply = perform_watched(rt.alloc(), request, &bytes, &beside, progress)?;
     if let Some(text) = &reply.state {
         file.replace_telling(rt, text, progress.advice())?;
+        if let Request::Merge = request {
+            warn_of_taken(rt, &bytes, text, progress.advice());
+        }
     }
     Ok(reply)
+}
+
+// Warns where a delta brought an operation by the state's own number that the state never held.
+fn warn_of_taken<R, E>(rt: &R, before: &[u8], later: &[u8], advice: &mut Advice<'_, E>)
+where
+    R: AllocGlobal,
+    E: Write,
+{
+    if advice.is_wanted() {
+        if let Ok(foreign) = first_foreign(rt.alloc(), before, later) {
+            advice.warn_of_number(rt.alloc(), foreign);
+        }
+    }
 }
 
 // The bytes of the file that a command reads beside the state; none where it reads none.
