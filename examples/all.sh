@@ -90,6 +90,19 @@ done_session anna ben
 if agree anna ben; then exit 1; fi
 if census show anna | grep -q fork; then exit 1; fi
 
+# Where it is asked for, each side warns that its number is used twice.
+cp anna anna.asked
+cp ben ben.asked
+export CENSUS_EXPLAIN=1
+session ben.asked anna.asked --all
+unset CENSUS_EXPLAIN
+test "$serve $sync" = '0 0'
+for told in served synced; do
+  test "$(wc -l <$told)" = 2
+  grep -q '^warning: 3\.1 is by your number and not from this state: ' $told
+  grep -qx 'done' $told
+done
+
 # All goes both ways, with what only one of them has.
 done_session anna carl
 done_session ben anna --all

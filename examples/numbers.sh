@@ -68,11 +68,23 @@ test "$(wc -l <printed)" = 3
 test "$(cut -c 1-64 printed | sort -u)" = "$(digits anna)"
 test "$(sed -n 3p printed)" = "$(sha256sum all.delta)"
 
-# Anna's state is lost, and put back from a copy, after an operation that Ben has. It goes on under another number.
+# Anna's state is lost, and put back from a copy, after an operation that Ben has.
 cp anna copy
 census note anna second 'after the copy' >/dev/null
 exchange anna ben
+cp copy other
 mv copy anna
+
+# Where it is asked for, the old copy is warned of as it takes in what it had issued itself; else nothing is said.
+census merge other one.delta >/dev/null 2>silent
+test ! -s silent
+cp anna asked
+census --explain merge asked one.delta >printed 2>warned
+test "$(cat printed)" = 'new 1'
+grep -q "^warning: $anna\.2 is by your number and not from this state: .*census renumber$" warned
+test "$(wc -l <warned)" = 1
+
+# It goes on under another number.
 census renumber anna >printed
 grep -qx "author $anna renumbered [1-9][0-9]*" printed
 new=$(sed 's/.* //' printed)
