@@ -11,7 +11,7 @@ use oct_sync::{Role, SyncError, converse, drive, write_out};
 use std::alloc::Global;
 use std::fs::File;
 use std::io::Write;
-use std::net::{Net, SocketAddr, TcpListener, TcpStream};
+use std::net::{Net, SocketAddr, TcpListener, TcpStream, ToSocketAddrs};
 use std::rt::Files;
 use std::time::Clock;
 
@@ -64,9 +64,7 @@ where
     E: Write,
 {
     let mut said = load(rt, place.state)?;
-    let Ok(stream) = TcpStream::connect(rt, place.address) else {
-        return Err(Fault::Net);
-    };
+    let stream = connected(rt, place.address, place.patience)?;
     let ended = exchange(rt, role, place.patience, &mut said, &stream);
     settle(rt, place.state, &said, ended, advice)
 }
@@ -83,6 +81,22 @@ where
     R: Net<Stream = TcpStream, Listener = TcpListener>,
 {
     TcpListener::bind(rt, address).or(Err(Fault::Net))
+}
+
+// Connects to the first of the address's places that answers within the peer's patience. The fault is `Net`.
+fn connected<R>(rt: &R, address: &str, patience: Patience) -> Result<TcpStream, Fault>
+where
+    R: Net<Stream = TcpStream, Listener = TcpListener>,
+{
+    let Ok(places) = address.to_socket_addrs(rt) else {
+        return Err(Fault::Net);
+    };
+    for place in places {
+        if let Ok(stream) = TcpStream::connect_timeout(rt, &place, patience.silence) {
+            return Ok(stream);
+        }
+    }
+    Err(Fault::Net)
 }
 
 // The next connection, and who made it. The fault is `Net`.
