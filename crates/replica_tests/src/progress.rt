@@ -1,7 +1,7 @@
 //! Who is told how far a command is.
 
 use crate::texts::{EMPTY_STATE, bytes};
-use census_core::{Progress, Request, perform_watched, search};
+use census_core::{Progress, Request, SearchForm, perform_watched, search};
 use oct_code::Code;
 use std::alloc::{AllocError, Global};
 use std::process::Abort;
@@ -72,7 +72,7 @@ fn a_search_is_told(rt: HostRuntime) {
         expected: &[("0.77", 0, 5)],
         is_right: true,
     };
-    let line = search(rt.alloc(), code, 5, &mut listener);
+    let line = search(rt.alloc(), code, 5, &[], SearchForm::Lines, &mut listener);
     assert!(&rt; line.is_ok(), "refused");
     assert!(&rt; listener.is_right, "something else is told");
     assert!(&rt; listener.expected.is_empty(), "less is told");

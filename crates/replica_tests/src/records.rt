@@ -54,7 +54,7 @@ fn a_record_goes_on_under_another_number(rt: HostRuntime) {
     assert_eq!(rt; said.renumber(0), Err(RenumberError::Zero));
     assert_eq!(rt; said.renumber(1), Err(RenumberError::Held));
     assert_eq!(rt; said.author(), 7);
-    assert_eq!(rt; said.renumber(8), Ok(()));
+    assert_eq!(rt; said.renumber(8), Ok(7));
     assert_eq!(rt; said.author(), 8);
     assert_eq!(rt; said.len(), 1, "operations");
 }
