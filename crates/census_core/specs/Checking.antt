@@ -22,18 +22,26 @@ wrong_values c heap (claimed ∷ rest) =
 
 -- ---- what is printed
 
-abbrev pub wrong_line : Wrong → Text
-wrong_line wrong =
-    labelled (codes "heap ") wrong.heap ++ labelled (codes ": ") wrong.claimed ++ labelled (codes " in the file, ") wrong.right ++ codes " is right\n"
+abbrev pub correction_text : ℕ → Text
+correction_text right = labelled (codes " in the file, ") right ++ codes " is right\n"
 
--- how many wrong values are not shown
+abbrev pub wrong_line : Wrong → Text
+wrong_line wrong = labelled (codes "heap ") wrong.heap ++ labelled (codes ": ") wrong.claimed ++ correction_text wrong.right
+
+-- so many wrong values are not shown
 abbrev pub more_text : ℕ → Text
-more_text count = if nat_lt SHOWN count then labelled (codes "and ") (count - SHOWN) ++ codes " more\n" else []
+more_text count = labelled (codes "and ") count ++ codes " more\n"
+
+-- so many values are right, and no other
+abbrev pub right_text : ℕ → Text
+right_text count = labelled [] count ++ codes " values, all right\n"
 
 -- of so many values these are wrong
 abbrev pub checked_text : ℕ → List Wrong → Text
-checked_text count [] = labelled [] count ++ codes " values, all right\n"
-checked_text count (first ∷ rest) = flat_map wrong_line (take SHOWN (first ∷ rest)) ++ more_text (length (first ∷ rest))
+checked_text count wrong =
+    if length wrong == 0 then right_text count
+    else (if nat_lt SHOWN (length wrong) then flat_map wrong_line (take SHOWN wrong) ++ more_text (length wrong - SHOWN)
+    else flat_map wrong_line wrong)
 
 -- ---- the command
 

@@ -1,8 +1,9 @@
 //! How the values of a b-file compare with the nim-values of a game.
 
-ghost use Rattle.std.specs.Prelude.{◌≡◌, ◌≢◌, ◌+◌, ◌≤◌, ◌++◌, Ok, Err, IfOk, IfErr, OnOk, length};
+ghost use Rattle.std.specs.Prelude.{◌≡◌, ◌≢◌, ◌+◌, ◌-◌, ◌<◌, ◌≤◌, ◌++◌, Ok, Err, IfOk, IfErr, OnOk, length, take};
 ghost use Rattle.std.specs.List.{flat_map};
-ghost use Rattle.census_core.specs.Checking.{check, checked_text, wrong_line, wrong_values};
+ghost use Rattle.oct_code.specs.declared.limits.TheConstants.{LIMIT};
+ghost use Rattle.census_core.specs.Checking.{check, checked_text, correction_text, more_text, right_text, wrong_line, wrong_values};
 
 use crate::codes::read_code;
 use crate::fault::Fault;
@@ -59,7 +60,8 @@ fn wrong_values(
     start: u32,
     claimed: &[u32],
 ) -> Result<Vec<Wrong>, AllocError>
-    requires { start + length claimed.now ≤ values.now.len }
+    requires known { start + length claimed.now ≤ values.now.len }
+    requires within { start + length claimed.now ≤ LIMIT }
     ensures { IfOk result (λ wrong. wrong.items ≡ wrong_values values.now.code start claimed.now) }
 {
     let mut wrong = Vec::new(alloc);
@@ -83,17 +85,36 @@ fn wrong_values(
 fn checked_text(alloc: Global, count: usize, wrong: &[Wrong]) -> Result<Vec<u8>, AllocError>
     ensures { IfOk result (λ text. text.items ≡ checked_text count wrong.now) }
 {
-    let mut text = Vec::new(alloc);
     if wrong.is_empty() {
-        append_labelled(&mut text, b"", count)?;
-        append_text(&mut text, b" values, all right\n")?;
-        return Ok(text);
+        return all_right(alloc, count);
     }
-    append_wrong(&mut text, &wrong[..wrong.len().min(SHOWN)])?;
     if wrong.len() > SHOWN {
-        append_labelled(&mut text, b"and ", wrong.len() - SHOWN)?;
-        append_text(&mut text, b" more\n")?;
+        return first_wrong(alloc, wrong);
     }
+    let mut text = Vec::new(alloc);
+    append_wrong(&mut text, wrong)?;
+    Ok(text)
+}
+
+// The text of so many values that are right.
+fn all_right(alloc: Global, count: usize) -> Result<Vec<u8>, AllocError>
+    ensures { IfOk result (λ text. text.items ≡ right_text count) }
+{
+    let mut text = Vec::new(alloc);
+    append_labelled(&mut text, b"", count)?;
+    append_text(&mut text, b" values, all right\n")?;
+    Ok(text)
+}
+
+// The lines of the first wrong values, and how many more there are.
+fn first_wrong(alloc: Global, wrong: &[Wrong]) -> Result<Vec<u8>, AllocError>
+    requires { SHOWN < length wrong.now }
+    ensures { IfOk result (λ text. text.items ≡ flat_map wrong_line (take SHOWN wrong.now) ++ more_text (length wrong.now - SHOWN)) }
+{
+    let mut text = Vec::new(alloc);
+    append_wrong(&mut text, wrong.split_at(SHOWN).0)?;
+    append_labelled(&mut text, b"and ", wrong.len() - SHOWN)?;
+    append_text(&mut text, b" more\n")?;
     Ok(text)
 }
 
@@ -113,6 +134,13 @@ fn append_line(text: &mut Vec<u8>, wrong: &Wrong) -> Result<(), AllocError>
 {
     append_labelled(text, b"heap ", wrong.heap)?;
     append_labelled(text, b": ", wrong.claimed)?;
-    append_labelled(text, b" in the file, ", wrong.right)?;
+    append_correction(text, wrong.right)
+}
+
+// Appends what the value should be.
+fn append_correction(text: &mut Vec<u8>, right: u32) -> Result<(), AllocError>
+    ensures { OnOk result (text.new.items ≡ text.old.items ++ correction_text right) }
+{
+    append_labelled(text, b" in the file, ", right)?;
     append_text(text, b" is right\n")
 }
