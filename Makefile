@@ -1,9 +1,10 @@
 # make             proves and builds the program
 # make check       every proof from nothing, and every test
-# make install     the executable and its page of the manual, below PREFIX
+# make install     the executable, its page of the manual and its completions for shells, below PREFIX
 # make dist        makes the build the released executable
 # make clean       gives the disk back that proofs and builds take
 PREFIX = /usr/local
+SHARE = $(DESTDIR)$(PREFIX)/share
 
 .PHONY: all check install dist clean
 
@@ -15,7 +16,10 @@ check:
 
 install:
 	install -D "$$(dist/program)" "$(DESTDIR)$(PREFIX)/bin/census"
-	install -D -m 644 docs/census.1 "$(DESTDIR)$(PREFIX)/share/man/man1/census.1"
+	install -D -m 644 docs/census.1 "$(SHARE)/man/man1/census.1"
+	"$$(dist/program)" completion bash | install -D -m 644 /dev/stdin "$(SHARE)/bash-completion/completions/census"
+	"$$(dist/program)" completion zsh | install -D -m 644 /dev/stdin "$(SHARE)/zsh/site-functions/_census"
+	"$$(dist/program)" completion fish | install -D -m 644 /dev/stdin "$(SHARE)/fish/vendor_completions.d/census.fish"
 
 dist: all
 	dist/release

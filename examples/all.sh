@@ -3,10 +3,10 @@
 # fork shows. And a `serve` whose state can't be saved: its `sync` is not told `done`, and the state is as it was.
 # Takes some seconds, and never more than half a minute; the connections are on the loopback, on free ports.
 #
-#     all.sh [PROGRAM [WORD ..]]          the program is ../census where none is named
+#     all.sh [PROGRAM [WORD ..]]          the program is the one that ../census runs where none is named
 set -Eeuo pipefail
 top=$(cd "$(dirname "${BASH_SOURCE[0]}")/.." && pwd)
-census=("${@:-$top/census}")
+census=("${@:-$("$top/dist/program")}")
 census[0]=$(command -v "${census[0]}") && census[0]=$(realpath -s "${census[0]}")
 "${census[@]}" --help >/dev/null # builds the program, where it was not built
 

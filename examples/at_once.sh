@@ -4,10 +4,10 @@
 # state keeps its mode, and a link stays a link; a delta is not written over its state.
 # Takes some seconds, and never more than a minute; the connections are on the loopback, on free ports.
 #
-#     at_once.sh [PROGRAM [WORD ..]]          the program is ../census where none is named
+#     at_once.sh [PROGRAM [WORD ..]]          the program is the one that ../census runs where none is named
 set -Eeuo pipefail
 top=$(cd "$(dirname "${BASH_SOURCE[0]}")/.." && pwd)
-census=("${@:-$top/census}")
+census=("${@:-$("$top/dist/program")}")
 census[0]=$(command -v "${census[0]}") && census[0]=$(realpath -s "${census[0]}")
 "${census[@]}" --help >/dev/null # builds the program, where it was not built
 
@@ -119,27 +119,27 @@ bad_peers() {
     exec 3<>"/dev/tcp/$host/$port" # silent
     sleep 5
   ) &
-  await faults 1 'census: peer '
+  await faults 1 'census: [^ ]* peer '
   served_next 1
   printf 'GET / HTTP/1.0\r\n\r\n' >rubbish
   cat rubbish >"/dev/tcp/$host/$port" # in one write: the hub closes the connection at the first bytes that are no frame
-  await faults 2 'census: peer '
+  await faults 2 'census: [^ ]* peer '
   served_next 2
   printf '\0\0\0\x05\x01\0\0' >"/dev/tcp/$host/$port" # a clock that breaks off
-  await faults 3 'census: peer '
+  await faults 3 'census: [^ ]* peer '
   served_next 3
   wait "$hub"
-  test "$(grep -c '^census: peer 127.0.0.1:[0-9]* Sync [A-Z][a-z]*$' faults)" = 3
+  test "$(grep -c '^census: [^ ]* peer 127.0.0.1:[0-9]* Sync [A-Z][a-z]*$' faults)" = 3
   grep -q ' Sync Frame$' faults
   grep -q ' Sync Cut$' faults
-  test "$(grep -c '^peer 127.0.0.1:[0-9]* new [0-9]* operations [0-9]*$' served)" = 3
+  test "$(grep -c '^[^ ]* peer 127.0.0.1:[0-9]* new [0-9]* operations [0-9]* digest ' served)" = 3
   census show hub | grep -qx 'author 3 through 4 last 4'
 }
 
 served_next() {
   census note three turn "$1" >/dev/null
   test "$(census sync three "$address")" = 'done'
-  await served "$1" 'peer '
+  await served "$1" '[^ ]* peer '
 }
 
 # A state of one's own that is a link, written by each kind of command.

@@ -3,7 +3,7 @@
 value was changed, the block refuted at that heap; `check` says the same of each value, with no state. Then the b-file that the
 program prints is claimed into another state, and files that are no b-files are refused by their first faulty line. Takes some seconds.
 
-    bfiles.py [PROGRAM [WORD ..]]         the program is ../census where none is named
+    bfiles.py [PROGRAM [WORD ..]]         the program is the one that ../census runs where none is named
 """
 
 import os
@@ -12,7 +12,7 @@ import sys
 import tempfile
 
 HERE = os.path.dirname(os.path.abspath(__file__))
-CENSUS = sys.argv[1:] or [os.path.join(HERE, "..", "census")]
+CENSUS = sys.argv[1:] or [subprocess.check_output([os.path.join(HERE, "..", "dist", "program")], text=True).strip()]
 SECONDS = 60
 
 # Winning Ways, chapter 4: Kayles has period 12 from heap 71 on, and fourteen exceptions before; Dawson's Kayles has period 34 from heap

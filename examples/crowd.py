@@ -86,11 +86,11 @@ class Hub:
 
     def await_peer(self, peer, form):
         """The line of the peer's session."""
-        return self.await_line(self.served, rf"peer {re.escape('%s:%d' % peer.getsockname())} {form}")
+        return self.await_line(self.served, rf"\S+ peer {re.escape('%s:%d' % peer.getsockname())} {form} digest .*")
 
     def await_fault(self, peer, fault):
         """The line of the fault that ended the peer's session."""
-        return self.await_line(self.faults, rf"census: peer {re.escape('%s:%d' % peer.getsockname())} {fault}")
+        return self.await_line(self.faults, rf"census: \S+ peer {re.escape('%s:%d' % peer.getsockname())} {fault}")
 
     def connect(self, content=b"", window=None):
         """A peer that sends these bytes."""
@@ -177,7 +177,7 @@ def crowd():
         dripping.join()
         for peer in [*silent, slow]:
             peer.close()
-        hub.await_line(hub.faults, r"census: peer \S+ Sync Cut", 21)
+        hub.await_line(hub.faults, r"census: \S+ peer \S+ Sync Cut", 21)
         catalogue = census("show", "crowd")
     for who in range(1, 11):
         need(f"note own {who}.1 of {who}\n" in catalogue, f"the note of {who} is not there")
@@ -301,12 +301,12 @@ def unsaved():
             ran = subprocess.run([*CENSUS, "sync", "writer", hub.address], capture_output=True, timeout=20)
             need(ran.returncode == 3, f"the exchange ended with {ran.returncode}")
             need((ran.stdout, ran.stderr) == (b"", b"census: Sync Cut\n"), f"the exchange answered {ran.stdout + ran.stderr}")
-            hub.await_line(hub.faults, r"census: peer \S+ File", turn)
+            hub.await_line(hub.faults, r"census: \S+ peer \S+ File", turn)
         need("late" not in census("show", "closed"), "the state was written")
         os.removedirs("closed.new/full")
         hub.sync("writer")
         need("note late 31.1 not saved at first\n" in census("show", "closed"), "the note is not in the file")
-        hub.await_line(hub.served, r"peer \S+ new 1 operations 1")
+        hub.await_line(hub.served, r"\S+ peer \S+ new 1 operations 1 digest .*")
 
 
 def main():

@@ -4,7 +4,7 @@ names, under a lock or a delta that is a link, a pipe or a device, and where a c
 the old one or the new one after each command, and whether what would be lost is refused. Takes some seconds; the failing calls are
 left out where there is no strace.
 
-    files.py [PROGRAM [WORD ..]]          the program is ../census where none is named
+    files.py [PROGRAM [WORD ..]]          the program is the one that ../census runs where none is named
 """
 
 import fcntl
@@ -20,7 +20,7 @@ import tempfile
 import time
 
 HERE = os.path.dirname(os.path.abspath(__file__))
-CENSUS = sys.argv[1:] or [os.path.join(HERE, "..", "census")]
+CENSUS = sys.argv[1:] or [subprocess.check_output([os.path.join(HERE, "..", "dist", "program")], text=True).strip()]
 SECONDS = 10
 SEED = 1949
 KILLED = 100  # deltas that are killed

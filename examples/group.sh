@@ -4,10 +4,10 @@
 # all seven hold the same: equal catalogues, each operation that a command said it issued, none besides, and no fork.
 # Takes some seconds, and never more than a minute; the connections are on the loopback, on a free port.
 #
-#     group.sh [PROGRAM [WORD ..]]          the program is ../census where none is named
+#     group.sh [PROGRAM [WORD ..]]          the program is the one that ../census runs where none is named
 set -Eeuo pipefail
 top=$(cd "$(dirname "${BASH_SOURCE[0]}")/.." && pwd)
-census=("${@:-$top/census}")
+census=("${@:-$("$top/dist/program")}")
 census[0]=$(command -v "${census[0]}") && census[0]=$(realpath -s "${census[0]}")
 "${census[@]}" --help >/dev/null # builds the program, where it was not built
 people=(1 2 3 4 5 6)
@@ -87,7 +87,7 @@ for who in "${people[@]}" "${people[@]}"; do exchange "$who"; done
 wait "$hub"
 
 test ! -s faults
-test "$(grep -c '^peer 127.0.0.1:[0-9]* new [0-9]* operations [0-9]*$' served)" = "$sessions"
+test "$(grep -cE '^[0-9-]+T[0-9:]+Z peer 127.0.0.1:[0-9]+ new [0-9]+ operations [0-9]+ digest [0-9a-f]{8}($|;)' served)" = "$sessions"
 for who in 7 "${people[@]}"; do
   "${census[@]}" show "$who" >"catalogue.$who"
   cmp catalogue.7 "catalogue.$who"

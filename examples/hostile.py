@@ -2,7 +2,7 @@
 """Hands the program what is no delta, state, block or session, line by line from the tables in hostile/, and says whether
 each answer is the one that stands there, and whether what was kept before is kept. Takes some seconds.
 
-    hostile.py [PROGRAM [WORD ..]]          the program is ../census where none is named
+    hostile.py [PROGRAM [WORD ..]]          the program is the one that ../census runs where none is named
 """
 
 import os
@@ -12,7 +12,7 @@ import sys
 import tempfile
 
 HERE = os.path.dirname(os.path.abspath(__file__))
-CENSUS = sys.argv[1:] or [os.path.join(HERE, "..", "census")]
+CENSUS = sys.argv[1:] or [subprocess.check_output([os.path.join(HERE, "..", "dist", "program")], text=True).strip()]
 STATE = b"OGS1\0\0\0\x07OGD1\0\0\0\0"  # author 7, no operation
 SECONDS = 60
 

@@ -4,10 +4,10 @@
 # and a file that is gone, or is another one, is seen by the next peer.
 # Takes some seconds, and never more than a minute; the connections are on the loopback, on a free port.
 #
-#     hub.sh [PROGRAM [WORD ..]]          the program is ../census where none is named
+#     hub.sh [PROGRAM [WORD ..]]          the program is the one that ../census runs where none is named
 set -Eeuo pipefail
 top=$(cd "$(dirname "${BASH_SOURCE[0]}")/.." && pwd)
-census=("${@:-$top/census}")
+census=("${@:-$("$top/dist/program")}")
 census[0]=$(command -v "${census[0]}") && census[0]=$(realpath -s "${census[0]}")
 "${census[@]}" --help >/dev/null # builds the program, where it was not built
 
@@ -40,28 +40,33 @@ count() {
   wc -l <"$1"
 }
 
+# How many faults of peers are said there, each of which is explained in further lines.
+said() {
+  grep -c "^census: $stamp peer " "$1" || true
+}
+
 # Which file the hub's state is, and when it was last written and changed.
 identity() {
   stat -c '%d %i %s %y %z' hub
 }
 
-# An exchange of Anna's, after which the hub says this of it.
+# An exchange of Anna's, after which the hub says this of it, with the time and the digest of its state, and by whom what is new is.
 exchange() {
   local turn=$(count served) # the first line says where it listens
   test "$(census sync anna "$address")" = 'done'
-  await served "$turn" 'peer '
-  grep -qx "peer 127.0.0.1:[0-9]* $1" <(tail -n 1 served)
+  await served "$turn" "$stamp peer "
+  grep -qx "$stamp peer 127.0.0.1:[0-9]* $1 digest $(census digest hub | cut -c -8)${2:-}" <(tail -n 1 served)
 }
 
 # A peer that sends these bytes, whose fault the hub says; it closes the connection before that, or else after it. The bytes go
 # out in one write, since the hub may close the connection at the first of them that is no frame.
 broken() {
-  local turn=$(($(count faults) + 1))
+  local turn=$(($(said faults) + 1))
   printf "$2" >sent
   exec 3<>"/dev/tcp/${address%:*}/${address##*:}"
   cat sent >&3
   if [ "$1" = closed ]; then exec 3>&-; fi
-  await faults "$turn" 'census: peer '
+  await faults "$turn" "census: $stamp peer "
   if [ "$1" = open ]; then exec 3>&-; fi
 }
 
@@ -74,6 +79,7 @@ four() {
 }
 
 clock='\0\0\0\5\1\0\0\0\0' # one that covers nothing
+stamp='[0-9-]*T[0-9:]*Z'         # a time
 census init hub 9 >/dev/null
 census init anna 1 >/dev/null
 census note hub first 'of the hub' >/dev/null
@@ -102,7 +108,7 @@ test "$(identity)" = "$before"
 
 # What a peer brings is in the file after its session; the next one brings nothing.
 census note anna own 'of Anna' >/dev/null
-exchange 'new 1 operations 3'
+exchange 'new 1 operations 3' '; 1 by 1'
 test "$(identity)" != "$before"
 census show hub | grep -qx 'note own 1.1 of Anna'
 before=$(identity)
@@ -123,8 +129,8 @@ test "$(identity)" = "$before"
 # A state that is gone is a fault for the peer, and nothing is made in its place; with the file, all is as before.
 mv hub away
 if census sync anna "$address" 2>refused; then exit 1; fi
-await faults 5 'census: peer '
-tail -n 1 faults | grep -q ' File$'
+await faults 5 "census: $stamp peer "
+grep "^census: $stamp peer " faults | tail -n 1 | grep -q ' File$'
 test ! -e hub
 mv away hub
 exchange 'new 0 operations 4'
@@ -132,13 +138,13 @@ exchange 'new 0 operations 4'
 # Another file in its place is read, be it an older one of the same state.
 census note anna late 'of Anna' >/dev/null
 cp hub older
-exchange 'new 1 operations 5'
+exchange 'new 1 operations 5' '; 1 by 1'
 mv older hub
-exchange 'new 1 operations 5'
+exchange 'new 1 operations 5' '; 1 by 1'
 census show hub | grep -qx 'note late 1.2 of Anna'
 
 wait "$hub"
-test "$(wc -l <faults)" = 5
+test "$(said faults)" = 5
 census show anna >catalogue
 census show hub | diff - catalogue
 echo "a hub wrote its state where a session brought something, and read it again where it was another file"

@@ -3,8 +3,9 @@
 nim-value 0, and is there exactly where the position's nim-value is not 0. The values are computed here by mex up to the end of
 the first period, and go on with the periods of the literature (12 from 71 and 34 from 53). Takes some seconds.
 
-    moves.py [PROGRAM [WORD ..]]          the program is ../census where none is named
+    moves.py [PROGRAM [WORD ..]]          the program is the one that ../census runs where none is named
 """
+import json
 import pathlib
 import random
 import re
@@ -13,7 +14,7 @@ import sys
 import tempfile
 
 TOP = pathlib.Path(__file__).resolve().parent.parent
-PROGRAM = sys.argv[1:] or [str(TOP / "census")]
+PROGRAM = sys.argv[1:] or [subprocess.check_output([str(TOP / "dist" / "program")], text=True).strip()]
 LARGEST = 2**64 - 1
 
 # The beans that may be removed, from a heap that may then be left as no heap, as one or as two; start and period of the values.
@@ -49,9 +50,7 @@ def run(*words):
 
 def is_right(answer, heaps, removals, value):
     """Whether the line names a move that wins, or says that there is none where the position loses."""
-    total = 0
-    for heap in heaps:
-        total ^= value(heap)
+    total = nim_sum(heaps, value)
     if answer == "none: the player to move loses\n":
         return total == 0
     found = re.fullmatch(r"heap (\d+) of (\d+): remove (\d+), leave (nothing|\d+(?: and \d+)?)\n", answer)
@@ -64,6 +63,21 @@ def is_right(answer, heaps, removals, value):
     for heap in left:
         after ^= value(heap)
     return is_move and after == 0 and total != 0
+
+
+def as_object(answer):
+    """What --json says in place of the line."""
+    if answer == "none: the player to move loses\n":
+        return {"heap": None, "next_player": "loses"}
+    index, beans, removed, *left = (int(number) for number in re.findall(r"\d+", answer))
+    return {"heap": index, "of": beans, "remove": removed, "leave": left}
+
+
+def nim_sum(heaps, value):
+    total = 0
+    for heap in heaps:
+        total ^= value(heap)
+    return total
 
 
 def positions(rng):
@@ -86,9 +100,15 @@ def play(code, state):
     run("period", state, code, str(start), str(period))
     count = 0
     for heaps in positions(random.Random(code)):
-        answer = run("move", state, code, *map(str, heaps))
+        words = [state, code, *map(str, heaps)]
+        answer = run("move", *words)
         if not is_right(answer, heaps, removals, lambda heap: value_of(heap, values, start, period)):
             raise SystemExit(f"moves: {code} {heaps}: {answer!r}")
+        total = nim_sum(heaps, lambda heap: value_of(heap, values, start, period))
+        wanted = [as_object(answer), {"value": total, "next_player": "wins" if total else "loses"}]
+        told = [json.loads(run(command, "--json", *words)) for command in ("move", "value")]
+        if told != wanted:
+            raise SystemExit(f"moves: {code} {heaps}: {told}, and not {wanted}")
         count += 1
     return count
 
@@ -100,6 +120,9 @@ def main():
         unknown = run("move", state, "0.77", "0", "9")
         if unknown != "unknown at 1\n":
             raise SystemExit(f"moves: a heap that is not known: {unknown!r}")
+        for command in ("move", "value"):
+            if run(command, "--json", state, "0.77", "0", "9") != '{"unknown":1}\n':
+                raise SystemExit(f"moves: {command} --json of a heap that is not known")
         count = sum(play(code, state) for code in GAMES)
     print(f"{count} positions, and each answer is right")
 

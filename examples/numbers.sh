@@ -3,10 +3,10 @@
 # number; digests that are the same where the operations are, whoever the authors are; and numbers that are refused.
 # Takes some seconds.
 #
-#     numbers.sh [PROGRAM [WORD ..]]      the program is ../census where none is named
+#     numbers.sh [PROGRAM [WORD ..]]      the program is the one that ../census runs where none is named
 set -Eeuo pipefail
 top=$(cd "$(dirname "${BASH_SOURCE[0]}")/.." && pwd)
-census=("${@:-$top/census}")
+census=("${@:-$("$top/dist/program")}")
 census[0]=$(command -v "${census[0]}") && census[0]=$(realpath -s "${census[0]}")
 "${census[@]}" --help >/dev/null # builds the program, where it was not built
 
@@ -67,6 +67,7 @@ census digest anna ben all.delta >printed
 test "$(wc -l <printed)" = 3
 test "$(cut -c 1-64 printed | sort -u)" = "$(digits anna)"
 test "$(sed -n 3p printed)" = "$(sha256sum all.delta)"
+test "$(census digest --json all.delta)" = "{\"digest\":\"$(digits anna)\",\"file\":\"all.delta\"}"
 
 # Anna's state is lost, and put back from a copy, after an operation that Ben has.
 cp anna copy

@@ -1,25 +1,30 @@
 #!/usr/bin/env python3
-"""Makes a table with each kind of row, and compares its b-files, plots, page and JSON with what `show` says: each point that is drawn
-with the known values, each number and each status of the page, and that a note with the marks of a page stands there as text. Also
-whether pictures and page are well-formed XML with no script and nothing from outside. Takes some seconds.
+"""Makes a table with each kind of row, and compares its b-files, plots, page, site and JSON with what `show` says: each point that
+is drawn with the known values, each number and each status of the pages, that a note with the marks of a page stands there as
+text, and that the name of an author stands behind each of its dots. Also whether each text has contrast enough to what it stands
+on, whether pictures and pages are well-formed XML with no script and nothing from outside, whether each link of the site leads
+somewhere, which folders a site is not written to, and, where there is a Chromium, that no part of a page is wider than the window
+at 360, 400, 768 and 1,280 pixels but those that scroll by themselves. Takes some seconds.
 
-    pages.py [PROGRAM [WORD ..]]          the program is ../census where none is named
+    pages.py [PROGRAM [WORD ..]]          the program is the one that ../census runs where none is named
 """
 
 import json
 import os
 import re
+import shutil
 import subprocess
 import sys
 import tempfile
 import xml.etree.ElementTree as xml
 
 HERE = os.path.dirname(os.path.abspath(__file__))
-CENSUS = sys.argv[1:] or [os.path.join(HERE, "..", "census")]
+CENSUS = sys.argv[1:] or [subprocess.check_output([os.path.join(HERE, "..", "dist", "program")], text=True).strip()]
 SECONDS = 60
 
 SVG = "{http://www.w3.org/2000/svg}"
 HTML = "{http://www.w3.org/1999/xhtml}"
+NAME = 'Anna "A\\B" <Berg>'
 MARKS = "<script src=\"http://example.org/x.js\">alert('x') && 1 < 2</script>"
 
 
@@ -62,6 +67,8 @@ def table(room):
     for period in (("0.77", "71", "12"), ("0.77", "1", "5"), ("0.07", "2900", "700"), ("0.3", "1", "2")):
         census("period", state, *period)
     census("note", state, "marks", MARKS)
+    census("note", state, "author-name", "Anna")
+    census("note", state, "author-name", NAME)
     census("init", other, "2")
     claim(room, other, "0.77", 5, [4, 3, 9, 1])
     claim(room, other, "0.137", 5000, [1, 2])
@@ -101,96 +108,383 @@ def proved(game):
 # ---- pictures
 
 
-def is_closed(what, root):
-    """No script and nothing from outside: each reference is to a part of the same text."""
+def is_closed(what, root, near=()):
+    """No script and nothing from outside: each reference is to a part of the same text, or to a file that is near."""
     ids = [element.get("id") for element in root.iter() if element.get("id")]
     same(f"{what}: ids that come twice", len(ids), len(set(ids)))
     for element in root.iter():
-        if element.tag in (f"{HTML}script", f"{SVG}script", f"{SVG}image", f"{SVG}use", f"{HTML}img", f"{HTML}link"):
+        if element.tag in (f"{HTML}script", f"{SVG}script", f"{SVG}image", f"{SVG}use"):
             sys.exit(f"pages: {what} has {element.tag}")
         for name, value in element.attrib.items():
-            if name == "aria-labelledby" and value not in ids or name.endswith("href") and value[1:] not in ids:
+            if name in ("aria-labelledby", "aria-describedby") and value not in ids:
                 sys.exit(f"pages: {what} refers to {value}")
-            if name == "src" or name.startswith("on") or "http" in value or "url(" in value:
+            if name.endswith("href") or name == "src":
+                file, _, place = value.partition("#")
+                if file and file not in near or place and not file and place not in ids:
+                    sys.exit(f"pages: {what} refers to {value}")
+            if name.startswith("on") or "http" in value or "url(" in re.sub(r"url\(#([\w.-]+)\)", lambda part: "" if part[1] in ids else part[0], value):
                 sys.exit(f"pages: {what} has {name}={value!r}")
-        if element.tag.endswith("style") and re.search(r"url|@import|http|expression", element.text):
+        if element.tag.endswith("style") and re.search(r"url|@import|http|expression", element.text or ""):
             sys.exit(f"pages: {what} has a style from outside")
 
 
 def points(values):
-    """Where the values fall on a grid of 1,400 columns and 640 rows, each point once."""
+    """Where the values fall on a grid of 640 rows and 1,400 columns, each point once."""
     last, greatest = max(1, len(values) - 1), max(1, *values)
-    return sorted({(heap * 1400 // last, value * 640 // greatest) for heap, value in enumerate(values)})
+    return sorted({(value * 640 // greatest, heap * 1400 // last) for heap, value in enumerate(values)})
+
+
+def drawn(path):
+    """Where a path has its points: M to a column and a row, h so many columns further."""
+    found, row, column = [], None, None
+    for move, first, second in re.findall(r"([A-Za-z])(\d+)(?: (\d+))?", path):
+        row, column = (int(second), int(first)) if move == "M" else (row, column + int(first))
+        found.append((row, column))
+    return found
 
 
 def parts(root, tag, kind):
     return [element for element in root.iter(SVG + tag) if element.get("class") == kind]
 
 
+def title(code, game):
+    period = proved(game)
+    return f"{code}: nim-values of heaps 0 to {len(game['values']) - 1}" + (f", period {period[1]} from {period[0]}" if period else "")
+
+
+def sentence(game):
+    """What is proved of all heaps, in words."""
+    if not proved(game):
+        return "No period is proved."
+    start, period = proved(game)
+    words = "".join(f" {value}" for value in game["values"][start:start + period])
+    return f"From heap {start} on the nim-values repeat with period {period}, for ever" + (f":{words}." if period <= 40 else ".")
+
+
 def is_plot(what, root, code, game):
     values, period = game["values"], proved(game)
     last = max(1, len(values) - 1)
-    title = f"{code}: nim-values of heaps 0 to {len(values) - 1}" + (f", period {period[1]} from {period[0]}" if period else "")
-    same(f"{what}: title", root.find(SVG + "title").text, title)
-    (path,) = parts(root, "path", "points")
-    same(f"{what}: form of the points", re.sub(r"M\d+ \d+h0", "", path.get("d")), "")
-    same(f"{what}: points", [(int(x), int(y)) for x, y in re.findall(r"M(\d+) (\d+)h0", path.get("d"))], points(values))
-    shades = [(shade.get("x"), shade.get("width")) for shade in parts(root, "rect", "period")]
+    same(f"{what}: title", root.find(SVG + "title").text, title(code, game))
+    same(f"{what}: description", root.find(SVG + "desc").text, sentence(game))
+    (path,) = parts(root, "path", "points few" if len(values) < 500 else "points")
+    (dot,) = parts(root, "marker", "dot")
+    same(f"{what}: dot", (dot.get("id"), [part.attrib for part in dot]), (f"dot-{code}", [{"r": ".5"}]))
+    same(f"{what}: dots", path.get("style"), f"marker:url(#dot-{code})")
+    same(f"{what}: form of the points", re.sub(r"M\d+ \d+|h\d+", "", path.get("d")), "")
+    same(f"{what}: points", drawn(path.get("d")), points(values))
     starts = [start.get("d") for start in parts(root, "path", "start")]
-    ends = [min(heap, last) * 700 // last for heap in (period[0], sum(period))] if period else []
-    same(f"{what}: shades", shades, [(str(ends[0]), str(ends[1] - ends[0]))] if period else [])
+    ends = [min(period[0] + i * period[1], last) * 700 // last for i in range(3)] if period else []
+    for i, run in enumerate(("period", "again")):
+        shades = [(shade.get("x"), shade.get("width")) for shade in parts(root, "rect", run)]
+        same(f"{what}: shades", shades, [(str(ends[i]), str(ends[i + 1] - ends[i]))] if period else [])
     same(f"{what}: starts", starts, [f"M{ends[0]} 0V-320"] if period else [])
 
 
-# ---- the page
+# ---- colours
+
+
+def light(colour):
+    """How light a colour is, 0 to 1, as the guidelines for accessible pages reckon."""
+    digits = colour[1:] if len(colour) == 7 else "".join(digit * 2 for digit in colour[1:])
+    parts = [int(digits[at:at + 2], 16) / 255 for at in (0, 2, 4)]
+    red, green, blue = (part / 12.92 if part <= 0.04045 else ((part + 0.055) / 1.055) ** 2.4 for part in parts)
+    return 0.2126 * red + 0.7152 * green + 0.0722 * blue
+
+
+def is_readable(what, style):
+    """By day and by night, each colour of a text has a contrast of 4.5 at least to each that it may stand on."""
+    night = r"@media\(prefers-color-scheme:dark\)\{((?:[^{}]*\{[^{}]*\})*)\}"
+    for rules in (re.sub(night, "", style), "".join(re.findall(night, style))):
+        texts, grounds = (re.findall(rf"[{{;]{kind}:(#\w+)", rules) for kind in ("color", "background"))
+        for text, ground in ((text, ground) for text in texts for ground in grounds):
+            low, high = sorted((light(text), light(ground)))
+            if (high + 0.05) / (low + 0.05) < 4.5:
+                sys.exit(f"pages: {what} has {text} on {ground}")
+        same(f"{what}: colours are there", bool(texts and grounds), True)
+
+
+# ---- pages
+
+
+def table_of(root, caption):
+    """The table of this caption, or none where there is no such table."""
+    for element in root.iter(HTML + "table"):
+        if element.find(HTML + "caption").text == caption:
+            return element
+    return None
 
 
 def rows(root, caption):
-    """The cells of a table's rows, or none where there is no such table."""
-    for element in root.findall(HTML + "table"):
-        if element.find(HTML + "caption").text == caption:
-            return [tuple("".join(cell.itertext()) for cell in row) for row in element.find(HTML + "tbody")]
-    return []
+    """The cells of its rows."""
+    element = table_of(root, caption)
+    return [] if element is None else [tuple("".join(cell.itertext()) for cell in row) for row in element.find(HTML + "tbody")]
 
 
-def is_section(root, code, game):
-    period = proved(game)
-    same(f"{code}: heading", root.find(HTML + "h2").text, code)
-    is_plot(f"{code} on the page", root.find(f"{HTML}figure/{SVG}svg"), code, game)
-    found = []
-    for first, cell in rows(root, "Nim-values"):
-        same(f"{code}: first heap of a row", int(first), len(found))
-        found += map(int, cell.split(" "))
-        wide = period[1] * max(1, 20 // period[1]) if period else 20
-        if not (period and len(found) == period[0]) and len(found) != len(game["values"]):
-            same(f"{code}: values in the row of {first}", len(cell.split(" ")), wide)
-    same(f"{code}: values", found, game["values"])
+FRONT = "Nim-values: each row from the heap at its head on"
+BACK = "The last 100 known nim-values"
+
+
+def width(period):
+    """How many values stand in a row: a multiple or a divisor of the period, 20 to 40."""
+    if period <= 40:
+        return next(wide for wide in range(20, 41) if wide % period == 0)
+    return next((wide for wide in range(40, 19, -1) if period % wide == 0), 20)
+
+
+def is_run(what, root, caption, first, values, period):
+    """The table of these values, which are those of the heaps from `first` on: its rows, its shade and its columns."""
+    table = table_of(root, caption)
+    if not values:
+        return same(f"{what}: {caption}", table, None)
+    wide = 1 + len(str(max(values)))
+    end = first + len(values)
+    begins = {first} | {heap for heap in range(max(first, period[0]), end) if (heap - period[0]) % width(period[1]) == 0}
+    begins |= {heap for heap in range(first, period[0]) if (heap - first) % width(period[1]) == 0}
+    heap = first
+    for row in table.find(HTML + "tbody"):
+        head, cell = row
+        same(f"{what}: first heap of a row", int(head.text), heap)
+        if heap not in begins:
+            sys.exit(f"pages: {what}: a row begins at {heap}")
+        text = "".join(cell.itertext())
+        shaded = "".join("".join(mark.itertext()) for mark in cell)
+        if [mark.tag for mark in cell] not in ([], [f"{HTML}mark"]) or shaded and not text.startswith(shaded) or cell.text and shaded:
+            sys.exit(f"pages: {what}: the shade of the row at {heap}")
+        places = [text[at:at + wide] for at in range(0, len(text), wide)]
+        for at, place in enumerate(places):
+            same(f"{what}: heap {heap}", place, str(values[heap - first]).rjust(wide))
+            same(f"{what}: shade of heap {heap}", at * wide < len(shaded), bool(period[2] and period[0] <= heap < sum(period[:2])))
+            heap += 1
+        same(f"{what}: shade of the row at {head.text}", len(shaded) % wide, 0)
+        begins.discard(int(head.text))
+    same(f"{what}: values", heap, first + len(values))
+    return same(f"{what}: rows that lack", begins, set())
+
+
+def front(game):
+    """How many values are shown from heap 0 on, in short."""
+    period, known = proved(game), len(game["values"])
+    return period[0] + 2 * period[1] if period else 1000 if known > 1100 else known
+
+
+def called(dot, names):
+    """A dot, with the name of its author behind it where there is one."""
+    author = dot.partition(".")[0]
+    return f"{dot} {names[author]}" if author in names else dot
+
+
+def is_game(what, root, code, game, names, brief):
+    """What a page shows of a game below its picture."""
+    values, period = game["values"], proved(game)
+    if sentence(game) not in [element.text for element in root.iter(HTML + "p")]:
+        sys.exit(f"pages: {what} does not say {sentence(game)}")
+    shown = front(game) if brief else len(values)
+    back = 100 if brief and not period and len(values) > 1100 else 0
+    run = (*period, True) if period else (0, 20, False)
+    is_run(what, root, FRONT, 0, values[:shown], run)
+    is_run(what, root, BACK, len(values) - back, values[len(values) - back:] if back else [], (len(values) - back, 20, False))
     blocks = game["blocks"]
-    same(f"{code}: blocks", rows(root, "Blocks"), [(dot, start, count, status[0]) for dot, start, count, status in blocks])
-    refuted = [(dot, status[2], status[4], status[6]) for dot, _, _, status in blocks if status[0] == "refuted"]
+    same(f"{code}: blocks", rows(root, "Blocks"), [(called(dot, names), start, count, status[0]) for dot, start, count, status in blocks])
+    refuted = [(called(dot, names), status[2], status[4], status[6]) for dot, _, _, status in blocks if status[0] == "refuted"]
     same(f"{code}: refuted blocks", rows(root, "Refuted blocks"), refuted)
-    claims = [(dot, start, period, " ".join(status).replace("pending", "pending,")) for dot, start, period, status in game["periods"]]
+    claims = [(called(dot, names), start, period, " ".join(status).replace("pending", "pending,")) for dot, start, period, status in game["periods"]]
     same(f"{code}: claims", rows(root, "Period claims"), claims)
+    same(f"{code}: refuted claims", rows(root, "Refuted period claims"), [claim for claim in claims if claim[3].startswith("refuted")])
+    if root.find(f".//*[@id='refuted-{code}']") is None:
+        sys.exit(f"pages: {what} has no place of what is refuted")
 
 
-def is_page(text, games, notes, forks, authors):
-    root = xml.fromstring(text)
-    is_closed("the page", root)
-    body = root.find(HTML + "body")
+def is_landmarked(what, root):
+    """One main part, one heading of the first rank, and a head for each column and row."""
+    for tag in ("main", "h1", "nav"):
+        same(f"{what}: {tag}", len(list(root.iter(HTML + tag))), 1)
+    for head in root.iter(HTML + "th"):
+        if head.get("scope") not in ("row", "col"):
+            sys.exit(f"pages: {what} has a head without a scope")
+
+
+def is_index(what, root, games, notes, forks, authors, names):
     summary = []
     for code, game in games.items():
-        words = [status[0] for *_, status in game["blocks"]]
         period = proved(game)
-        counts = tuple(str(words.count(word)) for word in ("proved", "refuted", "pending"))
-        summary.append((code, str(len(game["values"])), f"{period[1]} from {period[0]}" if period else "", *counts))
-    same("games of the page", rows(body, "Games"), summary)
-    sections = body.findall(HTML + "section")
+        statuses = [[row[-1][0] for row in game[kind]] for kind in ("blocks", "periods")]
+        counts = [words.count(word) for words in statuses for word in ("proved", "refuted", "pending")]
+        summary.append((code, str(len(game["values"])), *((str(period[1]), str(period[0])) if period else ("", "")), *map(str, counts)))
+    same(f"{what}: games", rows(root, "Games"), summary)
+    same(f"{what}: refuted", rows(root, "Refuted"), [(row[0], row[5], row[8]) for row in summary if row[5] != "0" or row[8] != "0"])
+    by_period = sorted((int(row[2]), int(row[3]), list(games).index(row[0])) for row in summary if row[2])
+    same(f"{what}: by period", rows(root, "Games by period"), [(str(p), str(start), list(games)[at]) for p, start, at in by_period])
+    known = sum(len(game["values"]) for game in games.values())
+    totals = f"{len(games)} games, {len(by_period)} with a proved period; {known} values known."
+    if totals not in [element.text for element in root.iter(HTML + "p")]:
+        sys.exit(f"pages: {what} does not say {totals}")
+    same(f"{what}: notes", rows(root, "Notes"), [(name, called(dot, names), text) for name, dot, text in notes])
+    same(f"{what}: forks", rows(root, "Forks"), [(called(dot, names), contents) for dot, contents in forks])
+    same(f"{what}: authors", rows(root, "Authors"), [(author, names.get(author, ""), *rest) for author, *rest in authors])
+
+
+def is_page(text, games, notes, forks, authors, names, brief):
+    root = xml.fromstring(text)
+    is_closed("the page", root)
+    is_landmarked("the page", root)
+    is_index("the page", root, games, notes, forks, authors, names)
+    sections = list(root.iter(HTML + "section"))
     same("sections", [section.get("id") for section in sections], [f"game-{code}" for code in games])
     for section, (code, game) in zip(sections, games.items()):
-        is_section(section, code, game)
-    same("notes", rows(body, "Notes"), notes)
-    same("forks", rows(body, "Forks"), forks)
-    same("authors", rows(body, "Authors"), authors)
+        same(f"{code}: heading", section.find(HTML + "h2").text, code)
+        pictured = {**game, "values": game["values"][:front(game)]} if brief else game
+        is_plot(f"{code} on the page", section.find(f"{HTML}figure/{SVG}svg"), code, pictured)
+        is_game(f"{code} on the page", section, code, game, names, brief)
+
+
+# ---- the site
+
+
+def files_in(folder):
+    return {name: open(f"{folder}/{name}", encoding="utf-8").read() for name in os.listdir(folder)}
+
+
+def is_site(folder, state, games, notes, forks, authors, names):
+    files = files_in(folder)
+    due = {"census-site", "index.html", "style.css"} | {code + end for code in games for end in (".html", ".svg", ".txt", ".json")}
+    same("files of the site", set(files), due)
+    if re.search(r"url|@import|http|expression", files["style.css"]):
+        sys.exit("pages: the style sheet has a style from outside")
+    is_readable("the style sheet", files["style.css"])
+    for code in games:
+        is_readable(f"the picture of {code}", xml.fromstring(files[f"{code}.svg"]).find(SVG + "style").text)
+    for name, text in files.items():
+        if name.endswith(".html"):
+            root = xml.fromstring(text)
+            is_closed(name, root, due)
+            is_landmarked(name, root)
+    is_index("the index", xml.fromstring(files["index.html"]), games, notes, forks, authors, names)
+    whole = json.loads(census("json", state))
+    for code, game in games.items():
+        root = xml.fromstring(files[f"{code}.html"])
+        same(f"{code}: heading", root.find(f".//{HTML}h1").text, code)
+        (image,) = root.iter(HTML + "img")
+        same(f"{code}: words for the picture", image.get("alt"), f"{title(code, game)}. {sentence(game)}")
+        is_game(f"the page of {code}", root, code, game, names, True)
+        same(f"{code}: picture", files[f"{code}.svg"], census("plot", state, code))
+        same(f"{code}: b-file", files[f"{code}.txt"], census("bfile", state, code))
+        same(f"{code}: JSON", json.loads(files[f"{code}.json"]), next(row for row in whole["games"] if row["code"] == code))
+    for element in xml.fromstring(files["index.html"]).iter(HTML + "a"):
+        file, _, place = element.get("href").partition("#")
+        if file and place and f'id="{place}"' not in files[file]:
+            sys.exit(f"pages: {element.get('href')} leads nowhere")
+
+
+def refused(folder, state, fault):
+    before = sorted(os.listdir(folder)) if os.path.isdir(folder) else None
+    ran = subprocess.run([*CENSUS, "site", state, folder], capture_output=True, timeout=SECONDS)
+    same(f"{folder} is refused", ran.stderr.decode(), f"census: {fault}\n")
+    same(f"{folder} stays", sorted(os.listdir(folder)) if os.path.isdir(folder) else None, before)
+
+
+def sites(room, state, told):
+    """A site that is made, made again, replaced by a smaller one, and folders that are not written to."""
+    folder = f"{room}/site"
+    census("site", state, folder)
+    is_site(folder, state, *told)
+    first = files_in(folder)
+    census("site", state, folder)
+    same("the site a second time", files_in(folder), first)
+    census("site", f"{room}/other.state", folder)
+    is_site(folder, f"{room}/other.state", *catalogue(census("show", f"{room}/other.state")), {})
+    with open(f"{folder}/thesis.txt", "w", encoding="utf-8") as file:
+        file.write("mine")
+    refused(folder, state, "Occupied")
+    os.mkdir(f"{room}/mine")
+    with open(f"{room}/mine/index.html", "w", encoding="utf-8") as file:
+        file.write("mine")
+    refused(f"{room}/mine", state, "Occupied")
+    refused(state, state, "Occupied")
+    refused(f"{room}/none", f"{room}/block.json", "Load Version")
+    os.mkdir(f"{room}/empty")
+    census("site", state, f"{room}/empty")
+    same("a site in an empty folder", files_in(f"{room}/empty"), first)
+    return f"{room}/empty"
+
+
+# ---- a browser
+
+
+WIDE = """
+const wide = [], root = document.documentElement;
+for (const e of document.body.querySelectorAll('*')) {
+  if (e.closest('.scroll') && !e.matches('.scroll') || e.closest('svg') && !e.matches('svg')) continue;
+  if (e.getBoundingClientRect().right > root.clientWidth + 1) wide.push(e.tagName + ' ' + e.getBoundingClientRect().right);
+}
+if (root.scrollWidth > root.clientWidth) wide.push('page ' + root.scrollWidth);
+const words = document.createTreeWalker(document.body, NodeFilter.SHOW_TEXT);
+while (words.nextNode()) {
+  const node = words.currentNode;
+  if (!node.parentElement.closest('h1,h2,th,caption')) continue;
+  for (const word of node.data.matchAll(/[^\\s-]+/g)) {
+    const range = document.createRange();
+    range.setStart(node, word.index); range.setEnd(node, word.index + word[0].length);
+    if (range.getClientRects().length > 1) wide.push('broken ' + word[0]);
+  }
+}
+for (const table of document.querySelectorAll('table.values')) {
+  const widths = new Set([...table.querySelectorAll('tbody td')].map(e => {
+    const range = document.createRange();
+    range.selectNodeContents(e);
+    return (range.getBoundingClientRect().width / e.textContent.length).toFixed(1);
+  }));
+  if (widths.size > 1) wide.push('columns ' + [...widths]);
+}
+document.title = 'seen ' + root.clientWidth + ':' + wide.join(';');
+"""
+
+
+def looks(folder, pages):
+    """What a browser finds too wide or broken; whether there is one."""
+    browser = next((found for found in map(shutil.which, ("chromium", "chromium-browser", "google-chrome")) if found), None)
+    if not browser:
+        return False
+    for page in pages:
+        with open(f"{folder}/{page}", encoding="utf-8") as file:
+            text = file.read()
+        frames = "".join(f"<iframe width='{wide}' height='800' src='seen-{page}'></iframe>" for wide in (360, 400, 768, 1280))
+        with open(f"{folder}/seen-{page}", "w", encoding="utf-8") as file:
+            file.write(text.replace("</body>", f"<script>//<![CDATA[\n{WIDE}\n//]]>\nparent.postMessage(document.title, '*');</script></body>"))
+        with open(f"{folder}/frames.html", "w", encoding="utf-8") as file:
+            file.write(f"<pre id='told'></pre><script>onmessage = m => told.append(m.data + '\\n');</script>{frames}")
+        ran = subprocess.run(
+            [browser, "--headless", "--no-sandbox", "--disable-gpu", "--hide-scrollbars", "--allow-file-access-from-files",
+             "--virtual-time-budget=5000", "--window-size=1600,4000", "--dump-dom", f"file://{folder}/frames.html"], capture_output=True, timeout=SECONDS)
+        told = re.search(r"<pre id=\"told\">(.*?)</pre>", ran.stdout.decode(), re.S)
+        lines = sorted(told[1].split("\n")) if told else []
+        same(f"{page}: windows that were seen", len([line for line in lines if line]), 4)
+        for line in lines:
+            if line and not line.endswith(":"):
+                sys.exit(f"pages: {page} in a browser: {line}")
+        os.remove(f"{folder}/seen-{page}")
+        os.remove(f"{folder}/frames.html")
+    return True
+
+
+# ---- lines
+
+
+def is_told(state, games, names):
+    """The lines of what is refuted, as words and as objects, with the names of authors."""
+    lines = census("games", state, "--refuted").splitlines()
+    objects = [json.loads(line) for line in census("games", state, "--refuted", "--json").splitlines()]
+    due = []
+    for code, game in games.items():
+        for kind, rows_of in (("block", game["blocks"]), ("period", game["periods"])):
+            for dot, start, count, status in rows_of:
+                if status[0] == "refuted":
+                    words = f"at {start} count {count}" if kind == "block" else f"from {start} by {count}"
+                    due.append((f"{code} {kind} {dot} {words} {' '.join(status)}", names.get(dot.partition(".")[0])))
+    same("lines of what is refuted", (len(lines), len(objects)), (len(due), len(due)))
+    for line, row, (front, name) in zip(lines, objects, due):
+        same("a line of what is refuted", (line[:len(front)], line.partition(" author ")[2]), (front, name or ""))
+        same("the name in an object", row.get("name"), name)
+    return len(due)
 
 
 # ---- JSON
@@ -206,7 +500,7 @@ def dot(row):
     return f"{row['author']}.{row['number']}"
 
 
-def is_json(text, games, notes, forks, authors):
+def is_json(text, games, notes, forks, authors, names):
     found = json.loads(text)
     same("edition in JSON", found["census"], 2)
     same("codes in JSON", [game["code"] for game in found["games"]], list(games))
@@ -221,12 +515,14 @@ def is_json(text, games, notes, forks, authors):
     same("notes in JSON", [(row["name"], dot(row), row["text"]) for row in found["notes"]], notes)
     same("forks in JSON", [(dot(row), str(row["contents"])) for row in found["forks"]], forks)
     same("authors in JSON", [(str(row["author"]), str(row["through"]), str(row["last"])) for row in found["authors"]], authors)
+    same("names in JSON", {str(row["author"]): row["name"] for row in found["authors"] if "name" in row}, names)
 
 
 def main():
     with tempfile.TemporaryDirectory() as room:
         state = table(room)
         games, *others = catalogue(census("show", state))
+        names = {"1": NAME}
         same("texts of notes", [text for name, _, text in others[0] if name == "marks"], [MARKS])
         games_and_one = {**games, "0.6": {"values": [0], "blocks": [], "periods": []}}
         for code, game in games_and_one.items():
@@ -235,9 +531,16 @@ def main():
             root = xml.fromstring(census("plot", state, code))
             is_closed(f"the plot of {code}", root)
             is_plot(f"the plot of {code}", root, code, game)
-        is_page(census("report", state), games, *others)
-        is_json(census("json", state), games, *others)
-    print(f"{len(games_and_one)} b-files and plots, a page and JSON, and each says what the catalogue says")
+        is_page(census("report", state), games, *others, names, True)
+        is_page(census("report", state, "--values", "all"), games, *others, names, False)
+        is_json(census("json", state), games, *others, names)
+        same("what is refuted", is_told(state, games, names), 2)
+        folder = sites(room, state, (games, *others, names))
+        with open(f"{folder}/report.html", "w", encoding="utf-8") as file:
+            file.write(census("report", state))
+        seen = looks(folder, ["index.html", *(f"{code}.html" for code in games), "report.html"])
+    print(f"{len(games_and_one)} b-files and plots, two pages, a site and JSON, and each says what the catalogue says")
+    print("a browser shows them at four widths" if seen else "no Chromium is here: how wide the pages are was left out")
 
 
 main()

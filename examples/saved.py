@@ -2,10 +2,11 @@
 """Has sessions that end with each kind of fault, after an operation came over them, and says whether the fault is the one
 that is due, and whether the state file has what came, beside what another command wrote meanwhile. Takes some seconds.
 
-    saved.py [PROGRAM [WORD ..]]          the program is ../census where none is named
+    saved.py [PROGRAM [WORD ..]]          the program is the one that ../census runs where none is named
 """
 
 import os
+import re
 import socket
 import struct
 import subprocess
@@ -13,7 +14,7 @@ import sys
 import tempfile
 
 HERE = os.path.dirname(os.path.abspath(__file__))
-CENSUS = sys.argv[1:] or [os.path.join(HERE, "..", "census")]
+CENSUS = sys.argv[1:] or [subprocess.check_output([os.path.join(HERE, "..", "dist", "program")], text=True).strip()]
 SECONDS = 30
 
 CLOCK, DELTA, END = 1, 2, 3
@@ -98,7 +99,8 @@ def session(author, command, fault, end):
                 _, errors = program.communicate(timeout=SECONDS)
         finally:
             program.kill()
-    return errors.decode().strip(), program.returncode, census("show", state)
+    line = errors.decode().split("\n")[0]  # a hub explains the fault in the lines after it
+    return line, program.returncode, census("show", state)
 
 
 def tries():
@@ -110,7 +112,8 @@ def tries():
             author += 10
             line, ended, shown = session(author, command, fault, end)
             hub = command == "hub"
-            yield command, fault, line.endswith(f"Sync {fault}") and line.startswith("census: " + "peer 127.0.0.1:" * hub), line
+            form = rf"census: [-0-9]+T[:0-9]+Z peer 127\.0\.0\.1:\d+ Sync {fault}" if hub else rf"census: Sync {fault}"
+            yield command, fault, re.fullmatch(form, line) is not None, line
             yield command, fault, ended == (0 if hub else status), f"status {ended}"
             yield command, fault, "note came 9.1 \n" in shown, "what came"
             yield command, fault, f"note meanwhile {author}.1 \n" in shown, "what was written meanwhile"

@@ -5,7 +5,7 @@ gives from the values that `--bfile` lists. The first values of sixty games are 
 in this script, and for all three-digit games of Winning Ways, chapter 4, the same periods are found as a survey finds.
 Takes a minute.
 
-    search.py [PROGRAM [WORD ..]]         the program is ../census where none is named
+    search.py [PROGRAM [WORD ..]]         the program is the one that ../census runs where none is named
 """
 
 import json
@@ -16,7 +16,7 @@ import sys
 import tempfile
 
 HERE = os.path.dirname(os.path.abspath(__file__))
-CENSUS = sys.argv[1:] or [os.path.join(HERE, "..", "census")]
+CENSUS = sys.argv[1:] or [subprocess.check_output([os.path.join(HERE, "..", "dist", "program")], text=True).strip()]
 SECONDS = 300
 
 # Tables of periods of octal games (Gangolli and Plambeck 1989; Flammenkamp): the period, and the first heap of it.

@@ -13,7 +13,7 @@ import tempfile
 import time
 
 HERE = os.path.dirname(os.path.abspath(__file__))
-CENSUS = sys.argv[1:] or [os.path.join(HERE, "..", "census")]
+CENSUS = sys.argv[1:] or [subprocess.check_output([os.path.join(HERE, "..", "dist", "program")], text=True).strip()]
 COUNT = 65536
 KILLED = 40  # seconds after the beginning
 CODES = [f"0.{a}{b}{c}" for a in range(8) for b in range(8) for c in range(1, 8)]
@@ -48,7 +48,7 @@ def main():
         need(len(lines) < len(CODES), "the survey was over before it was killed")
         codes = [line.split(" ")[0] for line in lines]
         need(codes == CODES[: len(codes)], "the lines are not those of the first games")
-        need(all(line.endswith(f" known {COUNT}") for line in lines), "a line is of a game that is not whole")
+        need(all(line.endswith((f" known {COUNT}", f" in {COUNT} values")) for line in lines), "a line is of a game that is not whole")
         some = lines[:20] + lines[-5:]
         need(census("find", state, *(line.split(" ")[0] for line in some)).splitlines() == some, "the state has not what the lines say")
         later = time.monotonic()

@@ -48,10 +48,13 @@ prints '0.77 period 12 from 71 needs 168 known 17000
 prints '0.77 known 17000 issued 0
 0.6 known 1100 issued 2
 0.6 known 1100 issued 0' extend "$state" 1100 0.77 0.6 .60
-prints '0.6 no period known 1100
+prints '0.6 no period in 1100 values
 0.77 period 12 from 71 needs 168 known 17000' find "$state" 0.6 0.77
+prints '{"code":"0.6","period":null,"known":1100}
+{"code":"0.77","period":12,"from":71,"needs":168,"known":17000}' find "$state" 0.6 0.77 --json
 before=$(sha256sum < "$state")
 prints '0.77 period 12 from 71 needs 168 known 17000' survey "$state" 17000 0.77
+prints '{"code":"0.77","period":12,"from":71,"needs":168,"known":17000}' survey "$state" 17000 0.77 --json
 if [[ $(sha256sum < "$state") != "$before" ]]; then
   echo 'a claim was issued twice'
   failures=$((failures + 1))

@@ -2,7 +2,7 @@
 """Hands the program inputs made to be slow or large, and says whether each answer is right and comes within the processor time
 and the memory that stand beside it. Takes less than a minute.
 
-    worst.py [PROGRAM [WORD ..]]            the program is ../census where none is named
+    worst.py [PROGRAM [WORD ..]]            the program is the one that ../census runs where none is named
 """
 
 import os
@@ -13,7 +13,8 @@ import subprocess
 import sys
 import tempfile
 
-CENSUS = sys.argv[1:] or [os.path.join(os.path.dirname(os.path.abspath(__file__)), "..", "census")]
+HERE = os.path.dirname(os.path.abspath(__file__))
+CENSUS = sys.argv[1:] or [subprocess.check_output([os.path.join(HERE, "..", "dist", "program")], text=True).strip()]
 MIB = 1 << 20
 GREATEST = 1 << 30  # bytes of a file that is read
 

@@ -44,8 +44,8 @@ sheet_is : (ops : Operations) (c : Code) → sheet_by (content_in ops c) (listed
 sheet_is ops c = sheet_by-is ops c (content_in ops c) (of_game ops c) refl refl
 
 pub told_is : (q : question.Question) (ops : Operations) (c : Code) → told_of q (content_in ops c) ≡ told q ops c
-told_is (question.TheVariants.Value heaps) ops c = refl
-told_is (question.TheVariants.Move heaps) ops c = refl
+told_is (question.TheVariants.Value heaps form) ops c = refl
+told_is (question.TheVariants.Move heaps form) ops c = refl
 told_is question.TheVariants.Bfile ops c = ap (λ (s : GameSheet). bfile_text s.values) (sheet_is ops c)
 told_is question.TheVariants.Plot ops c = ap (λ (s : GameSheet). picture.plot c s.values s.proved) (sheet_is ops c)
 

@@ -1,5 +1,5 @@
 -- What a file holds, the one text of it, and its digest.
-use Rattle.std.proofs.Common.{arith, ◌≡◌, ◌≢◌, ◌<◌, ◌≤◌, ◌^◌, inl, inr, true, false, cond, List, Some, Ok, Err, length, refl, sym, ap, subst, ◌∙◌}
+use Rattle.std.proofs.Common.{arith, ◌≡◌, ◌≢◌, ◌<◌, ◌≤◌, ◌^◌, inl, inr, true, false, cond, List, Some, Result, Ok, Err, length, refl, sym, ap, subst, ◌∙◌}
 use Rattle.std.specs.Prelude.{IsSome, IsTrue, is_some, nat_le}
 use Rattle.std.proofs.lemmas.Bool.{and_from, and_parts, le-ltb, lt-ltb}
 use Rattle.oct_code.specs.declared.limits.TheConstants.{LIMIT, OLD_LIMIT}
@@ -18,7 +18,7 @@ use Rattle.oct_ops.specs.OrderLaws.{op_cmp_total, op_cmp_exact}
 use Rattle.oct_ops.specs.SetLaws.{set_of-listed}
 use Rattle.oct_record.specs.Content.{RecordContent}
 use Rattle.oct_record.specs.States.{has_tag}
-use Rattle.census_core.specs.Digests.{digest_of, digits_of, operations_in, text_of, DigestIsOfSet, IsFileOf, TextIsOfOneSet}
+use Rattle.census_core.specs.Digests.{digest_of, digest_of_set, digits_of, operations_in, text_of, DigestIsOfSet, IsFileOf, TextIsOfOneSet}
 use Rattle.census_core.specs.Refusals.{encode_fault}
 use Rattle.census_core.specs.States.{delta_of, delta_refusal}
 use Rattle.census_core.specs.Steps.{◌>>=◌}
@@ -58,15 +58,17 @@ not_written ops OutOfMemory many other = absurd (other refl)
 
 -- ---- the digest
 
-pub digested : (file : Bytes) (ops : Operations) (text digits : Bytes) → operations_in file ≡ Ok ops → text_of ops ≡ Ok text → digits ≡ digits_of text → digest_of file ≡ Ok digits
-digested file ops text digits held spelled is =
-    ap (λ h. h >>= text_of >>= λ t. Ok (digits_of t)) held ∙ ap (λ t. t >>= λ u. Ok (digits_of u)) spelled ∙ ap Ok (sym is)
+pub set_digested : (ops : Operations) (text digits : Bytes) → text_of ops ≡ Ok text → digits ≡ digits_of text → digest_of_set ops ≡ Ok digits
+set_digested ops text digits spelled is = ap (λ t. t >>= λ u. Ok (digits_of u)) spelled ∙ ap Ok (sym is)
+
+pub no_text : (ops : Operations) (e : Fault) → text_of ops ≡ Err e → digest_of_set ops ≡ Err e
+no_text ops e none = ap (λ t. t >>= λ u. Ok (digits_of u)) none
+
+pub as_its_set : (file : Bytes) (ops : Operations) (r : Result Bytes Fault) → operations_in file ≡ Ok ops → digest_of_set ops ≡ r → digest_of file ≡ r
+as_its_set file ops r held is = ap (λ h. h >>= digest_of_set) held ∙ is
 
 pub not_read : (file : Bytes) (e : Fault) → operations_in file ≡ Err e → digest_of file ≡ Err e
-not_read file e none = ap (λ h. h >>= text_of >>= λ t. Ok (digits_of t)) none
-
-pub no_text : (file : Bytes) (ops : Operations) (e : Fault) → operations_in file ≡ Ok ops → text_of ops ≡ Err e → digest_of file ≡ Err e
-no_text file ops e held none = ap (λ h. h >>= text_of >>= λ t. Ok (digits_of t)) held ∙ ap (λ t. t >>= λ u. Ok (digits_of u)) none
+not_read file e none = ap (λ h. h >>= digest_of_set) none
 
 -- ---- laws
 
@@ -81,14 +83,14 @@ untagged bytes ops (inr d) = ap has_tag d.spelled
 
 pub digest_is_of_set : Law → DigestIsOfSet
 digest_is_of_set law file ops are (inl s) =
-    digested file ops (encoded (listed ops)) (digits_of (encoded (listed ops)))
+    as_its_set file ops (Ok (digits_of (encoded (listed ops))))
     (of_state file (record { author = s.0; ops = ops }) (ap has_tag s.1.spelled) (state_read law file s.0 ops are s.1))
-    (written ops (encoded (listed ops)) (few_in s.1.rest (listed ops) s.1.list) refl) refl
+    (set_digested ops (encoded (listed ops)) _ (written ops (encoded (listed ops)) (few_in s.1.rest (listed ops) s.1.list) refl) refl)
 digest_is_of_set law file ops are (inr d) =
     let read : read_delta file ≡ Some (listed ops) = (law file (listed ops) are).1 d in
-    digested file ops (encoded (listed ops)) (digits_of (encoded (listed ops)))
+    as_its_set file ops (Ok (digits_of (encoded (listed ops))))
     (of_delta file ops (untagged file (listed ops) d) (ap is_some read) (sym (ap set_of_read read ∙ set_of-listed op_cmp_total op_cmp_exact ops)))
-    (written ops (encoded (listed ops)) (few_in file (listed ops) d) refl) refl
+    (set_digested ops (encoded (listed ops)) _ (written ops (encoded (listed ops)) (few_in file (listed ops) d) refl) refl)
 
 -- what keeps the old limit keeps the new one
 keeps_more : (b : Body) → IsTrue (keeps_limit OLD_LIMIT b) → IsTrue (keeps_limit LIMIT b)

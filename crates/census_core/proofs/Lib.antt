@@ -10,6 +10,7 @@ mod Growing
 mod Importing
 mod InTurn
 mod Issuance
+mod Judging
 mod LineEnds
 mod LineLemmas
 mod Members
@@ -20,9 +21,12 @@ mod Outcomes
 mod Pieces
 mod Rejoining
 mod Renumbering
+mod Shelves
 mod Stepping
 mod StoredStates
 mod Taking
+mod Telling
+mod Together
 mod Underway
 mod Uniting
 mod Wholes

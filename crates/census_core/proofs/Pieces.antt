@@ -3,7 +3,7 @@ use Rattle.std.proofs.Common.{◌≡◌, ◌+◌, ◌<◌, ℕ, List, [], ◌++�
 use Rattle.std.proofs.KnownBytes.{Appends-trans}
 use Rattle.std.proofs.lemmas.List.{drop_more, take_at}
 use Rattle.std.specs.Io.KnownBytes.{Appends}
-use Rattle.oct_sync.specs.Output.{AppendsPrefix}
+use Rattle.written.specs.Output.{AppendsPrefix}
 use Rattle.oct_views.specs.Bfile.{row_text, rows_text}
 
 -- what is written is a front of the text

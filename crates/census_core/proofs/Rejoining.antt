@@ -1,12 +1,13 @@
 -- What a state file holds after a session.
 use Rattle.std.proofs.Common.{arith, ◌≡◌, ℕ, ◌-◌, ◌==◌, true, length, Ok, Err, if◌then◌else◌, refl, sym, ap, ◌∙◌, eq-eqb}
 use Rattle.oct_delta.specs.Text.{Bytes}
-use Rattle.oct_ops.specs.Operations.{listed, union}
+use Rattle.oct_ops.specs.Operations.{Operations, listed, union, IsSubset}
+use Rattle.oct_join.specs.SetBounds.{subset_order}
 use Rattle.oct_ops.specs.OrderLaws.{op_cmp_total, op_cmp_exact}
-use Rattle.oct_ops.specs.SetLaws.{union_same}
+use Rattle.oct_ops.specs.SetLaws.{union_same, union_least, union_right}
 use Rattle.oct_record.specs.Content.{RecordContent}
 use Rattle.census_core.specs.Lines.{union_line}
-use Rattle.census_core.specs.States.{rejoined, unchanged, united}
+use Rattle.census_core.specs.States.{rejoined, unchanged, united, IsHeldBefore}
 use Rattle.census_core.specs.Steps.{◌>>=◌}
 use Rattle.census_core.specs.Stored.{loaded, saved}
 use Rattle.census_core.specs.declared.fault.Fault.TheVariants.{Author}
@@ -26,3 +27,14 @@ rejoin_same state held load =
     let none : 0 ≡ count - count = omega (arith) in
     rejoin_saves state held held held (unchanged held) count count load (eq-eqb _ _ refl) (sym (union_same op_cmp_total op_cmp_exact held.ops)) refl refl refl
     (ap (λ new. union_line new count) none)
+
+-- a union with a set that has all of the other one
+union_within : (s t : Operations) → IsSubset s t → union s t ≡ t
+union_within s t within = (subset_order op_cmp_total op_cmp_exact).antisymmetric _ _ (union_least op_cmp_total op_cmp_exact s t t within (λ o held. held)) (union_right op_cmp_total op_cmp_exact s t)
+
+-- what the file says is held already, so that the union is what is held
+pub rejoin_grows : (held kept : RecordContent) (text : Bytes) (before all : ℕ) → IsHeldBefore kept before held → all ≡ length (listed held.ops) → text ≡ union_line (all - before) all → united kept held.ops ≡ saved held text
+rejoin_grows held kept text before all was more line =
+    let grown : union kept.ops held.ops ≡ held.ops = union_within kept.ops held.ops was.all in
+    (λ i. saved (record { author = was.author i; ops = grown i }) (union_line (length (listed (grown i)) - was.count i) (length (listed (grown i)))))
+    ∙ ap (saved held) ((λ i. union_line (sym more i - before) (sym more i)) ∙ sym line)

@@ -11,7 +11,7 @@ use Rattle.oct_record.specs.declared.error.RenumberError.{RenumberError}
 use Rattle.oct_record.specs.declared.error.RenumberError.TheVariants.{Zero, Held}
 use Rattle.census_core.specs.Lines.{renumbered_line}
 use Rattle.census_core.specs.Refusals.{renumber_fault}
-use Rattle.census_core.specs.States.{first_foreign, renumber, renumbered}
+use Rattle.census_core.specs.States.{renumber, renumbered}
 use Rattle.census_core.specs.Steps.{◌>>=◌}
 use Rattle.census_core.specs.Stored.{loaded, saved}
 use Rattle.census_core.specs.declared.fault.Fault.{Fault}
@@ -49,21 +49,3 @@ module _ (id : ℕ) (state : Bytes) (some : id ≢ 0) where
       ∙ ap (λ b. cond b (Err fault.Held) (saved (record r { author = id }) (renumbered_line r.author id)))
       (clear result was (holds_any r.ops id) is (λ here. held.1 (some, here)))
       ∙ (λ i. saved (sym new i) (sym (spelled ∙ ap (λ n. renumbered_line n id) old) i))
-
--- both texts are read
-pub between : (before later : Bytes) (was now : RecordContent) (found : Option Dot) → loaded before ≡ Ok was → loaded later ≡ Ok now
-    → found ≡ option_map (λ o. o.dot) (foreign_of was.ops now.ops was.author) → first_foreign before later ≡ Ok found
-between before later was now found one two is =
-    ap (λ l. l >>= λ w. loaded later >>= λ n. Ok (option_map (λ o. o.dot) (foreign_of w.ops n.ops w.author))) one
-    ∙ ap (λ l. l >>= λ n. Ok (option_map (λ o. o.dot) (foreign_of was.ops n.ops was.author))) two
-    ∙ ap Ok (sym is)
-
--- the first is refused
-pub before_refused : (before later : Bytes) (e : Fault) → loaded before ≡ Err e → first_foreign before later ≡ Err e
-before_refused before later e one = ap (λ l. l >>= λ w. loaded later >>= λ n. Ok (option_map (λ o. o.dot) (foreign_of w.ops n.ops w.author))) one
-
--- the second is
-pub later_refused : (before later : Bytes) (was : RecordContent) (e : Fault) → loaded before ≡ Ok was → loaded later ≡ Err e → first_foreign before later ≡ Err e
-later_refused before later was e one two =
-    ap (λ l. l >>= λ w. loaded later >>= λ n. Ok (option_map (λ o. o.dot) (foreign_of w.ops n.ops w.author))) one
-    ∙ ap (λ l. l >>= λ n. Ok (option_map (λ o. o.dot) (foreign_of was.ops n.ops was.author))) two

@@ -10,12 +10,17 @@ use Rattle.oct_pages.specs.Catalogue as catalogue
 use Rattle.oct_period.specs.Claims.{claims_in}
 use Rattle.oct_period.specs.GameContent.{GameContent}
 use Rattle.oct_period.specs.Periods.{position_value}
+use Rattle.oct_period.specs.Outcomes.{winner}
 use Rattle.oct_period.specs.Winning.{wins}
+use Rattle.oct_period.specs.declared.winner.Outcome.{Outcome}
 use Rattle.oct_period.specs.declared.unknown.Unknown.{Unknown}
 use Rattle.oct_replica.specs.Beside.{content_in}
 use Rattle.oct_verify.specs.Filing.{blocks_in}
+use Rattle.oct_views.specs.declared.overview.Form.{Form}
+use Rattle.oct_views.specs.declared.overview.Form.TheVariants.{Lines, Json}
 use Rattle.census_core.specs.Codes.{code_of}
-use Rattle.census_core.specs.Lines.{number_line, winner_line}
+use Rattle.census_core.specs.JsonLines.{unknown_object, value_object}
+use Rattle.census_core.specs.Lines.{number_line, outcome_line}
 use Rattle.census_core.specs.Replies.{Answer, said}
 use Rattle.census_core.specs.Steps.{◌>>=◌}
 use Rattle.census_core.specs.Stored.{loaded}
@@ -30,10 +35,20 @@ value_of game heaps = position_value game.code (blocks_in game.blocks) (claims_i
 abbrev pub value_in : Operations → Code → List ℕ → Result ℕ Unknown
 value_in ops c heaps = value_of (content_in ops c) heaps
 
+-- a value and who wins, in words and numbers or as an object of JSON
+abbrev pub known_text : Form → ℕ → Outcome → Text
+known_text Lines value outcome = number_line (codes "value ") value ++ outcome_line outcome
+known_text Json value outcome = value_object value outcome
+
+-- the place of the first heap whose nim-value is not known
+abbrev pub unknown_text : Form → ℕ → Text
+unknown_text Lines index = number_line (codes "unknown at ") index
+unknown_text Json index = unknown_object index
+
 -- the value and who wins by the moves alone, or the first heap whose nim-value is not known
-abbrev pub value_text : Code → List ℕ → Result ℕ Unknown → Text
-value_text c heaps (Ok value) = number_line (codes "value ") value ++ winner_line (wins c heaps)
-value_text c heaps (Err unknown) = number_line (codes "unknown at ") unknown.index
+abbrev pub value_text : Form → Code → List ℕ → Result ℕ Unknown → Text
+value_text form c heaps (Ok value) = known_text form value (winner (wins c heaps))
+value_text form c heaps (Err unknown) = unknown_text form unknown.index
 
 abbrev pub page_of : List Operation → ℕ → Result Answer Fault
 page_of ops number = if has_page ops number then Ok (said (catalogue.page ops number)) else Err NoPage
@@ -47,11 +62,11 @@ delta_of ops =
 
 -- ---- the commands
 
-abbrev pub value : Bytes → Bytes → List ℕ → Result Answer Fault
-value state word heaps = do
+abbrev pub value : Form → Bytes → Bytes → List ℕ → Result Answer Fault
+value form state word heaps = do
   replica ← loaded state
   code ← code_of word
-  Ok (said (value_text code heaps (value_in replica.ops code heaps)))
+  Ok (said (value_text form code heaps (value_in replica.ops code heaps)))
 
 abbrev pub page : Bytes → ℕ → Result Answer Fault
 page state number = loaded state >>= λ replica. page_of (listed replica.ops) number

@@ -26,8 +26,12 @@ text_of ops = if nat_lt (length (listed ops)) (2 ^ 32) then Ok (encoded (listed 
 abbrev pub digits_of : Bytes → Bytes
 digits_of text = encode_lower (sha256 text)
 
+-- the digest of a set is that of its one text
+abbrev pub digest_of_set : Operations → Result Bytes Fault
+digest_of_set ops = text_of ops >>= λ text. Ok (digits_of text)
+
 abbrev pub digest_of : Bytes → Result Bytes Fault
-digest_of file = operations_in file >>= text_of >>= λ text. Ok (digits_of text)
+digest_of file = operations_in file >>= digest_of_set
 
 -- ---- laws
 

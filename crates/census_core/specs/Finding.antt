@@ -14,9 +14,12 @@ use Rattle.oct_period.specs.Periods.{needs}
 use Rattle.oct_replica.specs.Beside.{content_in}
 use Rattle.oct_record.specs.Content.{RecordContent}
 use Rattle.oct_verify.specs.Filing.{blocks_in}
+use Rattle.oct_views.specs.declared.overview.Form.{Form}
+use Rattle.oct_views.specs.declared.overview.Form.TheVariants.{Lines, Json}
 use Rattle.census_core.specs.Codes.{codes_of}
 use Rattle.census_core.specs.Extending.{extend_turn, extended, in_turns, known_in}
 use Rattle.census_core.specs.Issuing.{with_body}
+use Rattle.census_core.specs.JsonLines.{found_object}
 use Rattle.census_core.specs.Replies.{Answer, said}
 use Rattle.census_core.specs.Steps.{◌>>=◌}
 use Rattle.census_core.specs.Stored.{loaded}
@@ -30,16 +33,25 @@ abbrev pub found_in : Operations → Code → Option Period
 found_in ops c = found_period c (blocks_in (content_in ops c).blocks)
 
 -- the period, the heap from which on the nim-values repeat, and how many of them prove it
-abbrev pub found_text : Option Period → Text
-found_text None = codes " no period"
-found_text (Some p) = labelled (codes " period ") p.period ++ labelled (codes " from ") p.start ++ labelled (codes " needs ") (needs p)
+abbrev pub found_text : Period → Text
+found_text p = labelled (codes " period ") p.period ++ labelled (codes " from ") p.start ++ labelled (codes " needs ") (needs p)
 
--- and how many are known
+-- so many nim-values prove no period
+abbrev pub vain_line : Code → ℕ → Text
+vain_line c values = code_text c ++ labelled (codes " no period in ") values ++ codes " values\n"
+
+-- what is found, and how many are known
 abbrev pub found_line : Code → Option Period → ℕ → Text
-found_line c found known = code_text c ++ found_text found ++ labelled (codes " known ") known ++ codes "\n"
+found_line c (Some p) known = code_text c ++ found_text p ++ labelled (codes " known ") known ++ codes "\n"
+found_line c None known = vain_line c known
 
-abbrev pub find_line : Operations → Code → Text
-find_line ops c = found_line c (found_in ops c) (known_in ops c)
+-- the same in words and numbers, or as an object of JSON
+abbrev pub found_told : Form → Code → Option Period → ℕ → Text
+found_told Lines = found_line
+found_told Json = found_object
+
+abbrev pub find_line : Form → Operations → Code → Text
+find_line form ops c = found_told form c (found_in ops c) (known_in ops c)
 
 -- the replica after its author issued the claim, unless the set has the claim already
 abbrev pub with_claim : RecordContent → Option Period → Result RecordContent Fault
@@ -47,26 +59,26 @@ with_claim r None = Ok r
 with_claim r (Some p) = if is_claimed (claims_in (content_in r.ops p.code).claims) p then Ok r else with_body r (kind.Period p)
 
 -- what is found is told and claimed
-abbrev pub surveyed : Code → RecordContent → Result Turn Fault
-surveyed c r = do
+abbrev pub surveyed : Form → Code → RecordContent → Result Turn Fault
+surveyed form c r = do
   next ← with_claim r (found_in r.ops c)
-  Ok (record { replica = next; text = find_line r.ops c })
+  Ok (record { replica = next; text = find_line form r.ops c })
 
-abbrev pub survey_turn : ℕ → Code → RecordContent → Result Turn Fault
-survey_turn count c r = extended c count r >>= λ e. surveyed c e.replica
+abbrev pub survey_turn : Form → ℕ → Code → RecordContent → Result Turn Fault
+survey_turn form count c r = extended c count r >>= λ e. surveyed form c e.replica
 
 -- what a game has in its turn
 abbrev pub turn_of : Aim → ℕ → Code → RecordContent → Result Turn Fault
 turn_of Extend = extend_turn
-turn_of Survey = survey_turn
+turn_of (Survey form) = survey_turn form
 
 -- ---- the commands
 
-abbrev pub find : Bytes → List Bytes → Result Answer Fault
-find state words = do
+abbrev pub find : Form → Bytes → List Bytes → Result Answer Fault
+find form state words = do
   replica ← loaded state
   games ← codes_of words
-  Ok (said (flat_map (find_line replica.ops) games))
+  Ok (said (flat_map (find_line form replica.ops) games))
 
-abbrev pub survey : Bytes → ℕ → List Bytes → Result Answer Fault
-survey = in_turns survey_turn
+abbrev pub survey : Form → Bytes → ℕ → List Bytes → Result Answer Fault
+survey form = in_turns (survey_turn form)

@@ -11,8 +11,11 @@ use Rattle.oct_period.specs.declared.moving.Move.{Move}
 use Rattle.oct_period.specs.declared.unknown.Unknown.{Unknown}
 use Rattle.oct_replica.specs.Beside.{content_in}
 use Rattle.oct_verify.specs.Filing.{blocks_in}
+use Rattle.oct_views.specs.declared.overview.Form.{Form}
+use Rattle.oct_views.specs.declared.overview.Form.TheVariants.{Lines, Json}
+use Rattle.census_core.specs.Asking.{unknown_text}
 use Rattle.census_core.specs.Codes.{code_of}
-use Rattle.census_core.specs.Lines.{number_line}
+use Rattle.census_core.specs.JsonLines.{lost_object, move_object}
 use Rattle.census_core.specs.Replies.{Answer, said}
 use Rattle.census_core.specs.Steps.{◌>>=◌}
 use Rattle.census_core.specs.Stored.{loaded}
@@ -37,19 +40,29 @@ left_text less more =
 abbrev pub move_line : Move → ℕ → Text
 move_line m beans = labelled (codes "heap ") m.index ++ labelled (codes " of ") beans ++ labelled (codes ": remove ") m.removed ++ left_text m.left.0 m.left.1 ++ codes "\n"
 
-abbrev pub found_text : List ℕ → Option Move → Text
-found_text heaps None = codes "none: the player to move loses\n"
-found_text heaps (Some m) = move_line m (slice_index heaps m.index)
+-- the same in words and numbers, or as an object of JSON
+abbrev pub move_told : Form → Move → ℕ → Text
+move_told Lines = move_line
+move_told Json = move_object
+
+-- no move wins
+abbrev pub lost_text : Form → Text
+lost_text Lines = codes "none: the player to move loses\n"
+lost_text Json = lost_object
+
+abbrev pub found_text : Form → List ℕ → Option Move → Text
+found_text form heaps None = lost_text form
+found_text form heaps (Some m) = move_told form m (slice_index heaps m.index)
 
 -- the move, or that there is none, or the first heap whose nim-value is not known
-abbrev pub move_text : List ℕ → Result (Option Move) Unknown → Text
-move_text heaps (Ok found) = found_text heaps found
-move_text heaps (Err unknown) = number_line (codes "unknown at ") unknown.index
+abbrev pub move_text : Form → List ℕ → Result (Option Move) Unknown → Text
+move_text form heaps (Ok found) = found_text form heaps found
+move_text form heaps (Err unknown) = unknown_text form unknown.index
 
 -- ---- the command
 
-abbrev pub winning : Bytes → Bytes → List ℕ → Result Answer Fault
-winning state word heaps = do
+abbrev pub winning : Form → Bytes → Bytes → List ℕ → Result Answer Fault
+winning form state word heaps = do
   replica ← loaded state
   code ← code_of word
-  Ok (said (move_text heaps (move_in replica.ops code heaps)))
+  Ok (said (move_text form heaps (move_in replica.ops code heaps)))

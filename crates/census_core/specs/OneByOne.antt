@@ -6,6 +6,7 @@ use Rattle.oct_delta.specs.Text.{Bytes}
 use Rattle.oct_pages.specs.Catalogue.{Text}
 use Rattle.oct_ops.specs.Codes.{code_code}
 use Rattle.oct_record.specs.Content.{RecordContent, record_code}
+use Rattle.oct_views.specs.declared.overview.Form.TheVariants.{Lines, Json}
 use Rattle.census_core.specs.Codes.{codes_of}
 use Rattle.census_core.specs.Extending.{wanted}
 use Rattle.census_core.specs.Finding.{turn_of}
@@ -22,21 +23,24 @@ pub record UnderWay : Type 0 where
   pub count : ℕ
   pub left : List Code
 
--- it is told from others by its parts
-abbrev pub is_survey : Aim → Bool
-is_survey Extend = false
-is_survey Survey = true
+-- it is told from others by its parts: whether the game is surveyed, and whether what is found is told as JSON
+abbrev pub aim_parts : Aim → Bool × Bool
+aim_parts Extend = (false, false)
+aim_parts (Survey Lines) = (true, false)
+aim_parts (Survey Json) = (true, true)
 
-abbrev pub aim_of : Bool → Aim
-aim_of false = Extend
-aim_of true = Survey
+abbrev pub aim_of : Bool × Bool → Aim
+aim_of (false, json) = Extend
+aim_of (true, false) = Survey Lines
+aim_of (true, true) = Survey Json
 
-pub aim_of-is : (aim : Aim) → aim_of (is_survey aim) ≡ aim
+pub aim_of-is : (aim : Aim) → aim_of (aim_parts aim) ≡ aim
 aim_of-is Extend = refl
-aim_of-is Survey = refl
+aim_of-is (Survey Lines) = refl
+aim_of-is (Survey Json) = refl
 
 abbrev pub aim_code : Coded Aim
-aim_code = code_by Bool coded_bool is_survey aim_of aim_of-is
+aim_code = code_by (Bool × Bool) (coded× coded_bool coded_bool) aim_parts aim_of aim_of-is
 
 abbrev pub way_code : Coded UnderWay
 way_code =

@@ -17,15 +17,15 @@ use Rattle.census_core.specs.declared.fault.Fault.{Fault}
 use Rattle.census_core.specs.declared.viewing.View as view
 
 abbrev pub told : question.Question → Operations → Code → Text
-told (question.TheVariants.Value heaps) ops c = value_text c heaps.now (value_in ops c heaps.now)
-told (question.TheVariants.Move heaps) ops c = move_text heaps.now (move_in ops c heaps.now)
+told (question.TheVariants.Value heaps form) ops c = value_text form c heaps.now (value_in ops c heaps.now)
+told (question.TheVariants.Move heaps form) ops c = move_text form heaps.now (move_in ops c heaps.now)
 told question.TheVariants.Bfile ops c = bfile_in ops c
 told question.TheVariants.Plot ops c = plot_in ops c
 
 -- the same, by the blocks and claims of the game
 abbrev pub told_of : question.Question → GameContent → Text
-told_of (question.TheVariants.Value heaps) game = value_text game.code heaps.now (value_of game heaps.now)
-told_of (question.TheVariants.Move heaps) game = move_text heaps.now (move_of game heaps.now)
+told_of (question.TheVariants.Value heaps form) game = value_text form game.code heaps.now (value_of game heaps.now)
+told_of (question.TheVariants.Move heaps form) game = move_text form heaps.now (move_of game heaps.now)
 told_of question.TheVariants.Bfile game = bfile_of game
 told_of question.TheVariants.Plot game = plot_of game
 
@@ -38,7 +38,7 @@ answered asked state word = do
 abbrev pub shown_in : view.View → Operations → Text
 shown_in view.TheVariants.Catalogue ops = catalogue (listed ops)
 shown_in view.TheVariants.Json ops = json_in ops
-shown_in view.TheVariants.Report ops = report_in ops
+shown_in (view.TheVariants.Report how) ops = report_in how ops
 
 abbrev pub shown : view.View → Bytes → Result Answer Fault
 shown which state = loaded state >>= λ replica. Ok (said (shown_in which replica.ops))

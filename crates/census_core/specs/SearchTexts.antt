@@ -8,9 +8,9 @@ use Rattle.oct_mex.specs.declared.period.SeenPeriod.{SeenPeriod}
 use Rattle.oct_ops.specs.Operation.{repeating}
 use Rattle.oct_pages.specs.Catalogue.{Text, labelled}
 use Rattle.oct_period.specs.Periods.{needs}
-use Rattle.census_core.specs.Finding.{found_text}
-use Rattle.census_core.specs.declared.search_text.SearchForm.{SearchForm}
-use Rattle.census_core.specs.declared.search_text.SearchForm.TheVariants.{Lines, Json}
+use Rattle.census_core.specs.Finding.{found_text, vain_line}
+use Rattle.oct_views.specs.declared.overview.Form.{Form}
+use Rattle.oct_views.specs.declared.overview.Form.TheVariants.{Lines, Json}
 
 -- the nim-value of a heap, where a period is found, or where it is among those that were computed
 abbrev pub value_told : Code → Option SeenPeriod → ℕ → ℕ → Option ℕ
@@ -21,11 +21,7 @@ value_told c None values heap = if nat_lt heap values then Some (nim_value c hea
 
 -- the period, the heap from which on it holds, how many nim-values prove it, and how many were computed
 abbrev pub period_line : Code → SeenPeriod → ℕ → Text
-period_line c seen values = code_text c ++ found_text (Some (repeating c seen.start seen.period)) ++ labelled (codes " values ") values ++ codes "\n"
-
--- so many nim-values prove no period
-abbrev pub vain_line : Code → ℕ → Text
-vain_line c values = code_text c ++ labelled (codes " no period in ") values ++ codes " values\n"
+period_line c seen values = code_text c ++ found_text (repeating c seen.start seen.period) ++ labelled (codes " values ") values ++ codes "\n"
 
 abbrev pub game_line : Code → Option SeenPeriod → ℕ → Text
 game_line c (Some seen) values = period_line c seen values
@@ -78,6 +74,6 @@ abbrev pub json_text : Code → Option SeenPeriod → ℕ → List ℕ → Text
 json_text c found values heaps =
     codes "{\"code\":\"" ++ code_text c ++ found_members c found ++ labelled (codes ",\"values\":") values ++ heaps_member c found values heaps ++ codes "}\n"
 
-abbrev pub search_text : SearchForm → Code → Option SeenPeriod → ℕ → List ℕ → Text
+abbrev pub search_text : Form → Code → Option SeenPeriod → ℕ → List ℕ → Text
 search_text Lines = lines_text
 search_text Json = json_text

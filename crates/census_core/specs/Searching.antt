@@ -11,7 +11,7 @@ use Rattle.oct_search.specs.declared.error.SearchError.TheVariants as search
 use Rattle.census_core.specs.SearchTexts.{search_text}
 use Rattle.census_core.specs.declared.fault.Fault.{Fault}
 use Rattle.census_core.specs.declared.fault.Fault.TheVariants.{Number, PastValue, OutOfMemory}
-use Rattle.census_core.specs.declared.search_text.SearchForm.{SearchForm}
+use Rattle.oct_views.specs.declared.overview.Form.{Form}
 use Rattle.census_core.specs.declared.searching.TheConstants.{SEARCH_LIMIT}
 
 -- a number of nim-values that a search may compute
@@ -19,7 +19,7 @@ abbrev pub searchable : ℕ → Result ℕ Fault
 searchable count = if nat_le 1 count && nat_le count SEARCH_LIMIT then Ok count else Err Number
 
 -- the text names the least period that the first nim-values of the game prove, at most `count` of them, from the least heap; it holds for every heap
-pub record NamesPeriod (form : SearchForm) (c : Code) (count : ℕ) (heaps : List ℕ) (text : Text) : Type 0 where
+pub record NamesPeriod (form : Form) (c : Code) (count : ℕ) (heaps : List ℕ) (text : Text) : Type 0 where
   pub seen : SeenPeriod
   pub values : ℕ
   pub few : values ≤ count
@@ -27,11 +27,11 @@ pub record NamesPeriod (form : SearchForm) (c : Code) (count : ℕ) (heaps : Lis
   pub is : text ≡ search_text form c (Some seen) values heaps
 
 -- the first `count` nim-values prove none, and the text says so
-pub record NamesNone (form : SearchForm) (c : Code) (count : ℕ) (heaps : List ℕ) (text : Text) : Type 0 where
+pub record NamesNone (form : Form) (c : Code) (count : ℕ) (heaps : List ℕ) (text : Text) : Type 0 where
   pub none : NoneIsShown c count count
   pub is : text ≡ search_text form c None count heaps
 
-abbrev pub IsSearched : SearchForm → Code → ℕ → List ℕ → Text → Type 0
+abbrev pub IsSearched : Form → Code → ℕ → List ℕ → Text → Type 0
 IsSearched form c count heaps text = NamesPeriod form c count heaps text ⊎ NamesNone form c count heaps text
 
 -- ---- faults

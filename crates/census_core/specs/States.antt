@@ -1,9 +1,9 @@
 -- What the commands give that make a state, have it go on under another author, or merge a delta into it.
-use Rattle.std.specs.Prelude.{◌==◌, ◌-◌, ℕ, length, is_none, is_some, codes, Option, option_map, Result, Ok, Err, if◌then◌else◌}
+use Rattle.std.specs.Prelude.{◌≡◌, ◌==◌, ◌-◌, ℕ, length, is_none, is_some, codes, Option, option_map, Result, Ok, Err, if◌then◌else◌}
 use Rattle.oct_delta.specs.Decoding.{format_at, read_delta}
 use Rattle.oct_delta.specs.Taken.{operations_of}
 use Rattle.oct_delta.specs.Text.{Bytes}
-use Rattle.oct_ops.specs.Operations.{Operations, empty, listed, union}
+use Rattle.oct_ops.specs.Operations.{Operations, empty, listed, union, IsSubset}
 use Rattle.oct_ops.specs.Operation.{Dot}
 use Rattle.oct_record.specs.Content.{RecordContent}
 use Rattle.oct_record.specs.Numbers.{foreign_of, holds_any}
@@ -27,13 +27,6 @@ renumbered r id = if holds_any r.ops id then Err Held else saved (record r { aut
 
 abbrev pub renumber : ℕ → Bytes → Result Answer Fault
 renumber id state = if id == 0 then Err Zero else (loaded state >>= λ r. renumbered r id)
-
--- of two texts of one state, the dot of the least operation by the author of the first that the second has and the first has not
-abbrev pub first_foreign : Bytes → Bytes → Result (Option Dot) Fault
-first_foreign before later = do
-  was ← loaded before
-  now ← loaded later
-  Ok (option_map (λ o. o.dot) (foreign_of was.ops now.ops was.author))
 
 -- why bytes that are no delta are refused
 abbrev pub delta_refusal : Bytes → TakeError
@@ -64,6 +57,16 @@ abbrev pub rejoined : Bytes → RecordContent → Result Answer Fault
 rejoined state held = do
   kept ← loaded state
   if kept.author == held.author then united kept held.ops else Err Author
+
+-- the dot of the least operation by the author of a state file that is held, and that the file has not
+abbrev pub foreign_to : Bytes → RecordContent → Result (Option Dot) Fault
+foreign_to state held = loaded state >>= λ kept. Ok (option_map (λ o. o.dot) (foreign_of kept.ops held.ops kept.author))
+
+-- of what is held these so many operations were kept, under the same author
+pub record IsHeldBefore (kept : RecordContent) (before : ℕ) (held : RecordContent) : Type 0 where
+  pub author : kept.author ≡ held.author
+  pub all : IsSubset kept.ops held.ops
+  pub count : length (listed kept.ops) ≡ before
 
 -- the text of a session that brought nothing, where the state file says what is held: no operation is new there
 abbrev pub unchanged : RecordContent → Bytes

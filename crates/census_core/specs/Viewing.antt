@@ -16,6 +16,7 @@ use Rattle.oct_views.specs.Json.{document}
 use Rattle.oct_views.specs.Plot as picture
 use Rattle.oct_views.specs.Report as page
 use Rattle.oct_views.specs.Sheet.{game_sheet, sheet}
+use Rattle.oct_views.specs.declared.shown.Shown.{Shown}
 use Rattle.serde_json.specs.Written.{compact_text}
 use Rattle.census_core.specs.Codes.{code_of}
 use Rattle.census_core.specs.Replies.{Answer, said}
@@ -50,8 +51,8 @@ abbrev pub json_in : Operations → Text
 json_in ops = compact_text (document (sheet (listed ops))) ++ codes "\n"
 
 -- and as a page
-abbrev pub report_in : Operations → Text
-report_in ops = page.report (sheet (listed ops))
+abbrev pub report_in : Shown → Operations → Text
+report_in how ops = page.report how (sheet (listed ops))
 
 -- ---- the commands
 
@@ -70,5 +71,5 @@ plot state word = do
 abbrev pub json : Bytes → Result Answer Fault
 json state = loaded state >>= λ replica. Ok (said (json_in replica.ops))
 
-abbrev pub report : Bytes → Result Answer Fault
-report state = loaded state >>= λ replica. Ok (said (report_in replica.ops))
+abbrev pub report : Bytes → Shown → Result Answer Fault
+report state how = loaded state >>= λ replica. Ok (said (report_in how replica.ops))

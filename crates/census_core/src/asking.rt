@@ -4,7 +4,7 @@ ghost use Rattle.std.specs.Prelude.{◌≡◌, ◌≢◌, Ok, Err, IfOk, IfErr};
 ghost use Rattle.std.specs.List.{All};
 ghost use Rattle.oct_ops.specs.Operations.{listed};
 ghost use Rattle.oct_ops.specs.Valid.{IsOp};
-ghost use Rattle.census_core.specs.Asking.{delta, delta_of, page, page_of, value_of, value_text};
+ghost use Rattle.census_core.specs.Asking.{delta, delta_of, known_text, page, page_of, unknown_text, value_of, value_text};
 ghost use Rattle.census_core.specs.Lines.{outcome_line};
 ghost use Rattle.census_core.specs.Questions.{answered, told_of};
 ghost use Rattle.census_core.specs.Replies.{answer_of, said};
@@ -12,6 +12,7 @@ ghost use Rattle.census_core.specs.Viewing.{bfile_of, plot_of, proved_of};
 
 use crate::codes::read_code;
 use crate::fault::Fault;
+use crate::json_lines::{unknown_object, value_object};
 use crate::moving::move_text;
 use crate::reply::Reply;
 use crate::states::load;
@@ -21,7 +22,7 @@ use oct_ops::Period;
 use oct_pages::{game_of, write_page_of};
 use oct_period::{Game, Outcome, outcome_of};
 use oct_record::Record;
-use oct_views::{write_bfile, write_plot};
+use oct_views::{Form, write_bfile, write_plot};
 use std::alloc::{AllocError, Global};
 
 /// The reply of a text alone.
@@ -39,9 +40,9 @@ pub(crate) fn said(text: Vec<u8>) -> Reply
 #[derive(Clone, Copy)]
 pub(crate) enum Question<'a> {
     /// The value of a position, and who wins it.
-    Value(&'a [u64]),
+    Value(&'a [u64], Form),
     /// A winning move of a position.
-    Move(&'a [u64]),
+    Move(&'a [u64], Form),
     /// The known nim-values as a b-file.
     Bfile,
     /// The known nim-values as a picture.
@@ -74,25 +75,55 @@ fn answer_text(
     ensures { IfOk result (λ text. text.items ≡ told_of question.entry game.now) }
 {
     match question {
-        Question::Value(heaps) => value_text(alloc, game, heaps),
-        Question::Move(heaps) => move_text(alloc, game, heaps),
+        Question::Value(heaps, form) => value_text(alloc, game, heaps, form),
+        Question::Move(heaps, form) => move_text(alloc, game, heaps, form),
         Question::Bfile => bfile_text(alloc, game),
         Question::Plot => plot_text(alloc, game),
     }
 }
 
-// The lines of a position's value and of who wins it, or of the first heap whose nim-value is not known.
-fn value_text(alloc: Global, game: &Game<Global>, heaps: &[u64]) -> Result<Vec<u8>, AllocError>
-    ensures { IfOk result (λ text. text.items ≡ value_text game.now.code heaps.now (value_of game.now heaps.now)) }
+// A position's value and who wins it, or the first heap whose nim-value is not known.
+fn value_text(
+    alloc: Global,
+    game: &Game<Global>,
+    heaps: &[u64],
+    form: Form,
+) -> Result<Vec<u8>, AllocError>
+    ensures { IfOk result (λ text. text.items ≡ value_text form game.now.code heaps.now (value_of game.now heaps.now)) }
 {
     let position = game.position_value(heaps);
     match position {
-        Ok(value) => {
+        Ok(value) => known_text(alloc, value, &outcome_of(position), form),
+        Err(unknown) => unknown_text(alloc, unknown.index, form),
+    }
+}
+
+// A value and who wins.
+fn known_text(
+    alloc: Global,
+    value: u32,
+    outcome: &Outcome,
+    form: Form,
+) -> Result<Vec<u8>, AllocError>
+    ensures { IfOk result (λ text. text.items ≡ known_text form value outcome.now) }
+{
+    match form {
+        Form::Lines => {
             let mut text = number_line(alloc, b"value ", u64::from(value))?;
-            text.extend_from_slice(outcome_line(&outcome_of(position)))?;
+            text.extend_from_slice(outcome_line(outcome))?;
             Ok(text)
         }
-        Err(unknown) => number_line(alloc, b"unknown at ", unknown.index as u64),
+        Form::Json => value_object(alloc, value, outcome),
+    }
+}
+
+/// The place of the first heap whose nim-value is not known.
+pub(crate) fn unknown_text(alloc: Global, index: usize, form: Form) -> Result<Vec<u8>, AllocError>
+    ensures { IfOk result (λ text. text.items ≡ unknown_text form index) }
+{
+    match form {
+        Form::Lines => number_line(alloc, b"unknown at ", index as u64),
+        Form::Json => unknown_object(alloc, index),
     }
 }
 

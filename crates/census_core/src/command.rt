@@ -9,6 +9,7 @@ use crate::claiming::claim;
 use crate::fault::Fault;
 use crate::finding::find;
 use crate::issuing::{compute, import, note, unnote};
+use crate::overview::{games, show_only};
 use crate::progress::{Progress, Silent};
 use crate::reply::Reply;
 use crate::request::Request;
@@ -51,9 +52,9 @@ pub fn perform_watched<P: Progress>(
         Request::Extend { count, codes } => {
             give_turns(alloc, state, *count, codes, Aim::Extend, progress)
         }
-        Request::Find { codes } => find(alloc, state, codes),
-        Request::Survey { count, codes } => {
-            give_turns(alloc, state, *count, codes, Aim::Survey, progress)
+        Request::Find { codes, form } => find(alloc, state, codes, *form),
+        Request::Survey { count, codes, form } => {
+            give_turns(alloc, state, *count, codes, Aim::Survey(*form), progress)
         }
         Request::Period {
             code,
@@ -64,13 +65,19 @@ pub fn perform_watched<P: Progress>(
         Request::Unnote { name } => unnote(alloc, state, name),
         Request::Merge => merge(alloc, state, file),
         Request::Delta => delta(alloc, state),
-        Request::Value { code, heaps } => { answer(alloc, state, code, Question::Value(heaps)) }
-        Request::Move { code, heaps } => answer(alloc, state, code, Question::Move(heaps)),
+        Request::Value { code, heaps, form } => {
+            answer(alloc, state, code, Question::Value(heaps, *form))
+        }
+        Request::Move { code, heaps, form } => {
+            answer(alloc, state, code, Question::Move(heaps, *form))
+        }
         Request::Page { number } => page(alloc, state, *number),
         Request::Show => show(alloc, state, View::Catalogue),
         Request::Bfile { code } => answer(alloc, state, code, Question::Bfile),
         Request::Plot { code } => answer(alloc, state, code, Question::Plot),
         Request::Json => show(alloc, state, View::Json),
-        Request::Report => show(alloc, state, View::Report),
+        Request::Report { shown } => show(alloc, state, View::Report(*shown)),
+        Request::Games { codes, what, form } => games(alloc, state, codes, *what, *form),
+        Request::Only { codes, view } => show_only(alloc, state, codes, *view),
     }
 }

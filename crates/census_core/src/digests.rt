@@ -2,7 +2,7 @@
 
 ghost use Rattle.std.specs.Prelude.{◌≡◌, ◌≢◌, Ok, Err, IfOk, IfErr};
 ghost use Rattle.oct_record.specs.States.{has_tag};
-ghost use Rattle.census_core.specs.Digests.{digest_of, operations_in, text_of};
+ghost use Rattle.census_core.specs.Digests.{digest_of, digest_of_set, operations_in, text_of};
 
 use crate::fault::Fault;
 use crate::states::load;
@@ -24,13 +24,22 @@ pub fn digest(alloc: Global, file: &[u8]) -> Result<Vec<u8>, Fault>
     ensures err { IfErr result (λ e. e ≢ Fault.OutOfMemory → digest_of file.now ≡ Err e) }
 {
     let held = read_held(alloc, file)?;
-    let text = text_of(alloc, &held)?;
+    record_digest(alloc, &held)
+}
+
+/// The digest of the operations of a record: that of each file that holds them and no others. The fault is `TooMany`.
+/// `OutOfMemory` may come before that.
+pub fn record_digest(alloc: Global, held: &Record<Global>) -> Result<Vec<u8>, Fault>
+    ensures ok { IfOk result (λ digits. digest_of_set held.now.ops ≡ Ok digits.items) }
+    ensures err { IfErr result (λ e. e ≢ Fault.OutOfMemory → digest_of_set held.now.ops ≡ Err e) }
+{
+    let text = text_of(alloc, held)?;
     let digits = hex::encode(alloc, Sha256::digest(text.as_slice()))?;
     Ok(digits.into_bytes())
 }
 
-// What a file holds. The record of a delta issues nothing.
-fn read_held(alloc: Global, file: &[u8]) -> Result<Record<Global>, Fault>
+/// What a file holds. The record of a delta issues nothing.
+pub(crate) fn read_held(alloc: Global, file: &[u8]) -> Result<Record<Global>, Fault>
     ensures ok { IfOk result (λ held. operations_in file.now ≡ Ok held.ops) }
     ensures err { IfErr result (λ e. e ≢ Fault.OutOfMemory → operations_in file.now ≡ Err e) }
 {

@@ -18,8 +18,8 @@ use std::alloc::Global;
 // The most blocks that are issued of a game: together they have as many values as a game has places.
 const MOST_BLOCKS: u32 = 64;
 
-/// Refuses a number of values that no game has.
-pub(crate) fn check_count(count: u32) -> Result<(), Fault>
+/// Refuses, as `Number`, a number of values that no game has: 0, and more than `LIMIT`.
+pub fn check_count(count: u32) -> Result<(), Fault>
     ensures ok { OnOk result (wanted count ≡ Ok count) }
     ensures fits { OnOk result (count ≤ LIMIT) }
     ensures err { IfErr result (λ e. wanted count ≡ Err e) }

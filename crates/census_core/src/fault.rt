@@ -7,9 +7,10 @@ use oct_ops::{NoteError, PeriodError};
 use oct_record::RenumberError;
 use oct_replica::{ComputeError, IssueError, LoadError, RemovalError, TakeError};
 use oct_search::SearchError;
-use oct_sync::{SyncError, Unwritten};
+use oct_sync::SyncError;
 use oct_views::BfileError;
 use std::alloc::AllocError;
+use written::Unwritten;
 
 /// Why a command ended early. Its text is its name, and behind it the name of the cause, where there is one. A cause is
 /// never want of memory: that is `OutOfMemory`.

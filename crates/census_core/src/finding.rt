@@ -3,12 +3,13 @@
 ghost use Rattle.std.specs.Prelude.{◌≡◌, ◌≢◌, ◌++◌, Ok, Err, IfOk, IfErr, IfSome, OnOk, map};
 ghost use Rattle.std.specs.List.{flat_map};
 ghost use Rattle.oct_pages.specs.GamesIn.{content_in};
-ghost use Rattle.census_core.specs.Finding.{find, find_line, surveyed, with_claim};
+ghost use Rattle.census_core.specs.Finding.{find, find_line, found_told, surveyed, with_claim};
 ghost use Rattle.census_core.specs.Replies.{answer_of};
 
 use crate::asking::said;
 use crate::codes::read_codes;
 use crate::fault::Fault;
+use crate::json_lines::append_found_object;
 use crate::opened::issue_in;
 use crate::reply::Reply;
 use crate::states::load;
@@ -18,36 +19,68 @@ use oct_ops::{Body, Period};
 use oct_pages::game_of;
 use oct_period::Game;
 use oct_record::Record;
+use oct_views::Form;
 use std::alloc::{AllocError, Global};
 
 /// Says of each game which period its known values prove. One game is built at a time.
-pub(crate) fn find(alloc: Global, state: &[u8], codes: &[Vec<u8>]) -> Result<Reply, Fault>
-    ensures ok { IfOk result (λ reply. find state.now (map (λ word. word.items) codes.now) ≡ Ok (answer_of reply)) }
-    ensures err { IfErr result (λ e. e ≢ Fault.OutOfMemory → find state.now (map (λ word. word.items) codes.now) ≡ Err e) }
+pub(crate) fn find(
+    alloc: Global,
+    state: &[u8],
+    codes: &[Vec<u8>],
+    form: Form,
+) -> Result<Reply, Fault>
+    ensures ok { IfOk result (λ reply. find form state.now (map (λ word. word.items) codes.now) ≡ Ok (answer_of reply)) }
+    ensures err { IfErr result (λ e. e ≢ Fault.OutOfMemory → find form state.now (map (λ word. word.items) codes.now) ≡ Err e) }
 {
     let held = load(alloc, state)?;
     let codes = read_codes(alloc, codes)?;
-    let text = find_each(alloc, &held, &codes)?;
+    let text = find_each(alloc, &held, &codes, form)?;
     Ok(said(text))
 }
 
 // A line for each game.
-fn find_each(alloc: Global, held: &Record<Global>, codes: &[Code]) -> Result<Vec<u8>, AllocError>
-    ensures { IfOk result (λ text. text.items ≡ flat_map (find_line held.now.ops) codes.now) }
+fn find_each(
+    alloc: Global,
+    held: &Record<Global>,
+    codes: &[Code],
+    form: Form,
+) -> Result<Vec<u8>, AllocError>
+    ensures { IfOk result (λ text. text.items ≡ flat_map (find_line form held.now.ops) codes.now) }
 {
     let mut text = Vec::new(alloc);
     for code in codes {
-        append_line(&mut text, held, *code)?;
+        append_line(&mut text, held, *code, form)?;
     }
     Ok(text)
 }
 
 // Appends the line of a game.
-fn append_line(text: &mut Vec<u8>, held: &Record<Global>, code: Code) -> Result<(), AllocError>
-    ensures { OnOk result (text.new.items ≡ text.old.items ++ find_line held.now.ops code) }
+fn append_line(
+    text: &mut Vec<u8>,
+    held: &Record<Global>,
+    code: Code,
+    form: Form,
+) -> Result<(), AllocError>
+    ensures { OnOk result (text.new.items ≡ text.old.items ++ find_line form held.now.ops code) }
 {
     let game = game_of(held, code)?;
-    append_found(text, code, &game.find_period(), game.ledger().known())
+    append_told(text, code, &game.find_period(), game.ledger().known(), form)
+}
+
+// Appends which period is found of a game, what proves it, and how many of its values are known.
+fn append_told(
+    text: &mut Vec<u8>,
+    code: Code,
+    found: &Option<Period>,
+    known: u32,
+    form: Form,
+) -> Result<(), AllocError>
+    ensures { OnOk result (text.new.items ≡ text.old.items ++ found_told form code found.now known) }
+{
+    match form {
+        Form::Lines => append_found(text, code, found, known),
+        Form::Json => append_found_object(text, code, found, known),
+    }
 }
 
 /// Says which period the known values of a game prove, and claims it. The game is that of what was said.
@@ -56,14 +89,15 @@ pub(crate) fn survey_known(
     said: &mut Record<Global>,
     game: &mut Game<Global>,
     code: Code,
+    form: Form,
 ) -> Result<Vec<u8>, Fault>
     requires { game.old ≡ content_in said.old.ops code }
-    ensures ok { IfOk result (λ text. surveyed code said.old ≡ Ok (record { replica = said.new; text = text.items })) }
-    ensures err { IfErr result (λ e. e ≢ Fault.OutOfMemory → surveyed code said.old ≡ Err e) }
+    ensures ok { IfOk result (λ text. surveyed form code said.old ≡ Ok (record { replica = said.new; text = text.items })) }
+    ensures err { IfErr result (λ e. e ≢ Fault.OutOfMemory → surveyed form code said.old ≡ Err e) }
 {
     let found = game.find_period();
     let mut text = Vec::new(alloc);
-    append_found(&mut text, code, &found, game.ledger().known())?;
+    append_told(&mut text, code, &found, game.ledger().known(), form)?;
     claim_found(said, game, code, found)?;
     Ok(text)
 }

@@ -2,7 +2,7 @@
 
 ghost use Rattle.std.specs.Prelude.{◌≡◌, ◌≢◌, ◌<◌, ◌≤◌, length, IfOk, OnOk, IfSome, IfErr, IsErrOf};
 ghost use Rattle.std.specs.Io.KnownBytes.{Appends, Keeps};
-ghost use Rattle.oct_sync.specs.Output.{AppendsPrefix};
+ghost use Rattle.written.specs.Output.{AppendsPrefix};
 ghost use Rattle.census_core.specs.Folded.{folded, refused, taken};
 ghost use Rattle.census_core.specs.Inputs.{IsFoldFault, IsInputFault};
 
@@ -10,9 +10,9 @@ use crate::fault::Fault;
 use crate::input::INPUT_LIMIT;
 use crate::taken::{Intake, take_lines};
 use oct_pages::write_catalogue_of;
-use oct_sync::write_out;
 use std::alloc::Allocator;
 use std::io::{BufReader, Read, Write};
+use written::write_out;
 
 // How many bytes are asked for at a time.
 const READ_AHEAD: usize = 65_536;

@@ -6,9 +6,13 @@
 //! - `search` says which period the nim-values of a game prove, computed until they prove one, and the nim-values of any heaps;
 //!   `first_values` computes as many as are asked for, and `write_values` writes them as a b-file.
 //! - `check` compares a b-file with computed values.
-//! - `unite` makes one delta of several files.
-//! - `digest` names the set of operations of a file by 64 digits, and `first_foreign` says whether an author's number is used twice.
-//! - `rejoin` gives what a state file is to hold after a session, and `unchanged` what is said after one that brought nothing.
+//! - `unite` makes one delta of several files, and `read_together` the catalogue of what several files hold.
+//! - `digest` names the set of operations of a file by 64 digits.
+//! - `write_site` puts the files of a site on a `Shelf`, one game in memory at a time.
+//! - `rejoin` gives what a state file is to hold after a session, `rejoin_grown` does so where the file need not be read, and
+//!   `unchanged` what is said after a session that brought nothing.
+//! - `judge` says what became of the blocks and claims that are new to a state, and `tally` how many are proved, refuted and
+//!   pending.
 //! - `import_block` reads the block of a JSON value, and `number` a word of the command line.
 //! - `read_whole` reads all of a stream.
 //! - `Fault` says why a run ended early, and `laws` what holds of every state file.
@@ -30,42 +34,52 @@ mod import;
 mod import_error;
 mod input;
 mod issuing;
+mod json_lines;
 pub mod laws;
 mod lines;
 mod listing;
 mod moving;
 mod opened;
+mod overview;
 mod progress;
+mod reading;
 mod reply;
 mod request;
 mod search_text;
 mod searching;
+mod site;
 mod states;
 mod surveying;
 mod taken;
 mod texts;
 mod turning;
 mod unions;
+mod verdicts;
 mod viewing;
 mod words;
 
 pub use checking::{Checked, check};
 pub use command::{perform, perform_watched};
-pub use digests::digest;
+pub use digests::{digest, record_digest};
+pub use extending::check_count;
 pub use fault::Fault;
 pub use fold::{fold_intake, fold_lines};
 pub use import::import_block;
 pub use import_error::ImportError;
 pub use input::{INPUT_LIMIT, read_whole};
 pub use listing::write_values;
+pub use oct_views::{Form, Told};
 pub use progress::Progress;
+pub use reading::read_together;
 pub use reply::Reply;
 pub use request::Request;
-pub use search_text::SearchForm;
 pub use searching::{SEARCH_LIMIT, first_values, search};
-pub use states::{first_foreign, rejoin, unchanged};
+pub use site::{Shelf, write_site};
+pub use states::{Rejoined, rejoin, rejoin_grown, unchanged};
 pub use surveying::Aim;
 pub use taken::Intake;
 pub use turning::Turns;
 pub use unions::unite;
+pub use verdicts::{Judged, Verdict, judge, tally};
+pub use viewing::View;
 pub use words::number;

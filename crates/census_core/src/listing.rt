@@ -3,15 +3,15 @@
 ghost use Rattle.std.specs.Prelude.{◌≡◌, ◌++◌, ◌⊎◌, IfErr, OnErr, OnOk};
 ghost use Rattle.std.specs.Io.KnownBytes.{Appends};
 ghost use Rattle.oct_mex.specs.NimValues.{nim_values};
-ghost use Rattle.oct_sync.specs.Output.{AppendsPrefix};
+ghost use Rattle.written.specs.Output.{AppendsPrefix};
 ghost use Rattle.oct_views.specs.Bfile.{bfile_text, row_text};
 
 use crate::fault::Fault;
 use oct_pages::{append_labelled, append_number, append_text};
 use oct_search::Search;
-use oct_sync::write_out;
 use std::alloc::{AllocError, Global};
 use std::io::Write;
+use written::write_out;
 
 // Lines are gathered until they have so many bytes, and then written.
 const PIECE: usize = 65_536;
@@ -29,8 +29,8 @@ pub fn write_values<W: Write>(
     ensures faults { IfErr result (λ e. (e ≡ Fault.Write) ⊎ (e ≡ Fault.OutOfMemory)) }
 {
     let mut piece = Vec::new(alloc);
-    for (heap, value) in game.as_slice().iter().enumerate() {
-        append_row(&mut piece, heap, *value)?;
+    for heap in 0..game.len() {
+        append_row(&mut piece, heap, game.known(heap))?;
         if piece.len() >= PIECE {
             write_out(writer, &piece)?;
             piece.clear();

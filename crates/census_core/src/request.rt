@@ -1,5 +1,8 @@
 //! What a command asks for.
 
+use crate::viewing::View;
+use oct_views::{Form, Shown, Told};
+
 /// One command of the program over the bytes of its files: all but `fold`, `serve` and `sync`. Texts are as they stand on
 /// the command line.
 #[derive(Drop)]
@@ -31,11 +34,13 @@ pub enum Request {
     /// Looks for a period among the known nim-values of each code.
     Find {
         codes: Vec<Vec<u8>>,
+        form: Form,
     },
     /// Extends each code, looks for a period, and claims it.
     Survey {
         count: u32,
         codes: Vec<Vec<u8>>,
+        form: Form,
     },
     /// Issues the claim that a code's nim-values repeat from a heap on.
     Period {
@@ -60,11 +65,13 @@ pub enum Request {
     Value {
         code: Vec<u8>,
         heaps: Vec<u64>,
+        form: Form,
     },
     /// A winning move of a position.
     Move {
         code: Vec<u8>,
         heaps: Vec<u64>,
+        form: Form,
     },
     /// One page of the catalogue.
     Page {
@@ -82,6 +89,19 @@ pub enum Request {
     },
     /// All that is known as a JSON document.
     Json,
-    /// All that is known as a page.
-    Report,
+    /// All that is known as a page, with as many values of each game.
+    Report {
+        shown: Shown,
+    },
+    /// What is told of each code's game, or of each game where no code is named.
+    Games {
+        codes: Vec<Vec<u8>>,
+        what: Told,
+        form: Form,
+    },
+    /// All that is known of the games of these codes alone.
+    Only {
+        codes: Vec<Vec<u8>>,
+        view: View,
+    },
 }

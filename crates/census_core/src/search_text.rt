@@ -6,22 +6,15 @@ ghost use Rattle.oct_search.specs.Found.{IsFound, IsLeastShown};
 ghost use Rattle.oct_ops.specs.Operation.{repeating};
 ghost use Rattle.oct_period.specs.Periods.{needs};
 ghost use Rattle.census_core.specs.Finding.{found_text};
-ghost use Rattle.census_core.specs.SearchTexts.{found_members, game_line, heap_line, heap_object, heaps_member, json_text, lines_text, period_line, period_members, search_text, vain_line, value_member, value_text, value_told};
+ghost use Rattle.census_core.specs.SearchTexts.{found_members, game_line, heap_line, heap_object, heaps_member, json_text, lines_text, period_line, period_members, search_text, value_member, value_text, value_told};
 
+use crate::texts::append_vain_line;
 use oct_code::Code;
 use oct_mex::SeenPeriod;
 use oct_pages::{append_labelled, append_text};
 use oct_search::Search;
+use oct_views::Form;
 use std::alloc::{AllocError, Global};
-
-/// How a search says what it found.
-#[derive(Clone, Copy, Debug, PartialEq, Eq, Drop)]
-pub enum SearchForm {
-    /// A line for the game, and one for each heap that is asked for.
-    Lines,
-    /// One line of JSON.
-    Json,
-}
 
 /// What is said of a game in which this period is found, or none, and of some heaps.
 pub(crate) fn search_text(
@@ -29,14 +22,14 @@ pub(crate) fn search_text(
     game: &Search<Global>,
     found: Option<SeenPeriod>,
     heaps: &[u64],
-    form: SearchForm,
+    form: Form,
 ) -> Result<Vec<u8>, AllocError>
     requires { IsFound game.now.code game.now.len found }
     ensures { IfOk result (λ text. text.items ≡ search_text form game.now.code found game.now.len heaps.now) }
 {
     match form {
-        SearchForm::Lines => lines_text(alloc, game, found, heaps),
-        SearchForm::Json => json_text(alloc, game, found, heaps),
+        Form::Lines => lines_text(alloc, game, found, heaps),
+        Form::Json => json_text(alloc, game, found, heaps),
     }
 }
 
@@ -97,7 +90,7 @@ fn append_game_line(
 {
     match found {
         Some(seen) => append_period_line(text, game, seen),
-        None => append_vain_line(text, game.code(), game.len()),
+        None => append_vain_line(text, game.code(), game.len() as u64),
     }
 }
 
@@ -116,15 +109,6 @@ fn append_period_line(
     append_text(text, b"\n")
 }
 
-// Appends the line of a game of which so many nim-values prove no period.
-fn append_vain_line(text: &mut Vec<u8>, code: Code, values: usize) -> Result<(), AllocError>
-    ensures { OnOk result (text.new.items ≡ text.old.items ++ vain_line code values) }
-{
-    code.append_text(text)?;
-    append_labelled(text, b" no period in ", values)?;
-    append_text(text, b" values\n")
-}
-
 // Appends a period, its start, and how many values prove it.
 fn append_period(
     text: &mut Vec<u8>,
@@ -132,7 +116,7 @@ fn append_period(
     seen: SeenPeriod,
 ) -> Result<(), AllocError>
     requires { IsLeastShown game.now.code game.now.len seen }
-    ensures { OnOk result (text.new.items ≡ text.old.items ++ found_text (Some (repeating game.now.code seen.start seen.period))) }
+    ensures { OnOk result (text.new.items ≡ text.old.items ++ found_text (repeating game.now.code seen.start seen.period)) }
 {
     append_labelled(text, b" period ", seen.period)?;
     append_labelled(text, b" from ", seen.start)?;

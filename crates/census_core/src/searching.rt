@@ -6,10 +6,11 @@ ghost use Rattle.census_core.specs.Searching.{IsPastFrom, IsSearched, IsSearchFa
 
 use crate::fault::Fault;
 use crate::progress::Progress;
-use crate::search_text::{SearchForm, search_text};
+use crate::search_text::search_text;
 use oct_code::Code;
 use oct_mex::SeenPeriod;
 use oct_search::{MOST, Search, SearchError};
+use oct_views::Form;
 use std::alloc::Global;
 
 /// The most nim-values of a game that a search computes.
@@ -31,7 +32,7 @@ pub fn search<P: Progress>(
     code: Code,
     count: u64,
     heaps: &[u64],
-    form: SearchForm,
+    form: Form,
     progress: &mut P,
 ) -> Result<Vec<u8>, Fault>
     ensures ok { IfOk result (λ text. IsSearched form code count heaps.now text.items) }

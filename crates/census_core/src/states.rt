@@ -1,13 +1,14 @@
-//! The commands that make a state, have it go on under another author, or merge a delta into it; what a session leaves; whether
-//! an author's number is used twice; and states as files hold them.
+//! The commands that make a state, have it go on under another author, or merge a delta into it; what a session leaves; and
+//! states as files hold them.
 
-ghost use Rattle.std.specs.Prelude.{◌≡◌, ◌≢◌, Ok, Err, IfOk, IfErr};
+ghost use Rattle.std.specs.Prelude.{◌≡◌, ◌≢◌, ◌≤◌, length, Ok, Err, IfOk, IfErr};
 ghost use Rattle.std.specs.List.{All};
 ghost use Rattle.oct_delta.specs.Text.{Bytes};
 ghost use Rattle.oct_ops.specs.Operations.{listed};
 ghost use Rattle.oct_ops.specs.Valid.{IsOp};
+ghost use Rattle.oct_record.specs.Content.{RecordContent};
 ghost use Rattle.census_core.specs.Replies.{answer_of};
-ghost use Rattle.census_core.specs.States.{first_foreign, init, merge, rejoined, renumber, unchanged};
+ghost use Rattle.census_core.specs.States.{foreign_to, init, merge, rejoined, renumber, unchanged, united, IsHeldBefore};
 ghost use Rattle.census_core.specs.Stored.{loaded, saved};
 
 use crate::fault::Fault;
@@ -80,19 +81,6 @@ pub(crate) fn renumber(alloc: Global, state: &[u8], id: u32) -> Result<Reply, Fa
     save(alloc, &said, state.len(), text)
 }
 
-/// Whether the number of an author is used twice, by two texts of one state, of which `later` was written after `before`, and
-/// between which the state issued nothing: the dot of the least operation by the author of `before` that `later` holds and
-/// `before` does not; none where there is none. Someone else issues under that number, or `before` is an old copy. The first
-/// refusal is `Load` where `before` is no state, then where `later` is none. Want of memory is `OutOfMemory`.
-pub fn first_foreign(alloc: Global, before: &[u8], later: &[u8]) -> Result<Option<Dot>, Fault>
-    ensures ok { IfOk result (λ found. first_foreign before.now later.now ≡ Ok found) }
-    ensures err { IfErr result (λ e. e ≢ Fault.OutOfMemory → first_foreign before.now later.now ≡ Err e) }
-{
-    let held = load(alloc, before)?;
-    let now = load(alloc, later)?;
-    Ok(held.first_foreign(&now))
-}
-
 /// Takes the file's delta in.
 pub(crate) fn merge(alloc: Global, state: &[u8], file: &[u8]) -> Result<Reply, Fault>
     ensures ok { IfOk result (λ reply. merge state.now file.now ≡ Ok (answer_of reply)) }
@@ -105,23 +93,48 @@ pub(crate) fn merge(alloc: Global, state: &[u8], file: &[u8]) -> Result<Reply, F
     save(alloc, &said, state.len().saturating_add(file.len()), text)
 }
 
+/// What a state file is to hold after a session, and what was noticed.
+#[derive(Drop)]
+pub struct Rejoined {
+    /// The new text of the file, and how many operations are new to it and how many there are.
+    pub reply: Reply,
+    /// The dot of the least operation by the file's own author that was held and that the file had not; none where there is none.
+    /// Then someone else issues under that number, or the file is an old copy.
+    pub foreign: Option<Dot>,
+}
+
 /// What is to be written after a session: the union of what the state file holds now, for another command may have changed
 /// it meanwhile, and what the session held; the author stays. The text says how many operations are new to the
 /// file and how many there are. The first refusal is `Load` where the bytes are no state; then `Author` where they are
 /// another author's; then `TooMany`. Want of memory is `OutOfMemory`.
-pub fn rejoin(alloc: Global, state: &[u8], held: &Record<Global>) -> Result<Reply, Fault>
-    ensures ok { IfOk result (λ reply. rejoined state.now held.now ≡ Ok (answer_of reply)) }
+pub fn rejoin(alloc: Global, state: &[u8], held: &Record<Global>) -> Result<Rejoined, Fault>
+    ensures ok { IfOk result (λ done. rejoined state.now held.now ≡ Ok (answer_of done.reply)) }
+    ensures foreign { IfOk result (λ done. foreign_to state.now held.now ≡ Ok done.foreign) }
     ensures err { IfErr result (λ e. e ≢ Fault.OutOfMemory → rejoined state.now held.now ≡ Err e) }
 {
     let mut kept = load(alloc, state)?;
     if kept.author() != held.author() {
         return Err(Fault::Author);
     }
+    let foreign = kept.first_foreign(held);
     let before = kept.len();
     kept.join(held)?;
     let all = kept.len();
     let text = union_line(alloc, all - before, all)?;
-    save(alloc, &kept, state.len(), text)
+    let reply = save(alloc, &kept, state.len(), text)?;
+    Ok(Rejoined { reply, foreign })
+}
+
+/// The reply of `rejoin` over a state file that says no more than is held, under the same author, and has so many operations:
+/// what is held is written, and the file need not be read. The refusal is `TooMany`. Want of memory is `OutOfMemory`.
+pub fn rejoin_grown(alloc: Global, before: usize, held: &Record<Global>) -> Result<Reply, Fault>
+    requires { before ≤ length (listed held.now.ops) }
+    ensures ok { IfOk result (λ reply. (kept : RecordContent) → IsHeldBefore kept before held.now → united kept held.now.ops ≡ Ok (answer_of reply)) }
+    ensures err { IfErr result (λ e. e ≢ Fault.OutOfMemory → (kept : RecordContent) → IsHeldBefore kept before held.now → united kept held.now.ops ≡ Err e) }
+{
+    let all = held.len();
+    let text = union_line(alloc, all - before, all)?;
+    save(alloc, held, 0, text)
 }
 
 /// The text of a session that brought nothing, where the state file says what is held: that no operation is new to the file, and

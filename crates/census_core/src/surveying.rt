@@ -18,6 +18,7 @@ use crate::texts::extended_line;
 use oct_code::Code;
 use oct_pages::game_of;
 use oct_record::Record;
+use oct_views::Form;
 use std::alloc::Global;
 
 /// What is done with a game whose wanted values are known.
@@ -25,8 +26,8 @@ use std::alloc::Global;
 pub enum Aim {
     /// It is said how many blocks were issued.
     Extend,
-    /// The period that they prove is said and claimed.
-    Survey,
+    /// The period that they prove is said, in this form, and claimed.
+    Survey(Form),
 }
 
 /// Makes so many values of each game known, by blocks of the next ones, and does with it what is aimed at. `Number` is
@@ -88,6 +89,6 @@ pub(crate) fn turn<P: Progress>(
     let issued = extend_game(said, &mut game, code, count, progress)?;
     match aim {
         Aim::Extend => Ok(extended_line(alloc, code, game.ledger().known(), issued)?),
-        Aim::Survey => survey_known(alloc, said, &mut game, code),
+        Aim::Survey(form) => survey_known(alloc, said, &mut game, code, form),
     }
 }

@@ -1,9 +1,9 @@
 //! The lines that commands print.
 
-ghost use Rattle.std.specs.Prelude.{◌≡◌, ◌++◌, IfOk, OnOk};
+ghost use Rattle.std.specs.Prelude.{◌≡◌, ◌++◌, IfOk, OnOk, Some};
 ghost use Rattle.census_core.specs.Claiming.{claimed_line, range_line};
 ghost use Rattle.census_core.specs.Extending.{extended_line};
-ghost use Rattle.census_core.specs.Finding.{found_line, found_text};
+ghost use Rattle.census_core.specs.Finding.{found_line, found_text, vain_line};
 ghost use Rattle.oct_period.specs.Periods.{needs};
 ghost use Rattle.census_core.specs.Lines.{issued_line, number_line, renumbered_line, union_line};
 ghost use Rattle.census_core.specs.Moving.{left_text, move_line};
@@ -110,26 +110,51 @@ pub(crate) fn append_found(
 ) -> Result<(), AllocError>
     ensures { OnOk result (text.new.items ≡ text.old.items ++ found_line code found.now known) }
 {
-    code.append_text(text)?;
     match found {
-        Some(found) => append_period(text, found)?,
-        None => append_text(text, b" no period")?,
+        Some(found) => append_known_period(text, code, found, known),
+        None => append_vain_line(text, code, u64::from(known)),
     }
+}
+
+// Appends the line of a game of which a period is found.
+fn append_known_period(
+    text: &mut Vec<u8>,
+    code: Code,
+    found: &Period,
+    known: u32,
+) -> Result<(), AllocError>
+    ensures { OnOk result (text.new.items ≡ text.old.items ++ found_line code (Some found.now) known) }
+{
+    code.append_text(text)?;
+    append_period(text, found)?;
     append_labelled(text, b" known ", known)?;
     append_text(text, b"\n")
 }
 
+/// Appends the line of a game of which so many nim-values prove no period.
+pub(crate) fn append_vain_line(
+    text: &mut Vec<u8>,
+    code: Code,
+    values: u64,
+) -> Result<(), AllocError>
+    ensures { OnOk result (text.new.items ≡ text.old.items ++ vain_line code values) }
+{
+    code.append_text(text)?;
+    append_labelled(text, b" no period in ", values)?;
+    append_text(text, b" values\n")
+}
+
 // Appends a period, its start, and how many values prove it.
 fn append_period(text: &mut Vec<u8>, found: &Period) -> Result<(), AllocError>
-    ensures { OnOk result (text.new.items ≡ text.old.items ++ found_text (Some found.now)) }
+    ensures { OnOk result (text.new.items ≡ text.old.items ++ found_text found.now) }
 {
     append_labelled(text, b" period ", found.period())?;
     append_labelled(text, b" from ", found.start())?;
     append_labelled(text, b" needs ", needs(found))
 }
 
-// How many nim-values prove the claim.
-fn needs(claim: &Period) -> u64
+/// How many nim-values prove the claim.
+pub(crate) fn needs(claim: &Period) -> u64
     ensures { result ≡ needs claim.now }
 {
     2 * u64::from(claim.start()) + 2 * u64::from(claim.period()) + claim.code().len() as u64

@@ -21,7 +21,7 @@ use std::marker::Model;
 /// Games of a state that have their turns one at a time, so that whoever runs them can keep what is done before the last of them
 /// is. Each has the turn that it has in one command for all of them.
 ///
-///     let mut turns = Turns::begin(alloc, state, 1_000, &codes, Aim::Survey)?;
+///     let mut turns = Turns::begin(alloc, state, 1_000, &codes, Aim::Survey(Form::Lines))?;
 ///     let (turns, line) = turns.step(alloc, &mut progress)?;   // the first game, and its line
 ///     turns.reply(alloc, text)?                                // the state as it is now, and the lines
 #[derive(Drop)]

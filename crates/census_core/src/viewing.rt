@@ -13,18 +13,18 @@ use crate::reply::Reply;
 use crate::states::load;
 use oct_pages::write_catalogue_of;
 use oct_record::Record;
-use oct_views::{write_json, write_report};
+use oct_views::{Shown, write_json, write_report};
 use std::alloc::{AllocError, Global};
 
 /// A view of all that is known.
 #[derive(Clone, Copy)]
-pub(crate) enum View {
+pub enum View {
     /// The catalogue.
     Catalogue,
     /// A JSON document.
     Json,
-    /// A page.
-    Report,
+    /// A page, with as many values of each game.
+    Report(Shown),
 }
 
 /// All that is known, in a view.
@@ -37,19 +37,23 @@ pub(crate) fn show(alloc: Global, state: &[u8], view: View) -> Result<Reply, Fau
     Ok(said(text))
 }
 
-// The text of the view. It has one game in memory at a time.
-fn view_text(alloc: Global, held: &Record<Global>, view: View) -> Result<Vec<u8>, AllocError>
+/// The text of the view. It has one game in memory at a time.
+pub(crate) fn view_text(
+    alloc: Global,
+    held: &Record<Global>,
+    view: View,
+) -> Result<Vec<u8>, AllocError>
     ensures { IfOk result (λ text. text.items ≡ shown_in view held.now.ops) }
 {
     match view {
         View::Catalogue => catalogue_text(alloc, held),
         View::Json => json_text(alloc, held),
-        View::Report => report_text(alloc, held),
+        View::Report(how) => report_text(alloc, held, how),
     }
 }
 
-// The catalogue.
-fn catalogue_text(alloc: Global, held: &Record<Global>) -> Result<Vec<u8>, AllocError>
+/// The catalogue.
+pub(crate) fn catalogue_text(alloc: Global, held: &Record<Global>) -> Result<Vec<u8>, AllocError>
     ensures { IfOk result (λ text. text.items ≡ catalogue (listed held.now.ops)) }
 {
     let mut text = Vec::new(alloc);
@@ -68,10 +72,10 @@ fn json_text(alloc: Global, held: &Record<Global>) -> Result<Vec<u8>, AllocError
 }
 
 // The page.
-fn report_text(alloc: Global, held: &Record<Global>) -> Result<Vec<u8>, AllocError>
-    ensures { IfOk result (λ text. text.items ≡ report_in held.now.ops) }
+fn report_text(alloc: Global, held: &Record<Global>, how: Shown) -> Result<Vec<u8>, AllocError>
+    ensures { IfOk result (λ text. text.items ≡ report_in how held.now.ops) }
 {
     let mut text = Vec::new(alloc);
-    write_report(held, &mut text)?;
+    write_report(held, how, &mut text)?;
     Ok(text)
 }

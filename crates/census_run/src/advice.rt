@@ -1,9 +1,11 @@
 //! Words beside the lines that a command always writes to standard error.
 
-use census_core::Fault;
+use crate::explained::explanation;
+use crate::failure::Failure;
 use oct_ops::Dot;
 use std::alloc::{AllocError, Global};
 use std::io::Write;
+use written::write_out;
 
 /// Who reads standard error.
 #[derive(Clone, Copy)]
@@ -20,6 +22,7 @@ pub(crate) struct Audience {
 pub(crate) struct Advice<'a, E> {
     errors: &'a mut E,
     is_wanted: bool,
+    is_asked: bool,
 }
 
 impl<'a, E: Write> Advice<'a, E> {
@@ -28,12 +31,18 @@ impl<'a, E: Write> Advice<'a, E> {
         Advice {
             errors,
             is_wanted: audience.is_watching || audience.is_asking,
+            is_asked: audience.is_asking,
         }
     }
 
     /// Whether what is said is written.
     pub(crate) fn is_wanted(&self) -> bool {
         self.is_wanted
+    }
+
+    /// Whether it was asked for, and does not only stand on a terminal.
+    pub(crate) fn is_asked(&self) -> bool {
+        self.is_asked
     }
 
     /// The stream, for the lines that are always written.
@@ -58,12 +67,19 @@ impl<'a, E: Write> Advice<'a, E> {
         }
     }
 
-    /// Says what to do after the fault, where there is a way on.
-    pub(crate) fn explain(&mut self, fault: Fault) {
-        if let Fault::Issue(_) = fault {
-            self.say(
-                "the last number of this author is used: go on under a new one with census renumber",
-            );
+    /// Says what was wrong, and what to do.
+    pub(crate) fn explain(&mut self, alloc: Global, failure: &Failure) {
+        if self.is_wanted {
+            if let Ok(text) = explanation(alloc, failure) {
+                let _ = write_out(self.errors, text.as_bytes());
+            }
+        }
+    }
+
+    /// Writes the text as a line.
+    pub(crate) fn tell(&mut self, text: &str) {
+        if self.is_wanted {
+            let _ = writeln!(self.errors, "{text}");
         }
     }
 

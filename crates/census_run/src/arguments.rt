@@ -1,7 +1,8 @@
 //! The program over the words that it was called with.
 
 use crate::advice::Audience;
-use crate::program::{refuse, run_watched};
+use crate::failure::Failure;
+use crate::program::{report, run_watched};
 use census_core::Fault;
 use std::alloc::Global;
 use std::env::{self, Env};
@@ -25,7 +26,9 @@ where
         + AllocGlobal
         + Net<Stream = TcpStream, Listener = TcpListener>
         + Clock
-        + RandomSource,
+        + RandomSource
+        + Clone
+        + Drop,
     I: Read,
     O: Write,
     E: Write + IsTerminal,
@@ -36,7 +39,7 @@ where
     };
     match words_of(rt) {
         Ok(words) => run_watched(rt, &words, input, output, errors, audience),
-        Err(fault) => refuse(errors, fault),
+        Err(failure) => report(rt.alloc(), errors, audience, &failure),
     }
 }
 
@@ -49,11 +52,14 @@ fn is_asked<R: Env + AllocGlobal>(rt: &R) -> bool {
 }
 
 // The words, without the program's name.
-fn words_of<R: Env + AllocGlobal>(rt: &R) -> Result<Vec<String>, Fault> {
+fn words_of<R: Env + AllocGlobal>(rt: &R) -> Result<Vec<String>, Failure> {
     let alloc: Global = rt.alloc();
     match env::args(rt) {
         Ok(all) => Ok(all.skip(1).collect::<Vec<String>>(alloc)?),
-        Err(e) if e.kind() == ErrorKind::OutOfMemory => Err(Fault::OutOfMemory),
-        Err(_) => Err(Fault::Words),
+        Err(e) if e.kind() == ErrorKind::OutOfMemory => Err(Failure::from(Fault::OutOfMemory)),
+        Err(_) => {
+            let text = "a word of the command line is no text in UTF-8";
+            Err(Failure::from(Fault::Words).found(String::from_str(alloc, text)))
+        }
     }
 }

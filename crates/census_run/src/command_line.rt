@@ -9,7 +9,7 @@ use std::alloc::{AllocError, Global};
 pub(crate) fn command<'a>(alloc: Global, screen: &'a str) -> Result<Command<'a>, AllocError> {
     let mut command = Command::new(alloc, "census")
         .bin_name("census")?
-        .version("1.0.0")
+        .version("1.1.0")
         .override_help(screen)
         .no_binary_name(true)
         .subcommand_required(true)

@@ -24,6 +24,8 @@ pub(crate) struct Connection<'a, R> {
     stream: &'a TcpStream,
     silence: Duration,
     end: Option<Instant>,
+    /// The last error of the system.
+    error: Option<io::Error>,
 }
 
 impl<'a, R: Clock> Connection<'a, R> {
@@ -42,7 +44,13 @@ impl<'a, R: Clock> Connection<'a, R> {
             stream,
             silence: patience.silence,
             end,
+            error: None,
         })
+    }
+
+    /// The last error of the system, where there was one.
+    pub(crate) fn error(&self) -> Option<io::Error> {
+        self.error
     }
 
     // How long the next call may wait. The error is `TimedOut` where the session is over.
@@ -64,6 +72,10 @@ impl<R: Clock> Read for Connection<'_, R> {
             self.stream.set_read_timeout(Some(self.wait()?))?;
             match self.stream.read(buf) {
                 Err(e) if e.kind() == ErrorKind::Interrupted => {}
+                Err(e) => {
+                    self.error = Some(e);
+                    return Err(e);
+                }
                 done => return done,
             }
         }
@@ -77,6 +89,10 @@ impl<R: Clock> Write for Connection<'_, R> {
             self.stream.set_write_timeout(Some(self.wait()?))?;
             match self.stream.write(buf) {
                 Err(e) if e.kind() == ErrorKind::Interrupted => {}
+                Err(e) => {
+                    self.error = Some(e);
+                    return Err(e);
+                }
                 done => return done,
             }
         }

@@ -1,22 +1,34 @@
 //! Numbers of authors that nobody chooses.
 
+use crate::failure::Failure;
 use census_core::Fault;
+use std::alloc::Global;
 use std::random::RandomSource;
 
 // How often 0 may be drawn, one time after the other.
 const TRIES: u32 = 100;
 
 /// A number of an author, 1 to 4,294,967,295, from the randomness of the system. The fault is `File` where it gives none.
-pub(crate) fn draw_number<R: RandomSource>(rt: &R) -> Result<u32, Fault> {
+pub(crate) fn draw_number<R: AllocGlobal + RandomSource>(rt: &R) -> Result<u32, Failure> {
     for _ in 0..TRIES {
         let mut bytes = [0; 4];
         if rt.fill_bytes(&mut bytes).is_err() {
-            return Err(Fault::File);
+            return Err(undrawn(rt.alloc()));
         }
         let number = u32::from_be_bytes(bytes);
         if number != 0 {
             return Ok(number);
         }
     }
-    Err(Fault::File)
+    Err(undrawn(rt.alloc()))
+}
+
+// The failure of a number that the system does not draw.
+fn undrawn(alloc: Global) -> Failure {
+    let found = String::from_str(alloc, "the system draws no number");
+    let advice = String::from_str(
+        alloc,
+        "choose one that nobody else has: census init STATE ID",
+    );
+    Failure::from(Fault::File).found(found).advise(advice)
 }

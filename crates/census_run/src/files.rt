@@ -1,5 +1,7 @@
 //! The files of a command.
 
+use crate::failure::Failure;
+use crate::shown::{quoted, shown};
 use census_core::{Fault, INPUT_LIMIT, read_whole};
 use std::alloc::{AllocError, Global};
 use std::fs::{self, Metadata};
@@ -13,19 +15,84 @@ const LINKS: u32 = 40;
 
 /// All the bytes of a file. The fault is `File` where it can't be read, `TooLong` where it has more than `INPUT_LIMIT`
 /// bytes, and `OutOfMemory`.
-pub(crate) fn read_file<R: Files + AllocGlobal>(rt: &R, path: &str) -> Result<Vec<u8>, Fault> {
+pub(crate) fn read_file<R: Files + AllocGlobal>(rt: &R, path: &str) -> Result<Vec<u8>, Failure> {
     let mut file = open_file(rt, path)?;
-    read_open(rt.alloc(), &mut file)
+    read_open(rt.alloc(), &mut file, path)
+}
+
+/// All the bytes of a state, with the faults of `read_file`.
+pub(crate) fn read_state<R: Files + AllocGlobal>(rt: &R, path: &str) -> Result<Vec<u8>, Failure> {
+    match read_file(rt, path) {
+        Err(failure) => Err(stateless(rt.alloc(), failure, path)),
+        done => done,
+    }
+}
+
+/// The failure of a state that was to be read, with how one is made where there is none.
+pub(crate) fn stateless(alloc: Global, failure: Failure, path: &str) -> Failure {
+    if failure.is_missing() {
+        return failure.advise(made_text(alloc, path));
+    }
+    failure
+}
+
+fn made_text(alloc: Global, path: &str) -> Result<String, AllocError> {
+    let path = quoted(alloc, path)?;
+    format!(in alloc; "make one: census init --draw {path}")
+}
+
+/// All the bytes of a delta, with the faults of `read_file`.
+pub(crate) fn read_delta<R: Files + AllocGlobal>(rt: &R, path: &str) -> Result<Vec<u8>, Failure> {
+    match read_file(rt, path) {
+        Ok(bytes) => Ok(bytes),
+        Err(failure) => Err(deltaless(rt.alloc(), failure, path)),
+    }
+}
+
+// The failure of a delta that was to be read, with how one is written where there is none.
+fn deltaless(alloc: Global, failure: Failure, path: &str) -> Failure {
+    if failure.is_missing() {
+        return failure.advise(written_text(alloc, path));
+    }
+    failure
+}
+
+fn written_text(alloc: Global, path: &str) -> Result<String, AllocError> {
+    let path = quoted(alloc, path)?;
+    format!(in alloc; "write one from a state: census delta STATE {path}")
 }
 
 /// Opens a file to be read. Nothing is waited for: the fault is `File` also where a folder, a pipe, a socket or a
 /// device stands there, unless it is a stream that the program was started with, as `/dev/stdin`.
-pub(crate) fn open_file<R: Files>(rt: &R, path: &str) -> Result<R::File, Fault> {
+pub(crate) fn open_file<R: Files + AllocGlobal>(rt: &R, path: &str) -> Result<R::File, Failure> {
     match fs::metadata(rt, path) {
         Ok(there) if there.is_file() || is_own_stream(path) => {}
-        _ => return Err(Fault::File),
+        Ok(there) => return Err(no_file(rt.alloc(), path, &there)),
+        Err(error) => return Err(unread(rt.alloc(), path, error)),
     }
-    fs::open(rt, path).or(Err(Fault::File))
+    match fs::open(rt, path) {
+        Ok(file) => Ok(file),
+        Err(error) => Err(unread(rt.alloc(), path, error)),
+    }
+}
+
+// The failure of a file that can't be read, or can't be seen.
+fn unread(alloc: Global, path: &str, error: io::Error) -> Failure {
+    Failure::of(alloc, Fault::File, path).because(error)
+}
+
+/// The failure of what stands in the place of a file and is none.
+pub(crate) fn no_file(alloc: Global, path: &str, there: &Metadata) -> Failure {
+    let failure = Failure::of(alloc, Fault::File, path);
+    if there.is_dir() {
+        return failure.because(io::Error::from(ErrorKind::IsADirectory));
+    }
+    failure.found(no_file_text(alloc, path))
+}
+
+fn no_file_text(alloc: Global, path: &str) -> Result<String, AllocError> {
+    let path = shown(alloc, path)?;
+    format!(in alloc; "{path}: it is a pipe, a link or a device, and no plain file")
 }
 
 // Whether the path names a stream that the program was started with.
@@ -34,18 +101,23 @@ fn is_own_stream(path: &str) -> bool {
 }
 
 /// All the bytes of an open file.
-pub(crate) fn read_open<F: Read>(alloc: Global, file: &mut F) -> Result<Vec<u8>, Fault> {
+pub(crate) fn read_open<F: Read>(
+    alloc: Global,
+    file: &mut F,
+    path: &str,
+) -> Result<Vec<u8>, Failure> {
     match read_whole(alloc, file, INPUT_LIMIT) {
-        Err(Fault::Read) => Err(Fault::File),
-        done => done,
+        Ok(bytes) => Ok(bytes),
+        Err(Fault::Read) => Err(Failure::of(alloc, Fault::File, path)),
+        Err(fault) => Err(Failure::of(alloc, fault, path)),
     }
 }
 
 /// Whether anything stands at the path, be it a folder or a link that leads nowhere.
-pub(crate) fn exists<R: Files>(rt: &R, path: &str) -> Result<bool, Fault> {
+pub(crate) fn exists<R: Files + AllocGlobal>(rt: &R, path: &str) -> Result<bool, Failure> {
     match standing(rt, path) {
         Ok(there) => Ok(there.is_some()),
-        Err(_) => Err(Fault::File),
+        Err(error) => Err(unread(rt.alloc(), path, error)),
     }
 }
 
@@ -54,8 +126,8 @@ pub(crate) fn standing<R: Files>(rt: &R, path: &str) -> io::Result<Option<Metada
     unless_missing(fs::symlink_metadata(rt, path))
 }
 
-// What a call gave, unless nothing stands at its path.
-fn unless_missing<T>(given: io::Result<T>) -> io::Result<Option<T>> {
+/// What a call gave, unless nothing stands at its path.
+pub(crate) fn unless_missing<T>(given: io::Result<T>) -> io::Result<Option<T>> {
     match given {
         Ok(there) => Ok(Some(there)),
         Err(e) if e.kind() == ErrorKind::NotFound => Ok(None),
@@ -64,14 +136,19 @@ fn unless_missing<T>(given: io::Result<T>) -> io::Result<Option<T>> {
 }
 
 /// Whether both paths lead to one file; the first one leads to a file. The fault is `File` where that can't be seen.
-pub(crate) fn is_same_file<R: Files>(rt: &R, left: &str, right: &str) -> Result<bool, Fault> {
+pub(crate) fn is_same_file<R: Files + AllocGlobal>(
+    rt: &R,
+    left: &str,
+    right: &str,
+) -> Result<bool, Failure> {
     match (
         fs::metadata(rt, left),
         unless_missing(fs::metadata(rt, right)),
     ) {
         (Ok(one), Ok(Some(other))) => Ok(are_same(&one, &other)),
         (Ok(_), Ok(None)) => Ok(false),
-        _ => Err(Fault::File),
+        (Err(error), _) => Err(unread(rt.alloc(), left, error)),
+        (_, Err(error)) => Err(unread(rt.alloc(), right, error)),
     }
 }
 
@@ -119,9 +196,9 @@ fn beside_link(alloc: Global, link: &str, target: Path<'_>) -> Result<String, Al
 }
 
 /// Refuses what no file may hold. The fault is `TooLong`.
-pub(crate) fn check_length(bytes: &[u8]) -> Result<(), Fault> {
+pub(crate) fn check_length(alloc: Global, bytes: &[u8], path: &str) -> Result<(), Failure> {
     if bytes.len() as u64 > INPUT_LIMIT {
-        return Err(Fault::TooLong);
+        return Err(Failure::of(alloc, Fault::TooLong, path));
     }
     Ok(())
 }

@@ -1,14 +1,13 @@
 //! One session of a hub, which goes on when its connection is ready.
 
 use crate::connection::Patience;
-use crate::kept::Kept;
-use crate::network::Saved;
+use crate::failure::Failure;
+use crate::kept::{Kept, Settled};
 use census_core::Fault;
 use mio::net::TcpStream;
 use mio::{Interest, Registry, Token};
-use oct_ops::Dot;
-use oct_sync::{Progress, Session, SyncError};
-use std::alloc::Global;
+use oct_sync::{Session, Stage, SyncError};
+use std::alloc::{AllocError, Global};
 use std::fs::File;
 use std::io::{self, ErrorKind, Read, Write};
 use std::net::SocketAddr;
@@ -40,7 +39,7 @@ pub(crate) struct Guest {
     /// Whether an operation came that was not there.
     has_brought: bool,
     /// What stands in the state after the session; none before all came, and what came was saved.
-    saved: Option<Saved>,
+    settled: Option<Settled>,
     /// Whether the next read or write may go without waiting.
     is_ready: bool,
     /// Until when it may be silent.
@@ -71,7 +70,7 @@ impl Guest {
             sent: 0,
             came: 0,
             has_brought: false,
-            saved: None,
+            settled: None,
             is_ready: true,
             patient: now.checked_add(bounds.patience.silence),
             end,
@@ -106,23 +105,12 @@ impl Guest {
 
     /// Whether the session is done, and all of it was sent.
     pub(crate) fn is_over(&self) -> bool {
-        self.saved.is_some() && self.owed.is_empty()
+        self.settled.is_some() && self.owed.is_empty()
     }
 
-    /// What is said of the session where it is done.
-    pub(crate) fn text(&self) -> &[u8] {
-        match &self.saved {
-            Some(saved) => &saved.text,
-            None => &[],
-        }
-    }
-
-    /// An operation by the state's own number that its file never held, where one was saved with this session.
-    pub(crate) fn foreign(&self) -> Option<Dot> {
-        match &self.saved {
-            Some(saved) => saved.foreign,
-            None => None,
-        }
+    /// What stands in the state after the session, where it is done.
+    pub(crate) fn settled(&self) -> Option<&Settled> {
+        self.settled.as_ref()
     }
 
     /// Sends some of what is owed, or takes some of what came where nothing is, and waits for neither. After a fault
@@ -135,7 +123,7 @@ impl Guest {
         kept: &mut Kept,
         buffer: &mut [u8],
         now: Instant,
-    ) -> Result<(), Fault>
+    ) -> Result<(), Failure>
     where
         R: Files<File = File> + AllocGlobal,
     {
@@ -150,10 +138,10 @@ impl Guest {
     }
 
     // Sends some of what is owed.
-    fn send(&mut self, alloc: Global, now: Instant) -> Result<(), Fault> {
+    fn send(&mut self, alloc: Global, now: Instant) -> Result<(), Failure> {
         let rest = self.owed.get(self.sent..).unwrap_or(&[]);
         match self.stream.write(rest) {
-            Ok(0) => Err(Fault::Sync(SyncError::Write)),
+            Ok(0) => Err(Failure::from(Fault::Sync(SyncError::Write))),
             Ok(count) => {
                 self.hear(now);
                 self.sent = self.sent.saturating_add(count);
@@ -175,13 +163,13 @@ impl Guest {
         kept: &mut Kept,
         buffer: &mut [u8],
         now: Instant,
-    ) -> Result<(), Fault>
+    ) -> Result<(), Failure>
     where
         R: Files<File = File> + AllocGlobal,
     {
         let most = self.session.wanted().min(buffer.len());
         match self.stream.read(&mut buffer[..most]) {
-            Ok(0) => Err(Fault::Sync(SyncError::Cut)),
+            Ok(0) => Err(Failure::from(Fault::Sync(SyncError::Cut))),
             Ok(count) => {
                 self.hear(now);
                 self.take(rt, state, kept, &buffer[..count])
@@ -192,13 +180,16 @@ impl Guest {
 
     // Feeds the session what came, over the state as its file says now. Where the session is done, its last frame is
     // owed once all that came is saved.
-    fn take<R>(&mut self, rt: &R, state: &str, kept: &mut Kept, piece: &[u8]) -> Result<(), Fault>
+    fn take<R>(&mut self, rt: &R, state: &str, kept: &mut Kept, piece: &[u8]) -> Result<(), Failure>
     where
         R: Files<File = File> + AllocGlobal,
     {
         self.came = self.came.saturating_add(piece.len() as u64);
         if self.came > self.bounds.most {
-            return Err(Fault::TooLong);
+            return Err(Failure::from(Fault::TooLong).found(most_text(
+                rt.alloc(),
+                self.bounds.most,
+            )));
         }
         kept.renew(rt, state)?;
         let before = kept.said.len();
@@ -206,22 +197,22 @@ impl Guest {
         if kept.said.len() != before {
             self.has_brought = true;
         }
-        if let Progress::Done = fed? {
-            self.saved = Some(kept.settle(rt, state)?);
+        if let Stage::Done = fed? {
+            self.settled = Some(kept.settle(rt, state)?);
         }
         Ok(())
     }
 
     // After a call that was not done: it is made again at once where a signal interrupted it, and where the connection
     // was not ready, once that is reported. Any other error ends the session by the fault.
-    fn wait_after(&mut self, error: &io::Error, fault: SyncError) -> Result<(), Fault> {
+    fn wait_after(&mut self, error: &io::Error, fault: SyncError) -> Result<(), Failure> {
         match error.kind() {
             ErrorKind::Interrupted => Ok(()),
             ErrorKind::WouldBlock => {
                 self.is_ready = false;
                 Ok(())
             }
-            _ => Err(Fault::Sync(fault)),
+            _ => Err(Failure::from(Fault::Sync(fault)).because(*error)),
         }
     }
 
@@ -231,16 +222,45 @@ impl Guest {
     }
 
     // Refuses a peer that is waited for no longer, as a failed read, or a failed write where something is owed.
-    fn check_deadline(&self, now: Instant) -> Result<(), Fault> {
+    fn check_deadline(&self, now: Instant) -> Result<(), Failure> {
         match self.deadline() {
-            Some(deadline) if deadline <= now => Err(Fault::Sync(if self.owed.is_empty() {
-                SyncError::Read
-            } else {
-                SyncError::Write
-            })),
+            Some(deadline) if deadline <= now => Err(self.given_up(self.is_overdue(now))),
             _ => Ok(()),
         }
     }
+
+    // The failure of a peer that is waited for no longer, since its session is overdue or it was silent too long.
+    fn given_up(&self, is_overdue: bool) -> Failure {
+        let failure = Failure::from(Fault::Sync(self.awaited()));
+        if is_overdue {
+            return failure.because(io::Error::from(ErrorKind::TimedOut));
+        }
+        failure.because(io::Error::from(ErrorKind::WouldBlock))
+    }
+
+    // The fault of a peer that is silent: of a read, or of a write where something is owed.
+    fn awaited(&self) -> SyncError {
+        if self.owed.is_empty() {
+            SyncError::Read
+        } else {
+            SyncError::Write
+        }
+    }
+
+    // Whether the session has lasted as long as it may.
+    fn is_overdue(&self, now: Instant) -> bool {
+        match self.end {
+            Some(end) => end <= now,
+            None => false,
+        }
+    }
+}
+
+// What is said of a peer that sends too much.
+fn most_text(alloc: Global, most: u64) -> Result<String, AllocError> {
+    format!(in alloc;
+        "the other side sent over {most} bytes, the most that --most lets one session send"
+    )
 }
 
 /// The sooner of two times, of which there may be none.

@@ -1,27 +1,34 @@
 //! A hub: many sessions over TCP at once, in one thread.
 
 use crate::advice::foreign_text;
+use crate::explained::explanation;
+use crate::failure::Failure;
 use crate::guest::{Bounds, Guest, sooner};
-use crate::kept::Kept;
-use crate::network::{Place, bound};
+use crate::kept::{Kept, Settled};
+use crate::moment::Moment;
+use crate::net_failures::unserved;
+use crate::network::{Endpoint, bound};
 use census_core::Fault;
 use mio::net::TcpStream;
 use mio::{Events, Interest, Poll, Token};
 use oct_ops::Dot;
-use oct_sync::write_out;
 use slab::Slab;
 use std::alloc::Global;
 use std::fs::File;
-use std::io::{ErrorKind, Write};
+use std::io::{self, ErrorKind, Write};
 use std::net::{self, Net, SocketAddr};
 use std::rt::Files;
 use std::time::{Clock, Duration, Instant};
+use written::write_out;
 
 /// The most bytes of one read.
 const MAX_READ: usize = 65_536;
 
 /// For how many milliseconds no connection is taken after one could not be.
 const PAUSE: u64 = 100;
+
+/// How many digits of a digest are shown.
+const DIGITS: usize = 8;
 
 /// The listener among the sources of events. The others are the guests, by their keys.
 const LISTENER: Token = Token(usize::MAX);
@@ -41,7 +48,7 @@ pub(crate) struct Limits {
 #[derive(Drop)]
 struct Host<'a, R> {
     rt: &'a R,
-    place: Place<'a>,
+    endpoint: Endpoint<'a>,
     limits: Limits,
     kept: Kept,
     listener: mio::net::TcpListener,
@@ -65,11 +72,11 @@ struct Host<'a, R> {
 /// read first; then `Net`; and `Write`.
 pub(crate) fn hub<R, O, E>(
     rt: &R,
-    place: Place<'_>,
+    endpoint: Endpoint<'_>,
     limits: Limits,
     output: &mut O,
     errors: &mut E,
-) -> Result<(), Fault>
+) -> Result<(), Failure>
 where
     R: Files<File = File>
         + AllocGlobal
@@ -78,7 +85,7 @@ where
     O: Write,
     E: Write,
 {
-    let mut host = Host::open(rt, place, limits)?;
+    let mut host = Host::open(rt, endpoint, limits)?;
     host.say_where(output)?;
     for _ in 0..u64::MAX {
         if host.is_over() {
@@ -97,12 +104,12 @@ where
         + Clock,
 {
     // Reads the state, and then listens at the address.
-    fn open(rt: &'a R, place: Place<'a>, limits: Limits) -> Result<Host<'a, R>, Fault> {
-        let kept = Kept::read(rt, place.state)?;
-        let (listener, poll) = listening(rt, place.address)?;
+    fn open(rt: &'a R, endpoint: Endpoint<'a>, limits: Limits) -> Result<Host<'a, R>, Failure> {
+        let kept = Kept::read(rt, endpoint.state)?;
+        let (listener, poll) = listening(rt, endpoint.address)?;
         Ok(Host {
             rt,
-            place,
+            endpoint,
             limits,
             kept,
             listener,
@@ -117,9 +124,10 @@ where
     }
 
     // Says where it listens.
-    fn say_where<O: Write>(&self, output: &mut O) -> Result<(), Fault> {
-        let Ok(address) = self.listener.local_addr() else {
-            return Err(Fault::Net);
+    fn say_where<O: Write>(&self, output: &mut O) -> Result<(), Failure> {
+        let address = match self.listener.local_addr() {
+            Ok(address) => address,
+            Err(error) => return Err(self.unserved(error)),
         };
         let line = format!(in self.rt.alloc(); "listening on {address}\n")?;
         Ok(write_out(output, line.as_bytes())?)
@@ -132,7 +140,7 @@ where
 
     // Takes the connections that wait, waits until one is ready or a peer was silent too long, and lets each session
     // go on by a step.
-    fn turn<O: Write, E: Write>(&mut self, output: &mut O, errors: &mut E) -> Result<(), Fault> {
+    fn turn<O: Write, E: Write>(&mut self, output: &mut O, errors: &mut E) -> Result<(), Failure> {
         let now = self.now()?;
         self.take_connections(now, errors);
         self.wait(now)?;
@@ -144,8 +152,16 @@ where
     }
 
     // The time. The fault is `Net`.
-    fn now(&self) -> Result<Instant, Fault> {
-        Instant::now(self.rt).or(Err(Fault::Net))
+    fn now(&self) -> Result<Instant, Failure> {
+        match Instant::now(self.rt) {
+            Ok(now) => Ok(now),
+            Err(error) => Err(self.unserved(error)),
+        }
+    }
+
+    // The failure to go on at the address.
+    fn unserved(&self, error: io::Error) -> Failure {
+        unserved(self.rt.alloc(), self.endpoint.address, error)
     }
 
     // Whether a connection may wait for which there is room.
@@ -166,8 +182,8 @@ where
             match self.listener.accept() {
                 Ok((stream, peer)) => {
                     self.left = self.left.saturating_sub(1);
-                    if let Err(fault) = self.seat(stream, peer, now) {
-                        say_fault(errors, peer, fault);
+                    if let Err(failure) = self.seat(stream, peer, now) {
+                        say_failure(self.rt, errors, peer, failure);
                     }
                 }
                 Err(e) if e.kind() == ErrorKind::WouldBlock => self.is_called = false,
@@ -181,27 +197,27 @@ where
     }
 
     // Begins the session of a connection. The fault is `Net`, and `OutOfMemory`.
-    fn seat(&mut self, stream: TcpStream, peer: SocketAddr, now: Instant) -> Result<(), Fault> {
+    fn seat(&mut self, stream: TcpStream, peer: SocketAddr, now: Instant) -> Result<(), Failure> {
         let bounds = Bounds {
-            patience: self.place.patience,
+            patience: self.endpoint.patience,
             most: self.limits.most,
         };
         let mut guest = Guest::new(self.rt.alloc(), stream, peer, bounds, now);
         let token = Token(self.guests.vacant_key());
-        if guest.register(self.poll.registry(), token).is_err() {
-            return Err(Fault::Net);
+        if let Err(error) = guest.register(self.poll.registry(), token) {
+            return Err(self.unserved(error));
         }
         match self.guests.insert(guest) {
             Ok(_) => Ok(()),
-            Err(_) => Err(Fault::OutOfMemory),
+            Err(_) => Err(Failure::from(Fault::OutOfMemory)),
         }
     }
 
     // Waits until something is ready, or a time has come. The fault is `Net`.
-    fn wait(&mut self, now: Instant) -> Result<(), Fault> {
+    fn wait(&mut self, now: Instant) -> Result<(), Failure> {
         let timeout = self.timeout(now);
-        if self.poll.poll(&mut self.events, timeout).is_err() {
-            return Err(Fault::Net);
+        if let Err(error) = self.poll.poll(&mut self.events, timeout) {
+            return Err(self.unserved(error));
         }
         for event in &self.events {
             if event.token() == LISTENER {
@@ -238,78 +254,116 @@ where
         now: Instant,
         output: &mut O,
         errors: &mut E,
-    ) -> Result<(), Fault> {
+    ) -> Result<(), Failure> {
         let Some(guest) = self.guests.get_mut(key) else {
             return Ok(());
         };
-        let state = self.place.state;
+        let state = self.endpoint.state;
         match guest.step(self.rt, state, &mut self.kept, &mut self.buffer, now) {
             Ok(()) => {
                 if guest.is_over() {
                     if let Some(guest) = self.guests.try_remove(key) {
-                        say(self.rt.alloc(), &guest, output)?;
-                        warn_of_number(self.rt.alloc(), errors, guest.foreign());
+                        self.say(&guest, output, errors)?;
                     }
                 }
             }
-            Err(fault) => {
+            Err(failure) => {
                 if let Some(guest) = self.guests.try_remove(key) {
-                    self.give_up(guest, fault, errors);
+                    self.give_up(guest, failure, errors);
                 }
             }
         }
         Ok(())
     }
 
+    // Says how a session ended that was done.
+    fn say<O: Write, E: Write>(
+        &self,
+        guest: &Guest,
+        output: &mut O,
+        errors: &mut E,
+    ) -> Result<(), Failure> {
+        if let Some(settled) = guest.settled() {
+            let line = self.line(guest.peer, settled)?;
+            write_out(output, &line)?;
+            warn_of_number(self.rt.alloc(), errors, settled.foreign());
+        }
+        Ok(())
+    }
+
+    // The line of a session that was done: when and whose it was, how many operations are new and how many there are, the first
+    // digits of their digest, and by whom the new ones are.
+    fn line(&self, peer: SocketAddr, settled: &Settled) -> Result<Vec<u8>, Failure> {
+        let alloc = self.rt.alloc();
+        let mut line = Vec::new(alloc);
+        let front = format!(in alloc; "{} peer {peer} ", Moment::now(self.rt))?;
+        line.extend_from_slice(front.as_bytes())?;
+        line.extend_from_slice(settled.saved.text.trim_ascii_end())?;
+        line.extend_from_slice(b" digest ")?;
+        let digits = self.kept.digest();
+        line.extend_from_slice(digits.get(..DIGITS).unwrap_or(digits))?;
+        for (at, share) in settled.news.iter().enumerate() {
+            let mark = if at == 0 { ';' } else { ',' };
+            let text = format!(in alloc; "{mark} {} by {}", share.count, share.author)?;
+            line.extend_from_slice(text.as_bytes())?;
+        }
+        line.extend_from_slice(b"\n")?;
+        Ok(line)
+    }
+
     // Closes the connection of a session that a fault ended, and says which. What came before is saved, but not after
     // want of memory, or where the saving was what failed.
-    fn give_up<E: Write>(&mut self, guest: Guest, fault: Fault, errors: &mut E) {
+    fn give_up<E: Write>(&mut self, guest: Guest, failure: Failure, errors: &mut E) {
         let peer = guest.peer;
-        let is_to_save = guest.has_brought() && matches!(fault, Fault::Sync(_) | Fault::TooLong);
+        let is_of_peer = matches!(failure.fault, Fault::Sync(_) | Fault::TooLong);
+        let is_to_save = guest.has_brought() && is_of_peer;
         drop(guest);
         if is_to_save {
-            if let Ok(saved) = self.kept.settle(self.rt, self.place.state) {
-                warn_of_number(self.rt.alloc(), errors, saved.foreign);
+            if let Ok(settled) = self.kept.settle(self.rt, self.endpoint.state) {
+                warn_of_number(self.rt.alloc(), errors, settled.foreign());
             }
         }
-        say_fault(errors, peer, fault);
+        say_failure(self.rt, errors, peer, failure);
     }
 }
 
 // Listens at the address without waiting, and reports each connection under the token of the listener. The fault is
 // `Net`.
-fn listening<R>(rt: &R, address: &str) -> Result<(mio::net::TcpListener, Poll), Fault>
+fn listening<R>(rt: &R, address: &str) -> Result<(mio::net::TcpListener, Poll), Failure>
+where
+    R: AllocGlobal + Net<Stream = net::TcpStream, Listener = net::TcpListener>,
+{
+    let listener = bound(rt, address)?;
+    match polled(rt, listener) {
+        Ok(both) => Ok(both),
+        Err(error) => Err(unserved(rt.alloc(), address, error)),
+    }
+}
+
+// Has the listener's connections reported, and waits for none.
+fn polled<R>(rt: &R, listener: net::TcpListener) -> io::Result<(mio::net::TcpListener, Poll)>
 where
     R: Net<Stream = net::TcpStream, Listener = net::TcpListener>,
 {
-    let listener = bound(rt, address)?;
-    if listener.set_nonblocking(true).is_err() {
-        return Err(Fault::Net);
-    }
+    listener.set_nonblocking(true)?;
     let mut listener = mio::net::TcpListener::from_std(listener);
-    let Ok(poll) = Poll::new(rt) else {
-        return Err(Fault::Net);
-    };
-    match poll
-        .registry()
-        .register(&mut listener, LISTENER, Interest::READABLE)
-    {
-        Ok(()) => Ok((listener, poll)),
-        Err(_) => Err(Fault::Net),
+    let poll = Poll::new(rt)?;
+    poll.registry()
+        .register(&mut listener, LISTENER, Interest::READABLE)?;
+    Ok((listener, poll))
+}
+
+// Says why a session ended early, and what that means.
+fn say_failure<R, E>(rt: &R, errors: &mut E, peer: SocketAddr, failure: Failure)
+where
+    R: AllocGlobal + Clock,
+    E: Write,
+{
+    let fault = failure.fault;
+    let _ = writeln!(errors, "census: {} peer {peer} {fault}", Moment::now(rt));
+    if let Ok(text) = explanation(rt.alloc(), &failure) {
+        let _ = write_out(errors, text.as_bytes());
     }
-}
-
-// Says how a session ended that was done.
-fn say<O: Write>(alloc: Global, guest: &Guest, output: &mut O) -> Result<(), Fault> {
-    let front = format!(in alloc; "peer {} ", guest.peer)?;
-    let mut line = Vec::from_slice(alloc, front.as_bytes())?;
-    line.extend_from_slice(guest.text())?;
-    Ok(write_out(output, &line)?)
-}
-
-// Says why a session ended early.
-fn say_fault<E: Write>(errors: &mut E, peer: SocketAddr, fault: Fault) {
-    let _ = writeln!(errors, "census: peer {peer} {fault}");
 }
 
 // Warns that the state's own number is used twice, where an operation came by it that the state never held.
@@ -322,6 +376,6 @@ fn warn_of_number<E: Write>(alloc: Global, errors: &mut E, foreign: Option<Dot>)
 }
 
 // A buffer of this length.
-fn zeros(alloc: Global, len: usize) -> Result<Vec<u8>, Fault> {
+fn zeros(alloc: Global, len: usize) -> Result<Vec<u8>, Failure> {
     Ok(vec![in alloc; 0u8; len]?)
 }

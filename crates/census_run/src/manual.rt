@@ -1,9 +1,12 @@
 //! The page of the manual, made from the table of the commands, as roff.
 
+use crate::explained::name_of;
+use crate::fault_words::{FaultWords, faults, words_of};
 use crate::help::{EXAMPLE, TITLE, words_text};
-use crate::manual_texts::{DESCRIPTION, FILES, SEE_ALSO};
+use crate::manual_texts::{DESCRIPTION, FAULTS, FILES, SEE_ALSO};
 use crate::table::{Part, Row, parts};
 use crate::words::{self, Choice, Takes, Times, Word};
+use census_core::Fault;
 use std::alloc::{AllocError, Global};
 
 // What stands before the title, and between it and the description.
@@ -18,6 +21,8 @@ pub(crate) fn manual_page(alloc: Global) -> Result<String, AllocError> {
     for part in &parts() {
         append_part(alloc, &mut page, part)?;
     }
+    page.push_str(FILES)?;
+    append_faults(alloc, &mut page)?;
     append_back(&mut page)?;
     Ok(page)
 }
@@ -43,9 +48,33 @@ fn append_part(alloc: Global, page: &mut String, part: &Part) -> Result<(), Allo
     Ok(())
 }
 
-// What stands behind the commands.
+// What each fault means, and what to do.
+fn append_faults(alloc: Global, page: &mut String) -> Result<(), AllocError> {
+    page.push_str(FAULTS)?;
+    for group in &faults() {
+        for fault in *group {
+            append_fault(alloc, page, *fault)?;
+        }
+    }
+    Ok(())
+}
+
+// What a fault means, and what to do.
+fn append_fault(alloc: Global, page: &mut String, fault: Fault) -> Result<(), AllocError> {
+    let (name, status) = (name_of(alloc, fault)?, fault.status());
+    let FaultWords {
+        subject,
+        meaning,
+        remedy,
+    } = words_of(fault);
+    let head = format!(in alloc; ".TP\n.BR \"{name}\" \" (status {status})\"\n")?;
+    page.push_str(&head)?;
+    let text = format!(in alloc; "{subject} {meaning}.\nTo do: {remedy}.\n")?;
+    append_text(page, &text)
+}
+
+// What stands at the end.
 fn append_back(page: &mut String) -> Result<(), AllocError> {
-    page.push_str(FILES)?;
     page.push_str(".SH EXAMPLE\n.nf\n")?;
     append_text(page, EXAMPLE)?;
     page.push_str(".fi\n")?;

@@ -33,6 +33,8 @@ of
 of at most 4294967296) and
 .I HEAP
 is one of at most 18446744073709551615, each of one or more digits.
+Where a file is read or written beside a state, the word \- is standard input or output;
+./\- is a file of that name. Standard input is read first.
 The values of a block lie within the heaps 0 to 65535. The last page of a catalogue has the lines that are left.
 .B find
 says how many values of a game are known, too, and
@@ -40,7 +42,7 @@ says how many values of a game are known, too, and
 waits for its peer without limit.
 "#;
 
-/// What stands after them: files, security, statuses and faults.
+/// What stands after them, before the faults: files, security and statuses.
 pub(crate) const FILES: &str = r#".SH FILES
 .TP
 .I STATE
@@ -84,7 +86,13 @@ Where standard error is a terminal, where the option
 .B \-\-explain
 stands before or after the command, and where the variable
 .B CENSUS_EXPLAIN
-of the environment is 1, warnings and explanations stand there beside the lines that always do.
+of the environment is 1, warnings and explanations stand there beside the lines that always do. After
+.BR compute ", " import ", " claim ", " period ", " merge ", " sync " and " survey
+a line says there what became of the blocks and claims that are new: proved, pending, or refuted at
+which heap; of several, how many there are of each. On a terminal it is left out where that might take
+over a second, and with
+.B \-\-quiet
+everywhere.
 .SH SECURITY
 The connection is neither encrypted nor authenticated, and authors are believed. An address other
 than the loopback is for a
@@ -120,170 +128,17 @@ A file, a stream or the network.
 .TP
 4
 Memory.
-.SH FAULTS
+"#;
+
+/// What stands before the faults.
+pub(crate) const FAULTS: &str = r#".SH FAULTS
 The line on standard error is
 .B census:
-with one of these names and, where there is one, its cause.
-.SS Status 1
-.TP
-.B Load
-The state file is no state.
-.BR Version :
-it does not begin as one.
-.BR Refused :
-it is damaged.
-.TP
-.B Zero
-The author of a state is to be 0.
-.TP
-.B Held
-The state holds operations by the number that
-.B renumber
-was given.
-.TP
-.B Author
-The state file became another author's during a session; nothing was written.
-.TP
-.B Json
-The file is no JSON text.
-.TP
-.B Import
-The JSON value is no block.
-.BR Shape :
-it is no object with exactly the keys code, start and values.
-.BR Code :
-the code is no text of a code.
-.BR Start ", " Values :
-the start, or a value, is no whole number below 4294967296.
-.BR Empty ", " TooMany :
-there is no value, or over 1024.
-.BR PastLimit :
-the block ends beyond heap 65535.
-.TP
-.B Code
-The word is no code.
-.BR Form :
-it has no point, more than one byte before it, or nothing after it.
-.BR Head :
-the head is not 0 or 4.
-.BR Digit :
-a place is no digit 0 to 7.
-.BR Long :
-more than 16 digits are left when the zeros at the end are dropped.
-.TP
-.B Compute
-No block is computed.
-.BR Zero ", " TooMany :
-the count is 0, or over 1024.
-.BR AtLimit :
-all values up to heap 65535 are known.
-.TP
-.B Period
-No claim.
-.BR Zero :
-E or P is 0.
-.BR PastLimit :
-one is over 65536.
-.TP
-.B Note
-No note.
-.BR Name ", " Text :
-the name, or the text, is none.
-.TP
-.B Removal
-.BR NoNote :
-the state shows no note of the name.
-.BR TooMany :
-there are over 1024.
-.TP
-.B Merge
-The file is no delta.
-.BR Version :
-it does not begin as one.
-.BR Refused :
-it is damaged.
-.TP
-.BI Union " N"
-The file at the place
-.IR N ,
-counted from 1, is no delta, with the causes of
-.BR Merge .
-.TP
-.B NoPage
-The catalogue has no such page.
-.TP
-.B Issue
-.BR LastNumber :
-the author has used the last number, 4294967295.
-.TP
-.B TooMany
-There are over 4294967295 operations.
-.TP
-.B PastValue
-A value of
-.B search
-is above 65535.
-.TP
-.B Sync
-The other side's bytes are refused; what came before them is saved.
-.BR Frame :
-a length or tag that no frame has.
-.BR Order :
-a frame that is not due.
-.BR Clock ", " Delta :
-a frame that does not hold one.
-.BR Failed :
-the session had failed before.
-.SS Status 2
-.TP
-.B Number
-A word is no number of its range.
-.TP
-.B Words
-A word is not UTF-8, or one is missing.
-.SS Status 3
-.TP
-.B Exists
-Something stands in the place of the new state file.
-.TP
-.B File
-A file can't be read, written, locked or renamed.
-.TP
-.B Same
-The output of
-.B delta
-is the state file; nothing was written.
-.TP
-.B Occupied
-The output of
-.B delta
-stands and is no delta, or that of
-.B union
-is none of its inputs, or the name is that of the lock or of the new text of another file; nothing was written.
-.B \-\-replace
-writes it all the same.
-.TP
-.B TooLong
-An input or a file has over 1073741824 bytes.
-.TP
-.B Net
-The address can't be listened at or connected to.
-.TP
-.B Sync
-The session ended early; what came is saved.
-.BR Cut :
-the other side closed the connection.
-.BR Read ", " Write :
-a read or a write failed, or the other side was silent too long.
-.BR Turns :
-more than 1000000 reads would be needed.
-.TP
-.BR Read ", " Write
-Standard input failed; standard output failed, or took no byte.
-.SS Status 4
-.TP
-.B OutOfMemory
-A request for memory was refused.
+with one of these names and, where there is one, its cause; behind
+.B Union
+stands the place of the file before it, and behind
+.B Bfile
+the line after it. Each has its exit status, what it means, and what to do.
 "#;
 
 /// What stands at the end.

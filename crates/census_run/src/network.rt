@@ -2,25 +2,31 @@
 
 use crate::advice::Advice;
 use crate::connection::{Connection, Patience};
-use crate::files::read_file;
+use crate::diagnosis::{Given, of_state};
+use crate::failure::Failure;
+use crate::files::read_state;
+use crate::kept::record_of;
+use crate::net_failures::{unbound, unconnected, unmet, unserved};
 use crate::state_file::StateFile;
-use census_core::{Fault, rejoin};
+use crate::verdict_line::{is_told, say_of_records};
+use census_core::{Fault, Reply, rejoin};
 use oct_ops::Dot;
 use oct_record::Record;
-use oct_sync::{Role, SyncError, converse, drive, write_out};
+use oct_sync::{Role, SyncError, converse, drive};
 use std::alloc::Global;
 use std::fs::File;
-use std::io::Write;
+use std::io::{self, ErrorKind, Write};
 use std::net::{Net, SocketAddr, TcpListener, TcpStream, ToSocketAddrs};
 use std::rt::Files;
 use std::time::Clock;
+use written::write_out;
 
 // How many attempts in a row to take a peer may fail before `serve` ends.
 const ATTEMPTS: u32 = 100;
 
 /// A state, the address at which it meets its peers, and how long it waits for them there.
 #[derive(Clone, Copy)]
-pub(crate) struct Place<'a> {
+pub(crate) struct Endpoint<'a> {
     pub(crate) state: &'a str,
     pub(crate) address: &'a str,
     pub(crate) patience: Patience,
@@ -31,7 +37,7 @@ pub(crate) struct Place<'a> {
 pub(crate) struct Saved {
     /// How many operations are new to the file, and how many there are.
     pub(crate) text: Vec<u8>,
-    /// An operation by the state's own number that its file never held; none where there is none, or nobody asked.
+    /// An operation by the state's own number that its file never held; none where there is none.
     pub(crate) foreign: Option<Dot>,
 }
 
@@ -39,90 +45,146 @@ pub(crate) struct Saved {
 /// done, is sent once the state is saved. The state is saved also where the session ended early. The fault is that of the
 /// state, as it is read first; then `Net`; then that of the session, or else of the state, as it is saved; then that of the
 /// last frame.
-pub(crate) fn serve<R, E>(rt: &R, place: Place<'_>, advice: &mut Advice<'_, E>) -> Result<(), Fault>
+pub(crate) fn serve<R, E>(
+    rt: &R,
+    endpoint: Endpoint<'_>,
+    advice: &mut Advice<'_, E>,
+) -> Result<(), Failure>
 where
     R: Files<File = File> + AllocGlobal + Net<Stream = TcpStream, Listener = TcpListener> + Clock,
     E: Write,
 {
-    let said = load(rt, place.state)?;
-    let listener = bound(rt, place.address)?;
-    let (stream, _) = accepted(&listener)?;
-    answer(rt, place, said, &stream, advice)
+    let said = load(rt, endpoint.state)?;
+    let listener = bound(rt, endpoint.address)?;
+    let (stream, _) = accepted(rt, &listener, endpoint.address)?;
+    answer(rt, endpoint, said, &stream, advice)
 }
 
-/// Connects to the address, and has one session with what serves there, as this kind of client. The state is saved once the
-/// session is done, and also where it ended early. The fault is that of the state, as it is read first; then `Net`; then that
-/// of the session, or else of the state, as it is saved.
+/// What was held before a session and after it.
+#[derive(Drop)]
+pub(crate) struct Brought {
+    /// None where nobody wants to know.
+    before: Option<Record<Global>>,
+    later: Record<Global>,
+}
+
+impl Brought {
+    // What a state file says, before the session. It is kept where it is said afterwards what the session brought.
+    fn begin<R, E>(
+        rt: &R,
+        state: &str,
+        is_quiet: bool,
+        advice: &Advice<'_, E>,
+    ) -> Result<Brought, Failure>
+    where
+        R: Files + AllocGlobal,
+        E: Write,
+    {
+        let bytes = read_state(rt, state)?;
+        let later = record_of(rt.alloc(), state, &bytes)?;
+        let before = if !is_quiet && is_told(&bytes, advice) {
+            Record::load(rt.alloc(), &bytes).ok()
+        } else {
+            None
+        };
+        Ok(Brought { before, later })
+    }
+
+    /// Says what became of what the session brought, where that is wanted.
+    pub(crate) fn tell<E: Write>(&self, alloc: Global, state: &str, advice: &mut Advice<'_, E>) {
+        if let Some(before) = &self.before {
+            say_of_records(alloc, state, before, &self.later, advice);
+        }
+    }
+}
+
+/// Connects to the address, and has one session with what serves there, as this kind of client. The state is saved once
+/// the session is done, and also where it ended early. What it brought is kept, unless nothing is to be said. The fault is
+/// that of the state, as it is read first; then `Net`; then that of the session, or else of the state, as it is saved.
 pub(crate) fn sync<R, E>(
     rt: &R,
-    place: Place<'_>,
+    endpoint: Endpoint<'_>,
     role: Role,
+    is_quiet: bool,
     advice: &mut Advice<'_, E>,
-) -> Result<(), Fault>
+) -> Result<Brought, Failure>
 where
     R: Files<File = File> + AllocGlobal + Net<Stream = TcpStream, Listener = TcpListener> + Clock,
     E: Write,
 {
-    let mut said = load(rt, place.state)?;
-    let stream = connected(rt, place.address, place.patience)?;
-    let ended = exchange(rt, role, place.patience, &mut said, &stream);
-    settle(rt, place.state, &said, ended, advice)
+    let mut brought = Brought::begin(rt, endpoint.state, is_quiet, advice)?;
+    let stream = connected(rt, endpoint.address, endpoint.patience)?;
+    let ended = exchange(rt, role, endpoint, &mut brought.later, &stream);
+    settle(rt, endpoint.state, &brought.later, ended, advice)?;
+    Ok(brought)
 }
 
 // What a state file says. No nim-value is computed.
-fn load<R: Files + AllocGlobal>(rt: &R, state: &str) -> Result<Record<Global>, Fault> {
-    let bytes = read_file(rt, state)?;
-    Ok(Record::load(rt.alloc(), &bytes)?)
+fn load<R: Files + AllocGlobal>(rt: &R, state: &str) -> Result<Record<Global>, Failure> {
+    let bytes = read_state(rt, state)?;
+    record_of(rt.alloc(), state, &bytes)
 }
 
 /// Listens at the address. The fault is `Net`.
-pub(crate) fn bound<R>(rt: &R, address: &str) -> Result<TcpListener, Fault>
+pub(crate) fn bound<R>(rt: &R, address: &str) -> Result<TcpListener, Failure>
 where
-    R: Net<Stream = TcpStream, Listener = TcpListener>,
+    R: AllocGlobal + Net<Stream = TcpStream, Listener = TcpListener>,
 {
-    TcpListener::bind(rt, address).or(Err(Fault::Net))
+    match TcpListener::bind(rt, address) {
+        Ok(listener) => Ok(listener),
+        Err(error) => Err(unbound(rt.alloc(), address, error)),
+    }
 }
 
 // Connects to the first of the address's places that answers within the peer's patience. The fault is `Net`.
-fn connected<R>(rt: &R, address: &str, patience: Patience) -> Result<TcpStream, Fault>
+fn connected<R>(rt: &R, address: &str, patience: Patience) -> Result<TcpStream, Failure>
 where
-    R: Net<Stream = TcpStream, Listener = TcpListener>,
+    R: AllocGlobal + Net<Stream = TcpStream, Listener = TcpListener>,
 {
-    let Ok(places) = address.to_socket_addrs(rt) else {
-        return Err(Fault::Net);
+    let places = match address.to_socket_addrs(rt) {
+        Ok(places) => places,
+        Err(error) => return Err(unmet(rt.alloc(), address, error)),
     };
+    let mut last = io::Error::from(ErrorKind::AddrNotAvailable);
     for place in places {
-        if let Ok(stream) = TcpStream::connect_timeout(rt, &place, patience.silence) {
-            return Ok(stream);
+        match TcpStream::connect_timeout(rt, &place, patience.silence) {
+            Ok(stream) => return Ok(stream),
+            Err(error) => last = error,
         }
     }
-    Err(Fault::Net)
+    Err(unconnected(rt.alloc(), address, last))
 }
 
 // The next connection, and who made it. The fault is `Net`.
-fn accepted(listener: &TcpListener) -> Result<(TcpStream, SocketAddr), Fault> {
+fn accepted<R: AllocGlobal>(
+    rt: &R,
+    listener: &TcpListener,
+    address: &str,
+) -> Result<(TcpStream, SocketAddr), Failure> {
+    let mut last = io::Error::from(ErrorKind::Interrupted);
     for _ in 0..ATTEMPTS {
-        if let Ok(connection) = listener.accept() {
-            return Ok(connection);
+        match listener.accept() {
+            Ok(connection) => return Ok(connection),
+            Err(error) => last = error,
         }
     }
-    Err(Fault::Net)
+    Err(unserved(rt.alloc(), address, last))
 }
 
 // Answers a client over the connection, and saves what is held then; after that the client is told, by the last frame. Where
 // the state can't be saved, it is not told.
 fn answer<R, E>(
     rt: &R,
-    place: Place<'_>,
+    endpoint: Endpoint<'_>,
     mut said: Record<Global>,
     stream: &TcpStream,
     advice: &mut Advice<'_, E>,
-) -> Result<(), Fault>
+) -> Result<(), Failure>
 where
     R: Files<File = File> + AllocGlobal + Clock,
     E: Write,
 {
-    let (mut reader, mut writer) = both_ways(rt, place.patience, stream)?;
+    let (mut reader, mut writer) = both_ways(rt, endpoint, stream)?;
     let ended = converse(
         rt.alloc(),
         Role::Server,
@@ -132,10 +194,16 @@ where
     );
     match ended {
         Ok(last) => {
-            settle(rt, place.state, &said, Ok(()), advice)?;
-            write_out(&mut writer, &last).or(Err(Fault::Sync(SyncError::Write)))
+            settle(rt, endpoint.state, &said, Ok(()), advice)?;
+            match write_out(&mut writer, &last) {
+                Ok(()) => Ok(()),
+                Err(_) => Err(ended_by(rt, endpoint, SyncError::Write, &reader, &writer)),
+            }
         }
-        Err(fault) => settle(rt, place.state, &said, Err(Fault::from(fault)), advice),
+        Err(cause) => {
+            let failure = ended_by(rt, endpoint, cause, &reader, &writer);
+            settle(rt, endpoint.state, &said, Err(failure), advice)
+        }
     }
 }
 
@@ -145,20 +213,21 @@ fn settle<R, E>(
     rt: &R,
     state: &str,
     said: &Record<Global>,
-    ended: Result<(), Fault>,
+    ended: Result<(), Failure>,
     advice: &mut Advice<'_, E>,
-) -> Result<(), Fault>
+) -> Result<(), Failure>
 where
     R: Files<File = File> + AllocGlobal,
     E: Write,
 {
     match ended {
         Ok(()) => save_telling(rt, state, said, advice),
-        Err(Fault::Sync(fault)) => {
-            let _ = save_telling(rt, state, said, advice);
-            Err(Fault::Sync(fault))
+        Err(failure) => {
+            if let Fault::Sync(_) = failure.fault {
+                let _ = save_telling(rt, state, said, advice);
+            }
+            Err(failure)
         }
-        Err(fault) => Err(fault),
     }
 }
 
@@ -168,12 +237,12 @@ fn save_telling<R, E>(
     state: &str,
     said: &Record<Global>,
     advice: &mut Advice<'_, E>,
-) -> Result<(), Fault>
+) -> Result<(), Failure>
 where
     R: Files<File = File> + AllocGlobal,
     E: Write,
 {
-    let saved = save(rt, state, said, advice.is_wanted())?;
+    let saved = save(rt, state, said)?;
     advice.warn_of_number(rt.alloc(), saved.foreign);
     Ok(())
 }
@@ -182,80 +251,105 @@ where
 fn exchange<R>(
     rt: &R,
     role: Role,
-    patience: Patience,
+    endpoint: Endpoint<'_>,
     said: &mut Record<Global>,
     stream: &TcpStream,
-) -> Result<(), Fault>
+) -> Result<(), Failure>
 where
     R: AllocGlobal + Clock,
 {
-    let (mut reader, mut writer) = both_ways(rt, patience, stream)?;
-    Ok(drive(rt.alloc(), role, said, &mut reader, &mut writer)?)
-}
-
-// The two directions of a connection, whose session begins now. The fault is `Net`.
-fn both_ways<'a, R: Clock>(
-    rt: &'a R,
-    patience: Patience,
-    stream: &'a TcpStream,
-) -> Result<(Connection<'a, R>, Connection<'a, R>), Fault> {
-    match (
-        Connection::new(rt, stream, patience),
-        Connection::new(rt, stream, patience),
-    ) {
-        (Ok(reader), Ok(writer)) => Ok((reader, writer)),
-        _ => Err(Fault::Net),
+    let (mut reader, mut writer) = both_ways(rt, endpoint, stream)?;
+    match drive(rt.alloc(), role, said, &mut reader, &mut writer) {
+        Ok(()) => Ok(()),
+        Err(cause) => Err(ended_by(rt, endpoint, cause, &reader, &writer)),
     }
 }
 
-/// Saves the union of what the state file holds now and what is held, while no other command changes the file. Where it
-/// is asked for, it is also seen whether the state's own number is used twice.
-pub(crate) fn save<R>(
+// The failure of a session over these connections.
+fn ended_by<R: AllocGlobal>(
     rt: &R,
-    state: &str,
-    said: &Record<Global>,
-    is_asked: bool,
-) -> Result<Saved, Fault>
+    endpoint: Endpoint<'_>,
+    cause: SyncError,
+    reader: &Connection<'_, R>,
+    writer: &Connection<'_, R>,
+) -> Failure
+where
+    R: Clock,
+{
+    let failure = Failure::of(rt.alloc(), Fault::from(cause), endpoint.address);
+    let error = match cause {
+        SyncError::Read => reader.error(),
+        SyncError::Write => writer.error(),
+        _ => None,
+    };
+    match error {
+        Some(error) => failure.because(error),
+        None => failure,
+    }
+}
+
+// The two directions of a connection, whose session begins now. The fault is `Net`.
+fn both_ways<'a, R: AllocGlobal + Clock>(
+    rt: &'a R,
+    endpoint: Endpoint<'_>,
+    stream: &'a TcpStream,
+) -> Result<(Connection<'a, R>, Connection<'a, R>), Failure> {
+    match (
+        Connection::new(rt, stream, endpoint.patience),
+        Connection::new(rt, stream, endpoint.patience),
+    ) {
+        (Ok(reader), Ok(writer)) => Ok((reader, writer)),
+        _ => Err(Failure::of(rt.alloc(), Fault::Net, endpoint.address)),
+    }
+}
+
+/// Saves the union of what the state file holds now and what is held, while no other command changes the file.
+pub(crate) fn save<R>(rt: &R, state: &str, said: &Record<Global>) -> Result<Saved, Failure>
 where
     R: Files<File = File> + AllocGlobal,
 {
     let file = StateFile::wait(rt, state)?;
-    let saved = save_held(rt, &file, state, said, is_asked);
+    let saved = save_held(rt, &file, state, said);
     file.release(rt);
     saved
 }
 
-// The same, while no other command changes the file.
-fn save_held<R>(
+/// The same, while no other command changes the file.
+pub(crate) fn save_held<R>(
     rt: &R,
     file: &StateFile,
     state: &str,
     said: &Record<Global>,
-    is_asked: bool,
-) -> Result<Saved, Fault>
+) -> Result<Saved, Failure>
 where
     R: Files<File = File> + AllocGlobal,
 {
-    let bytes = read_file(rt, state)?;
-    let reply = rejoin(rt.alloc(), &bytes, said)?;
-    if let Some(text) = &reply.state {
-        file.replace(rt, text)?;
-    }
+    let bytes = read_state(rt, state)?;
+    let rejoined = match rejoin(rt.alloc(), &bytes, said) {
+        Ok(rejoined) => rejoined,
+        Err(fault) => return Err(unjoined(rt.alloc(), fault, state, &bytes)),
+    };
     Ok(Saved {
-        text: reply.text,
-        foreign: if is_asked {
-            foreign_to(rt, &bytes, said)
-        } else {
-            None
-        },
+        foreign: rejoined.foreign,
+        text: written(rt, file, rejoined.reply)?,
     })
 }
 
-// The first operation by the state's own number that is held and that its text did not have; none also where memory is
-// refused, since all is saved by then.
-fn foreign_to<R: AllocGlobal>(rt: &R, before: &[u8], said: &Record<Global>) -> Option<Dot> {
-    match Record::load(rt.alloc(), before) {
-        Ok(before) => before.first_foreign(said),
-        Err(_) => None,
+/// Writes the state of the reply, and gives its text.
+pub(crate) fn written<R>(rt: &R, file: &StateFile, reply: Reply) -> Result<Vec<u8>, Failure>
+where
+    R: Files<File = File> + AllocGlobal,
+{
+    if let Some(text) = &reply.state {
+        file.replace(rt, text)?;
+    }
+    Ok(reply.text)
+}
+
+// The failure of a state to which a session is not added.
+fn unjoined(alloc: Global, fault: Fault, name: &str, bytes: &[u8]) -> Failure {
+    match fault {
+        Fault::Load(cause) => of_state(alloc, cause, Given { name, bytes }),
+        _ => Failure::of(alloc, fault, name),
     }
 }

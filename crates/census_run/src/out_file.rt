@@ -1,12 +1,16 @@
 //! The file of a delta that a command writes.
 
 use crate::advice::Advice;
-use crate::files::{check_length, is_same_file, read_file, standing};
+use crate::failure::Failure;
+use crate::files::{check_length, is_same_file, no_file, read_file, standing};
+use crate::shown::shown;
 use crate::state_file::StateFile;
+use crate::streams::is_standard;
 use census_core::Fault;
 use oct_delta::read_ops;
+use std::alloc::{AllocError, Global};
 use std::fs::{self, File};
-use std::io::Write;
+use std::io::{self, Write};
 use std::os::unix::fs::FileTypeExt;
 use std::rt::Files;
 use std::time::Clock;
@@ -44,7 +48,7 @@ impl Out<'_> {
         rt: &R,
         bytes: &[u8],
         advice: &mut Advice<'_, E>,
-    ) -> Result<(), Fault>
+    ) -> Result<(), Failure>
     where
         R: Files<File = File> + AllocGlobal + Clock,
         E: Write,
@@ -67,12 +71,12 @@ impl Out<'_> {
         replaced: Replaced<'_>,
         bytes: &[u8],
         advice: &mut Advice<'_, E>,
-    ) -> Result<(), Fault>
+    ) -> Result<(), Failure>
     where
         R: Files<File = File> + AllocGlobal,
         E: Write,
     {
-        check_length(bytes)?;
+        check_length(rt.alloc(), bytes, self.path)?;
         if !self.is_forced {
             check_free(rt, file.path(), replaced)?;
         }
@@ -81,12 +85,20 @@ impl Out<'_> {
 
     /// Writes the bytes into the pipe or device that stands there. The fault is `TooLong` before anything is written,
     /// and `File`.
-    pub(crate) fn write_stream<R: Files>(&self, rt: &R, bytes: &[u8]) -> Result<(), Fault> {
-        check_length(bytes)?;
-        let Ok(mut stream) = fs::create(rt, self.path) else {
-            return Err(Fault::File);
-        };
-        stream.write_all(bytes).or(Err(Fault::File))
+    pub(crate) fn write_stream<R>(&self, rt: &R, bytes: &[u8]) -> Result<(), Failure>
+    where
+        R: Files + AllocGlobal,
+    {
+        check_length(rt.alloc(), bytes, self.path)?;
+        match self.stream_out(rt, bytes) {
+            Ok(()) => Ok(()),
+            Err(error) => Err(Failure::of(rt.alloc(), Fault::File, self.path).because(error)),
+        }
+    }
+
+    // Writes the bytes into what stands there.
+    fn stream_out<R: Files>(&self, rt: &R, bytes: &[u8]) -> io::Result<()> {
+        fs::create(rt, self.path)?.write_all(bytes)
     }
 }
 
@@ -95,29 +107,49 @@ fn check_free<R: Files + AllocGlobal>(
     rt: &R,
     path: &str,
     replaced: Replaced<'_>,
-) -> Result<(), Fault> {
+) -> Result<(), Failure> {
+    let alloc = rt.alloc();
     if is_beside_a_file(rt, path)? {
-        return Err(Fault::Occupied);
+        return Err(Failure::of(alloc, Fault::Occupied, path).found(beside_text(alloc, path)));
     }
     match standing(rt, path) {
         Ok(None) => Ok(()),
-        Ok(Some(there)) if !there.is_file() => Err(Fault::File),
+        Ok(Some(there)) if !there.is_file() => Err(no_file(alloc, path, &there)),
         Ok(Some(there)) if there.len() == 0 => Ok(()),
         Ok(Some(_)) if may_replace(rt, path, replaced)? => Ok(()),
-        Ok(Some(_)) => Err(Fault::Occupied),
-        Err(_) => Err(Fault::File),
+        Ok(Some(_)) => Err(occupied(alloc, path, replaced)),
+        Err(error) => Err(Failure::of(alloc, Fault::File, path).because(error)),
     }
 }
 
+// The failure of a place where something else stands.
+fn occupied(alloc: Global, path: &str, replaced: Replaced<'_>) -> Failure {
+    let what = match replaced {
+        Replaced::Delta => "holds something that is no delta",
+        Replaced::OneOf(_) => "is none of the files that are read",
+    };
+    Failure::of(alloc, Fault::Occupied, path).found(occupied_text(alloc, path, what))
+}
+
+fn occupied_text(alloc: Global, path: &str, what: &str) -> Result<String, AllocError> {
+    let path = shown(alloc, path)?;
+    format!(in alloc; "{path} {what}, and stays as it is")
+}
+
+fn beside_text(alloc: Global, path: &str) -> Result<String, AllocError> {
+    let path = shown(alloc, path)?;
+    format!(in alloc; "{path} would be the lock or the new text of another file")
+}
+
 // Whether the name is that of a lock or of a new text of a file that stands beside it.
-fn is_beside_a_file<R: Files>(rt: &R, path: &str) -> Result<bool, Fault> {
+fn is_beside_a_file<R: Files + AllocGlobal>(rt: &R, path: &str) -> Result<bool, Failure> {
     let Some(other) = path.strip_suffix(".lock").or(path.strip_suffix(".new")) else {
         return Ok(false);
     };
     match standing(rt, other) {
         Ok(Some(there)) => Ok(!there.is_dir()),
         Ok(None) => Ok(false),
-        Err(_) => Err(Fault::File),
+        Err(error) => Err(Failure::of(rt.alloc(), Fault::File, other).because(error)),
     }
 }
 
@@ -126,12 +158,12 @@ fn may_replace<R: Files + AllocGlobal>(
     rt: &R,
     path: &str,
     replaced: Replaced<'_>,
-) -> Result<bool, Fault> {
+) -> Result<bool, Failure> {
     match replaced {
         Replaced::Delta => is_delta(rt, path),
         Replaced::OneOf(files) => {
             for file in files {
-                if is_same_file(rt, path, file)? {
+                if !is_standard(file) && is_same_file(rt, path, file)? {
                     return Ok(true);
                 }
             }
@@ -141,10 +173,10 @@ fn may_replace<R: Files + AllocGlobal>(
 }
 
 // Whether the file is a delta.
-fn is_delta<R: Files + AllocGlobal>(rt: &R, path: &str) -> Result<bool, Fault> {
+fn is_delta<R: Files + AllocGlobal>(rt: &R, path: &str) -> Result<bool, Failure> {
     match read_file(rt, path) {
         Ok(bytes) => Ok(read_ops(&bytes).is_ok()),
-        Err(Fault::TooLong) => Ok(false),
-        Err(fault) => Err(fault),
+        Err(failure) if failure.fault == Fault::TooLong => Ok(false),
+        Err(failure) => Err(failure),
     }
 }

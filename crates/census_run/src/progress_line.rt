@@ -3,10 +3,10 @@
 use crate::advice::{Advice, Audience};
 use census_core::Progress;
 use oct_code::Code;
-use oct_sync::write_out;
 use std::alloc::{AllocError, Global};
 use std::io::Write;
 use std::time::{Clock, Duration, Instant};
+use written::write_out;
 
 // How long a line stands at least.
 const PAUSE: u64 = 100;

@@ -1,10 +1,12 @@
 //! The file of a state, or of a delta, as one command at a time may change it.
 
 use crate::advice::Advice;
+use crate::failure::Failure;
 use crate::files::{beside, check_length, real_path, standing};
 use crate::lock::{Silent, Telling, Waiting, locked};
+use crate::shown::shown;
 use census_core::Fault;
-use std::alloc::AllocError;
+use std::alloc::{AllocError, Global};
 use std::fs::{self, File, Metadata, OpenOptions};
 use std::io::{self, ErrorKind, Write};
 use std::os::unix::fs::{MetadataExt, OpenOptionsExt, PermissionsExt, fchown};
@@ -26,13 +28,15 @@ pub(crate) struct StateFile {
     path: String,
     lock_path: String,
     lock: Option<File>,
+    /// Why there is no lock, where the system said so.
+    unlocked: Option<io::Error>,
 }
 
 impl StateFile {
     /// Waits until no other command changes the state, and holds its lock from then on. A link is followed: the state
     /// is the file it leads to, and the lock lies beside that. Where that file is not known, or there can be no lock,
     /// `replace` refuses. The fault is `OutOfMemory`.
-    pub(crate) fn wait<R>(rt: &R, state: &str) -> Result<StateFile, Fault>
+    pub(crate) fn wait<R>(rt: &R, state: &str) -> Result<StateFile, Failure>
     where
         R: Files<File = File> + AllocGlobal,
     {
@@ -44,7 +48,7 @@ impl StateFile {
         rt: &R,
         state: &str,
         advice: &mut Advice<'_, E>,
-    ) -> Result<StateFile, Fault>
+    ) -> Result<StateFile, Failure>
     where
         R: Files<File = File> + AllocGlobal + Clock,
         E: Write,
@@ -63,17 +67,23 @@ impl StateFile {
                 path: format!(in rt.alloc(); "{state}")?,
                 lock_path: String::new(rt.alloc()),
                 lock: None,
+                unlocked: None,
             });
         };
         let lock_path = beside(rt.alloc(), path.as_str(), ".lock")?;
-        let lock = match mode_of(rt, path.as_str()) {
-            Ok(mode) => locked(rt, lock_path.as_str(), mode | PRIVATE, waiting).ok(),
-            Err(_) => None,
+        let locked = match mode_of(rt, path.as_str()) {
+            Ok(mode) => locked(rt, lock_path.as_str(), mode | PRIVATE, waiting),
+            Err(error) => Err(error),
+        };
+        let (lock, unlocked) = match locked {
+            Ok(lock) => (Some(lock), None),
+            Err(error) => (None, Some(error)),
         };
         Ok(StateFile {
             path,
             lock_path,
             lock,
+            unlocked,
         })
     }
 
@@ -93,21 +103,32 @@ impl StateFile {
     /// disk; then that file takes the state's name, and its permissions. A stop at any moment leaves the old state or
     /// the new one. The fault is `TooLong` before anything is written, `File`, also where what stands there is no file
     /// or its owner may not write it, and `OutOfMemory`.
-    pub(crate) fn replace<R>(&self, rt: &R, bytes: &[u8]) -> Result<(), Fault>
+    pub(crate) fn replace<R>(&self, rt: &R, bytes: &[u8]) -> Result<(), Failure>
     where
         R: Files<File = File> + AllocGlobal,
     {
-        check_length(bytes)?;
+        check_length(rt.alloc(), bytes, self.path.as_str())?;
         if self.lock.is_none() {
-            return Err(Fault::File);
+            return Err(self.not_held(rt.alloc()));
         }
         let new_path = beside(rt.alloc(), self.path.as_str(), ".new")?;
         match renewed(rt, self.path.as_str(), new_path.as_str(), bytes) {
             Ok(()) => Ok(()),
-            Err(_) => {
+            Err(error) => {
                 let _ = fs::remove_file(rt, new_path.as_str());
-                Err(Fault::File)
+                Err(unwritten(rt.alloc(), self.path.as_str(), error))
             }
+        }
+    }
+
+    // The failure of a state that is not locked.
+    fn not_held(&self, alloc: Global) -> Failure {
+        match self.unlocked {
+            Some(error) if error.kind() == ErrorKind::NotFound => {
+                unwritten(alloc, self.path.as_str(), error)
+            }
+            Some(error) => Failure::of(alloc, Fault::File, self.lock_path.as_str()).because(error),
+            None => unfollowed(alloc, self.path.as_str()),
         }
     }
 
@@ -117,7 +138,7 @@ impl StateFile {
         rt: &R,
         bytes: &[u8],
         advice: &mut Advice<'_, E>,
-    ) -> Result<(), Fault>
+    ) -> Result<(), Failure>
     where
         R: Files<File = File> + AllocGlobal,
         E: Write,
@@ -129,6 +150,30 @@ impl StateFile {
         }
         Ok(())
     }
+}
+
+// The failure of a file that can't be written.
+fn unwritten(alloc: Global, path: &str, error: io::Error) -> Failure {
+    let failure = Failure::of(alloc, Fault::File, path);
+    if error.kind() == ErrorKind::NotFound {
+        return failure.found(folder_text(alloc, path));
+    }
+    failure.because(error)
+}
+
+fn folder_text(alloc: Global, path: &str) -> Result<String, AllocError> {
+    let path = shown(alloc, path)?;
+    format!(in alloc; "{path}: the folder for it is not there")
+}
+
+// The failure of a file that is behind a link.
+fn unfollowed(alloc: Global, path: &str) -> Failure {
+    Failure::of(alloc, Fault::File, path).found(link_text(alloc, path))
+}
+
+fn link_text(alloc: Global, path: &str) -> Result<String, AllocError> {
+    let path = shown(alloc, path)?;
+    format!(in alloc; "{path}: it is not known to which file this leads")
 }
 
 // The permissions of the file; those of a new one where there is none.

@@ -1,14 +1,19 @@
 //! Commands that give several games their turns, and keep what is done on the way.
 
-use crate::files::read_file;
+use crate::advice::Advice;
+use crate::diagnosis::{Given, of_games};
+use crate::failure::Failure;
+use crate::files::read_state;
 use crate::progress_line::ProgressLine;
 use crate::state_file::StateFile;
-use census_core::{Aim, Fault, Request, Turns};
-use oct_sync::write_out;
+use crate::verdict_line::{Changed, is_told, say_what_became};
+use census_core::{Aim, Reply, Request, Turns};
+use std::alloc::Global;
 use std::fs::File;
 use std::io::Write;
 use std::rt::Files;
 use std::time::{Clock, Duration, Instant};
+use written::write_out;
 
 // For how many seconds what is done may be kept in memory alone, at the end of a game.
 const UNSAVED: u64 = 30;
@@ -28,7 +33,7 @@ impl<'a> Games<'a> {
     pub(crate) fn of(state: &'a str, request: &'a Request) -> Option<Games<'a>> {
         let (count, codes, aim) = match request {
             Request::Extend { count, codes } => (*count, codes, Aim::Extend),
-            Request::Survey { count, codes } => (*count, codes, Aim::Survey),
+            Request::Survey { count, codes, form } => (*count, codes, Aim::Survey(*form)),
             _ => return None,
         };
         Some(Games {
@@ -48,7 +53,7 @@ pub(crate) fn give_turns<R, O, E>(
     games: Games<'_>,
     output: &mut O,
     progress: &mut ProgressLine<'_, R, E>,
-) -> Result<(), Fault>
+) -> Result<(), Failure>
 where
     R: Files<File = File> + AllocGlobal + Clock,
     O: Write,
@@ -58,7 +63,36 @@ where
     let done = turns_held(rt, &file, games, output, progress);
     file.release(rt);
     progress.clear();
-    Ok(write_out(output, &done?)?)
+    let done = done?;
+    write_out(output, &done.reply.text)?;
+    done.tell(rt.alloc(), games.state, progress);
+    Ok(())
+}
+
+// What is still to be said when all games had their turns.
+#[derive(Drop)]
+struct Finished {
+    // The state as it was, where it is said what became of what is new.
+    before: Option<Vec<u8>>,
+    reply: Reply,
+}
+
+impl Finished {
+    // Says what became of what is new in the state.
+    fn tell<R, E>(&self, alloc: Global, state: &str, progress: &mut ProgressLine<'_, R, E>)
+    where
+        R: AllocGlobal + Clock,
+        E: Write,
+    {
+        if let (Some(before), Some(later)) = (&self.before, &self.reply.state) {
+            let changed = Changed {
+                state,
+                before,
+                later,
+            };
+            say_what_became(alloc, changed, progress.advice());
+        }
+    }
 }
 
 // The same under the lock of the state. The text is of the lines that are still to be printed.
@@ -68,17 +102,20 @@ fn turns_held<R, O, E>(
     games: Games<'_>,
     output: &mut O,
     progress: &mut ProgressLine<'_, R, E>,
-) -> Result<Vec<u8>, Fault>
+) -> Result<Finished, Failure>
 where
     R: Files<File = File> + AllocGlobal + Clock,
     O: Write,
     E: Write,
 {
-    let mut turns = begun(rt, games)?;
+    let Started { mut turns, before } = begun(rt, games, progress.advice())?;
     let mut lines = Vec::new(rt.alloc());
     let mut saved = Instant::now(rt).ok();
     for _ in games.codes {
-        let (later, line) = turns.step(rt.alloc(), progress)?;
+        let (later, line) = match turns.step(rt.alloc(), progress) {
+            Ok(done) => done,
+            Err(fault) => return Err(Failure::of(rt.alloc(), fault, games.state)),
+        };
         turns = later;
         if let Some(line) = line {
             lines.extend_from_slice(&line)?;
@@ -88,16 +125,42 @@ where
             saved = Instant::now(rt).ok();
         }
     }
-    keep(rt, file, &turns, lines, progress)
+    let reply = keep(rt, file, &turns, lines, progress)?;
+    Ok(Finished { before, reply })
 }
 
-// The turns of the games of the state as it stands in its file.
-fn begun<R>(rt: &R, games: Games<'_>) -> Result<Turns, Fault>
+// The turns of games, of which none had its own yet.
+#[derive(Drop)]
+struct Started {
+    turns: Turns,
+    // The state, where it is said at the end what became of what is new.
+    before: Option<Vec<u8>>,
+}
+
+// The turns of the games of the state as it stands in its file. What became of what is new is said after a survey alone,
+// where that is wanted.
+fn begun<R, E>(rt: &R, games: Games<'_>, advice: &Advice<'_, E>) -> Result<Started, Failure>
 where
     R: Files<File = File> + AllocGlobal,
+    E: Write,
 {
-    let bytes = read_file(rt, games.state)?;
-    Turns::begin(rt.alloc(), &bytes, games.count, games.codes, games.aim)
+    let bytes = read_state(rt, games.state)?;
+    match Turns::begin(rt.alloc(), &bytes, games.count, games.codes, games.aim) {
+        Ok(turns) => Ok(Started {
+            turns,
+            before: match games.aim {
+                Aim::Survey(_) if is_told(&bytes, advice) => Some(bytes),
+                _ => None,
+            },
+        }),
+        Err(fault) => {
+            let state = Given {
+                name: games.state,
+                bytes: &bytes,
+            };
+            Err(of_games(rt.alloc(), fault, games.codes, state))
+        }
+    }
 }
 
 // Whether what is done has waited long enough.
@@ -108,14 +171,14 @@ fn is_due<R: Clock>(rt: &R, saved: Option<Instant>) -> bool {
     }
 }
 
-// Writes the state as it is now, and gives the lines back.
+// Writes the state as it is now, and gives it and the lines back.
 fn keep<R, E>(
     rt: &R,
     file: &StateFile,
     turns: &Turns,
     lines: Vec<u8>,
     progress: &mut ProgressLine<'_, R, E>,
-) -> Result<Vec<u8>, Fault>
+) -> Result<Reply, Failure>
 where
     R: Files<File = File> + AllocGlobal + Clock,
     E: Write,
@@ -124,7 +187,7 @@ where
     if let Some(text) = &reply.state {
         file.replace_telling(rt, text, progress.advice())?;
     }
-    Ok(reply.text)
+    Ok(reply)
 }
 
 // Writes the state as it is now, and prints the lines. No line is left.
@@ -135,14 +198,14 @@ fn printed<R, O, E>(
     lines: Vec<u8>,
     output: &mut O,
     progress: &mut ProgressLine<'_, R, E>,
-) -> Result<Vec<u8>, Fault>
+) -> Result<Vec<u8>, Failure>
 where
     R: Files<File = File> + AllocGlobal + Clock,
     O: Write,
     E: Write,
 {
-    let lines = keep(rt, file, turns, lines, progress)?;
+    let reply = keep(rt, file, turns, lines, progress)?;
     progress.clear();
-    write_out(output, &lines)?;
+    write_out(output, &reply.text)?;
     Ok(Vec::new(rt.alloc()))
 }

@@ -74,38 +74,51 @@ pub(crate) const FILES: Word = Word {
 
 pub(crate) const FILE: Word = Word {
     name: "FILE",
-    meaning: "A JSON file such as {\"code\":\"0.07\",\"start\":0,\"values\":[0,0,1,1,2,0,3]}",
+    meaning: "A JSON file such as {\"code\":\"0.07\",\"start\":0,\"values\":[0,0,1,1,2,0,3]}, or -",
     times: Times::One,
 };
 
 pub(crate) const BFILE: Word = Word {
     name: "FILE",
-    meaning: "A b-file: lines of a number and its value, the numbers rising by one, below 65536",
+    meaning: "A b-file: lines of a number and its value, the numbers rising by one, below 65536; or -",
     times: Times::One,
 };
 
 pub(crate) const DELTA: Word = Word {
     name: "DELTA",
-    meaning: "A delta file, as `census delta` writes it",
+    meaning: "A delta file, as `census delta` writes it; or -",
     times: Times::One,
 };
 
 pub(crate) const DELTAS: Word = Word {
     name: "DELTA",
-    meaning: "One or more delta files",
+    meaning: "One or more delta files, or -",
     times: Times::OneOrMore,
 };
 
 pub(crate) const UNION: Word = Word {
     name: "OUT",
-    meaning: "The delta file that is written; it may be one of the others",
+    meaning: "The delta file that is written, or -; it may be one of the others",
     times: Times::One,
 };
 
 pub(crate) const OUT: Word = Word {
     name: "OUT",
-    meaning: "The delta file that is written; not the state file",
+    meaning: "The delta file that is written, or -; not the state file",
     times: Times::One,
+};
+
+pub(crate) const DIR: Word = Word {
+    name: "DIR",
+    meaning: "The folder of the site, which is made, or a site that is replaced",
+    times: Times::One,
+};
+
+pub(crate) const SHOWN: Choice = Choice {
+    name: "values",
+    takes: Takes::One("SHOWN"),
+    meaning: "How many values of a game are shown: brief or all",
+    default: Some("brief"),
 };
 
 pub(crate) const ADDR: Word = Word {
@@ -122,7 +135,7 @@ pub(crate) const CODE: Word = Word {
 
 pub(crate) const COUNT: Word = Word {
     name: "COUNT",
-    meaning: "How many values, 1 to 1024; fewer where heap 65535 comes first",
+    meaning: "How many values more than are known, 1 to 1024; fewer where heap 65535 comes first",
     times: Times::One,
 };
 
@@ -132,9 +145,15 @@ pub(crate) const CODES: Word = Word {
     times: Times::OneOrMore,
 };
 
+pub(crate) const GAMES: Word = Word {
+    name: "CODE",
+    meaning: "Octal codes such as 0.77; all games where there is none",
+    times: Times::Any,
+};
+
 pub(crate) const HEAPS: Word = Word {
     name: "COUNT",
-    meaning: "How many values of each game, those of the heaps 0 to COUNT - 1; 1 to 65536",
+    meaning: "How many values of each game in all, those of the heaps 0 to COUNT - 1; 1 to 65536",
     times: Times::One,
 };
 
@@ -180,6 +199,18 @@ pub(crate) const HEAP: Word = Word {
     times: Times::Any,
 };
 
+pub(crate) const SHELL: Word = Word {
+    name: "SHELL",
+    meaning: "The shell: bash, zsh or fish",
+    times: Times::One,
+};
+
+pub(crate) const FAULT: Word = Word {
+    name: "FAULT",
+    meaning: "The fault's name, as Load, and its cause, as Version",
+    times: Times::Any,
+};
+
 pub(crate) const AT: Choice = Choice {
     name: "at",
     takes: Takes::Many("HEAP"),
@@ -191,6 +222,27 @@ pub(crate) const AS_JSON: Choice = Choice {
     name: "json",
     takes: Takes::Nothing,
     meaning: "Prints a line of JSON for each game",
+    default: None,
+};
+
+pub(crate) const EACH_JSON: Choice = Choice {
+    name: "json",
+    takes: Takes::Nothing,
+    meaning: "Prints objects of JSON, one a line",
+    default: None,
+};
+
+pub(crate) const ONLY: Choice = Choice {
+    name: "only",
+    takes: Takes::Many("CODE"),
+    meaning: "Shows this game alone; may stand several times",
+    default: None,
+};
+
+pub(crate) const REFUTED: Choice = Choice {
+    name: "refuted",
+    takes: Takes::Nothing,
+    meaning: "Lists the refuted blocks and claims",
     default: None,
 };
 
@@ -247,6 +299,13 @@ pub(crate) const REPLACE: Choice = Choice {
     name: "replace",
     takes: Takes::Nothing,
     meaning: "Writes OUT in place of whatever file stands there",
+    default: None,
+};
+
+pub(crate) const QUIET: Choice = Choice {
+    name: "quiet",
+    takes: Takes::Nothing,
+    meaning: "Prints nothing where all is done",
     default: None,
 };
 

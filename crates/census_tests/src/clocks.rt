@@ -67,8 +67,36 @@ fn greater_numbers_stay(rt: HostRuntime) {
     keeps_greater_numbers(&rt, &heap, &heap);
 }
 
-// Authors and numbers, and whether a clock covers them that knows the first two operations of author 5, and no other.
-const COVERED: &[(u32, u32, bool)] = &[(5, 1, true), (5, 2, true), (5, 3, false), (6, 1, false)];
+/// An operation, and whether a clock covers it that knows the first two of author 5, and no other.
+#[derive(Clone, Copy)]
+struct Covered {
+    author: u32,
+    number: u32,
+    is_covered: bool,
+}
+
+const COVERED: &[Covered] = &[
+    Covered {
+        author: 5,
+        number: 1,
+        is_covered: true,
+    },
+    Covered {
+        author: 5,
+        number: 2,
+        is_covered: true,
+    },
+    Covered {
+        author: 5,
+        number: 3,
+        is_covered: false,
+    },
+    Covered {
+        author: 6,
+        number: 1,
+        is_covered: false,
+    },
+];
 
 // A clock is made and read without a request for memory.
 fn takes_no_memory<A: Allocator>(rt: &impl Abort, heap: &Metered<Global>, alloc: A) {
@@ -79,9 +107,13 @@ fn takes_no_memory<A: Allocator>(rt: &impl Abort, heap: &Metered<Global>, alloc:
     heap.arm(1_000);
     assert_eq!(rt; clock.entries(), [(5, 2)].as_slice());
     assert_eq!(rt; (clock.through(5), clock.through(6)), (2, 0));
-    for &(author, number, wanted) in COVERED {
-        let is_covered = clock.covers(&dot(rt, author, number));
-        assert_eq!(rt; is_covered, wanted, "({author}, {number})");
+    for &Covered {
+        author,
+        number,
+        is_covered,
+    } in COVERED {
+        let answer = clock.covers(&dot(rt, author, number));
+        assert_eq!(rt; answer, is_covered, "({author}, {number})");
     }
     assert_eq!(rt; heap.left(), 1_000, "requests left by the answers");
 }
@@ -110,7 +142,7 @@ fn grows<A: Allocator>(
     others: &[Clock<A>],
     case: &Case,
 ) {
-    let (held, _, wanted) = *case;
+    let Case { held, wanted, .. } = *case;
     for grants in 0..10u64 {
         heap.arm(grants);
         let grown = match others {
@@ -133,17 +165,30 @@ fn grows<A: Allocator>(
 }
 
 /// What a clock holds, what the others hold that it takes in, and what it holds then.
-type Case = (
-    &'static [(u32, u32)],
-    &'static [&'static [(u32, u32)]],
-    &'static [(u32, u32)],
-);
+#[derive(Clone, Copy)]
+struct Case {
+    held: &'static [(u32, u32)],
+    others: &'static [&'static [(u32, u32)]],
+    wanted: &'static [(u32, u32)],
+}
 
 // The old clock is joined with that of the five; {1 at 1} and others are gathered into the empty clock.
 const CASES: &[Case] = &[
-    (OLD, &[FIVE], JOINED),
-    (&[], &[&[(1, 1)], TWO], TWO),
-    (&[], &[&[(1, 1)], FIVE], FIVE),
+    Case {
+        held: OLD,
+        others: &[FIVE],
+        wanted: JOINED,
+    },
+    Case {
+        held: &[],
+        others: &[&[(1, 1)], TWO],
+        wanted: TWO,
+    },
+    Case {
+        held: &[],
+        others: &[&[(1, 1)], FIVE],
+        wanted: FIVE,
+    },
 ];
 
 // A clock with exactly these entries.
@@ -160,9 +205,9 @@ fn clock_of<A: Allocator>(
 }
 
 fn comes_out<A: Allocator + Copy>(rt: &impl Abort, heap: &Metered<Global>, alloc: A, case: &Case) {
-    let mut clock = clock_of(rt, heap, alloc, case.0);
+    let mut clock = clock_of(rt, heap, alloc, case.held);
     let mut clocks = Vec::new(alloc);
-    for entries in case.1 {
+    for entries in case.others {
         let other = clock_of(rt, heap, alloc, entries);
         heap.arm(u64::MAX);
         assert!(rt; clocks.push(other).is_ok());

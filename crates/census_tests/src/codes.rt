@@ -42,14 +42,45 @@ fn is_written<A: Allocator>(
     is_appended(rt, heap, &mut out, text, after);
 }
 
-// Texts, what is there already, and what it is once the code of the text is written.
-const WRITTEN: &[(&str, &str, &str)] = &[
-    ("0.77", "", "0.77"),
-    ("0.77", "x", "x0.77"),
-    (".770", "", "0.77"),
-    (".0", "", "0.0"),
-    ("4.000", "", "4.0"),
-    ("0.77777777777777770", "", "0.7777777777777777"),
+/// A text, what is there already, and what it is once the code of the text is written.
+#[derive(Clone, Copy)]
+struct Written {
+    text: &'static str,
+    before: &'static str,
+    after: &'static str,
+}
+
+const WRITTEN: &[Written] = &[
+    Written {
+        text: "0.77",
+        before: "",
+        after: "0.77",
+    },
+    Written {
+        text: "0.77",
+        before: "x",
+        after: "x0.77",
+    },
+    Written {
+        text: ".770",
+        before: "",
+        after: "0.77",
+    },
+    Written {
+        text: ".0",
+        before: "",
+        after: "0.0",
+    },
+    Written {
+        text: "4.000",
+        before: "",
+        after: "4.0",
+    },
+    Written {
+        text: "0.77777777777777770",
+        before: "",
+        after: "0.7777777777777777",
+    },
 ];
 
 // Texts that are no code, and their faults.
@@ -68,7 +99,11 @@ const REFUSED: &[(&str, CodeError)] = &[
 #[test]
 fn texts_are_refused_or_read_and_written(rt: HostRuntime) {
     let heap = Metered::new(rt.alloc());
-    for &(text, before, after) in WRITTEN {
+    for &Written {
+        text,
+        before,
+        after,
+    } in WRITTEN {
         is_written(&rt, &heap, &heap, text, before, after);
     }
     for &(text, fault) in REFUSED {
@@ -76,12 +111,35 @@ fn texts_are_refused_or_read_and_written(rt: HostRuntime) {
     }
 }
 
-// Digits that are no code, and their faults.
-const REFUSED_DIGITS: &[(u8, &[u8], DigitsError)] = &[
-    (0, &[7, 0], DigitsError::Trailing),
-    (0, &[8], DigitsError::Digit),
-    (0, &[8; 17], DigitsError::Long),
-    (1, &[8; 17], DigitsError::Head),
+/// Digits that are no code, and their fault.
+#[derive(Clone, Copy)]
+struct RefusedDigits {
+    head: u8,
+    digits: &'static [u8],
+    fault: DigitsError,
+}
+
+const REFUSED_DIGITS: &[RefusedDigits] = &[
+    RefusedDigits {
+        head: 0,
+        digits: &[7, 0],
+        fault: DigitsError::Trailing,
+    },
+    RefusedDigits {
+        head: 0,
+        digits: &[8],
+        fault: DigitsError::Digit,
+    },
+    RefusedDigits {
+        head: 0,
+        digits: &[8; 17],
+        fault: DigitsError::Long,
+    },
+    RefusedDigits {
+        head: 1,
+        digits: &[8; 17],
+        fault: DigitsError::Head,
+    },
 ];
 
 #[test]
@@ -94,7 +152,11 @@ fn digits_are_read_or_refused(rt: HostRuntime) {
     assert_eq!(rt; (code.digit(0), code.digit(2), code.digit(4)), (0, 3, 0));
     let allowed = (code.allows(2, 1), code.allows(2, 2), code.allows(3, 2));
     assert_eq!(rt; allowed, (true, false, true));
-    for &(head, digits, fault) in REFUSED_DIGITS {
+    for &RefusedDigits {
+        head,
+        digits,
+        fault,
+    } in REFUSED_DIGITS {
         let refused = Code::from_digits(head, digits).err();
         assert!(rt; refused == Some(fault), "{head} and {digits:?}");
     }

@@ -19,8 +19,8 @@ use oct_verify::{Ledger, Status};
 use std::alloc::{Allocator, Global};
 use std::process::Abort;
 
-// The places 0, 1, 2 and 3, one after the other, as the digits of a number to the base of 4.
-const IN_ORDER: usize = 4 + 2 * 16 + 3 * 64;
+// The places of four items, one after the other.
+const IN_ORDER: [usize; 4] = [0, 1, 2, 3];
 
 // The status of a block, which is added if it is not there; none where memory is refused. The block and its copy take two
 // requests.
@@ -140,32 +140,63 @@ fn is_there<A: Allocator + Copy>(game: &Game<A>, item: &Item) -> bool {
     found
 }
 
-// Adds four of the items, whose places are the digits of a number to the base of 4, with so many requests granted for each by
-// the heap, in which `alloc` asks for memory. One may come twice, or not at all. Says whether the requests were too few, which
-// changes nothing.
+// The number of orders in which so many items can come, which are at most four.
+fn count_orders(items: usize) -> usize {
+    match items {
+        0 | 1 => 1,
+        2 => 2,
+        3 => 6,
+        _ => 24,
+    }
+}
+
+// The places of so many items in one of their orders: each number below that of the orders gives another one. The places
+// of no item stay behind.
+fn order_of(number: usize, items: usize) -> [usize; 4] {
+    let mut places = IN_ORDER;
+    let mut rest = number;
+    for front in 2..5usize {
+        if front <= items {
+            places.swap(rest % front, front - 1);
+            rest /= front;
+        }
+    }
+    places
+}
+
+// Adds the items in the order of the places, with so many requests granted for each by the heap, in which `alloc` asks for
+// memory, and once more where it is in, as it may come twice. Says whether the requests were too few, which changes nothing.
 fn fill<A: Allocator + Copy>(
     rt: &impl Abort,
     heap: &Metered<Global>,
     alloc: A,
     game: &mut Game<A>,
     case: &Case,
-    order: usize,
+    order: &[usize; 4],
     grants: u64,
 ) -> bool {
-    let mut rest = order;
     let mut refused = false;
-    for _ in 0..4 {
-        if let Some(item) = case.items.get(rest % 4) {
+    for place in order {
+        if let Some(item) = case.items.get(*place) {
             let before = counts(game);
             heap.arm(grants);
             if is_added(rt, alloc, game, item) {
-                assert!(rt; is_there(game, item), "order {order}: an item is not there");
+                assert!(rt;
+                    is_there(game, item),
+                    "order {order:?}: an item is not there"
+                );
+                let held = counts(game);
+                heap.arm(grants);
+                assert!(rt;
+                    is_added(rt, alloc, game, item),
+                    "order {order:?}: an item again"
+                );
+                assert_eq!(rt; counts(game), held, "order {order:?}: an item twice");
             } else {
-                assert_eq!(rt; counts(game), before, "order {order}, {grants} requests");
+                assert_eq!(rt; counts(game), before, "order {order:?}, {grants} requests");
                 refused = true;
             }
         }
-        rest /= 4;
     }
     refused
 }
@@ -256,7 +287,7 @@ fn is_settled<A: Allocator + Copy>(
     game: &mut Game<A>,
     case: &Case,
 ) {
-    let refused = fill(rt, heap, alloc, game, case, IN_ORDER, u64::MAX);
+    let refused = fill(rt, heap, alloc, game, case, &IN_ORDER, u64::MAX);
     assert!(rt; !refused, "an item is refused with memory");
     for item in case.items {
         is_said(rt, heap, alloc, game, item);
@@ -282,7 +313,7 @@ fn is_refused<A: Allocator + Copy>(
     heap: &Metered<Global>,
     alloc: A,
     case: &Case,
-    order: usize,
+    order: &[usize; 4],
     grants: u64,
 ) -> bool {
     let code = code(rt, case.code);
@@ -296,20 +327,21 @@ fn is_refused<A: Allocator + Copy>(
 }
 
 // A case comes out right in this order where each request for memory is refused in turn.
-fn survives(rt: &impl Abort, heap: &Metered<Global>, case: &Case, order: usize) {
+fn survives(rt: &impl Abort, heap: &Metered<Global>, case: &Case, order: &[usize; 4]) {
     for grants in 0..64u64 {
         if !is_refused(rt, heap, heap, case, order, grants) {
             return;
         }
     }
-    panic!(rt; "order {order} is refused at 64 requests");
+    panic!(rt; "order {order:?} is refused at 64 requests");
 }
 
 // The same of each case in each order of its items.
 fn are_settled(rt: &impl Abort, heap: &Metered<Global>, cases: &[Case]) {
     for case in cases {
-        for order in 0..256usize {
-            survives(rt, heap, case, order);
+        let count = case.items.len();
+        for number in 0..count_orders(count) {
+            survives(rt, heap, case, &order_of(number, count));
         }
     }
 }

@@ -14,91 +14,296 @@ use std::process::Abort;
 /// The nim-values of Kayles.
 const KAYLES: &[u32] = &[0, 1, 2, 3, 1, 4, 3, 2, 1, 4, 2, 6];
 
-/// A block of author 1: its number, its first heap and its values.
-type Row = (u32, u32, &'static [u32]);
+/// A block of author 1.
+#[derive(Clone, Copy, Debug)]
+struct Row {
+    number: u32,
+    start: u32,
+    values: &'static [u32],
+}
 
-/// A block that is added, and what is said then: its status, the known length, and how many comparisons were made.
-type Step = (Row, Status, u32, u64);
+/// A block that is added, and what is said then: its status, how many heaps are known, and how many comparisons were made.
+#[derive(Clone, Copy)]
+struct Step {
+    row: Row,
+    status: Status,
+    known: u32,
+    checks: u64,
+}
 
 // Blocks of which the first settles the second, and that the third.
-const NEAR: Row = (1, 1, &[1, 2, 3, 1, 4]);
+const NEAR: Row = Row {
+    number: 1,
+    start: 1,
+    values: &[1, 2, 3, 1, 4],
+};
 
-const NEXT: Row = (2, 6, &[3]);
+const NEXT: Row = Row {
+    number: 2,
+    start: 6,
+    values: &[3],
+};
 
-const FAR: Row = (3, 7, &[2]);
+const FAR: Row = Row {
+    number: 3,
+    start: 7,
+    values: &[2],
+};
 
 // Blocks of which each but the first begins within another one.
-const FIRST: Row = (1, 0, &[0, 1, 2, 3, 1]);
+const FIRST: Row = Row {
+    number: 1,
+    start: 0,
+    values: &[0, 1, 2, 3, 1],
+};
 
-const INNER: Row = (2, 2, &[2, 3]);
+const INNER: Row = Row {
+    number: 2,
+    start: 2,
+    values: &[2, 3],
+};
 
-const LAST: Row = (3, 3, &[3, 1, 4, 3, 2]);
+const LAST: Row = Row {
+    number: 3,
+    start: 3,
+    values: &[3, 1, 4, 3, 2],
+};
 
 // A block, and the one that goes on from it.
-const BEFORE: Row = (1, 1, &[1, 2, 3, 1]);
+const BEFORE: Row = Row {
+    number: 1,
+    start: 1,
+    values: &[1, 2, 3, 1],
+};
 
-const AFTER: Row = (2, 5, &[4, 3, 2]);
+const AFTER: Row = Row {
+    number: 2,
+    start: 5,
+    values: &[4, 3, 2],
+};
 
 // Blocks that come one after the other.
 const CASES: &[&[Step]] = &[
     &[
-        (FAR, Pending, 1, 0),
-        (NEXT, Pending, 1, 0),
-        (NEAR, Proved, 8, 3),
+        Step {
+            row: FAR,
+            status: Pending,
+            known: 1,
+            checks: 0,
+        },
+        Step {
+            row: NEXT,
+            status: Pending,
+            known: 1,
+            checks: 0,
+        },
+        Step {
+            row: NEAR,
+            status: Proved,
+            known: 8,
+            checks: 3,
+        },
     ],
     &[
-        (FAR, Pending, 1, 0),
-        (NEAR, Proved, 6, 1),
-        (NEXT, Proved, 8, 3),
+        Step {
+            row: FAR,
+            status: Pending,
+            known: 1,
+            checks: 0,
+        },
+        Step {
+            row: NEAR,
+            status: Proved,
+            known: 6,
+            checks: 1,
+        },
+        Step {
+            row: NEXT,
+            status: Proved,
+            known: 8,
+            checks: 3,
+        },
     ],
     &[
-        (NEXT, Pending, 1, 0),
-        (FAR, Pending, 1, 0),
-        (NEAR, Proved, 8, 3),
+        Step {
+            row: NEXT,
+            status: Pending,
+            known: 1,
+            checks: 0,
+        },
+        Step {
+            row: FAR,
+            status: Pending,
+            known: 1,
+            checks: 0,
+        },
+        Step {
+            row: NEAR,
+            status: Proved,
+            known: 8,
+            checks: 3,
+        },
     ],
     &[
-        (NEXT, Pending, 1, 0),
-        (NEAR, Proved, 7, 2),
-        (FAR, Proved, 8, 3),
+        Step {
+            row: NEXT,
+            status: Pending,
+            known: 1,
+            checks: 0,
+        },
+        Step {
+            row: NEAR,
+            status: Proved,
+            known: 7,
+            checks: 2,
+        },
+        Step {
+            row: FAR,
+            status: Proved,
+            known: 8,
+            checks: 3,
+        },
     ],
     &[
-        (NEAR, Proved, 6, 1),
-        (FAR, Pending, 6, 1),
-        (NEXT, Proved, 8, 3),
+        Step {
+            row: NEAR,
+            status: Proved,
+            known: 6,
+            checks: 1,
+        },
+        Step {
+            row: FAR,
+            status: Pending,
+            known: 6,
+            checks: 1,
+        },
+        Step {
+            row: NEXT,
+            status: Proved,
+            known: 8,
+            checks: 3,
+        },
     ],
     &[
-        (NEAR, Proved, 6, 1),
-        (NEXT, Proved, 7, 2),
-        (FAR, Proved, 8, 3),
+        Step {
+            row: NEAR,
+            status: Proved,
+            known: 6,
+            checks: 1,
+        },
+        Step {
+            row: NEXT,
+            status: Proved,
+            known: 7,
+            checks: 2,
+        },
+        Step {
+            row: FAR,
+            status: Proved,
+            known: 8,
+            checks: 3,
+        },
     ],
     &[
-        (FIRST, Proved, 5, 1),
-        (INNER, Proved, 5, 2),
-        (LAST, Proved, 8, 3),
-        (FIRST, Proved, 8, 3),
-        (INNER, Proved, 8, 3),
+        Step {
+            row: FIRST,
+            status: Proved,
+            known: 5,
+            checks: 1,
+        },
+        Step {
+            row: INNER,
+            status: Proved,
+            known: 5,
+            checks: 2,
+        },
+        Step {
+            row: LAST,
+            status: Proved,
+            known: 8,
+            checks: 3,
+        },
+        Step {
+            row: FIRST,
+            status: Proved,
+            known: 8,
+            checks: 3,
+        },
+        Step {
+            row: INNER,
+            status: Proved,
+            known: 8,
+            checks: 3,
+        },
     ],
     &[
-        (LAST, Pending, 1, 0),
-        (INNER, Pending, 1, 0),
-        ((1, 0, KAYLES), Proved, 12, 3),
+        Step {
+            row: LAST,
+            status: Pending,
+            known: 1,
+            checks: 0,
+        },
+        Step {
+            row: INNER,
+            status: Pending,
+            known: 1,
+            checks: 0,
+        },
+        Step {
+            row: Row {
+                number: 1,
+                start: 0,
+                values: KAYLES,
+            },
+            status: Proved,
+            known: 12,
+            checks: 3,
+        },
     ],
     &[
-        (AFTER, Pending, 1, 0),
-        (BEFORE, Proved, 8, 2),
-        (AFTER, Proved, 8, 2),
+        Step {
+            row: AFTER,
+            status: Pending,
+            known: 1,
+            checks: 0,
+        },
+        Step {
+            row: BEFORE,
+            status: Proved,
+            known: 8,
+            checks: 2,
+        },
+        Step {
+            row: AFTER,
+            status: Proved,
+            known: 8,
+            checks: 2,
+        },
     ],
-    &[(
-        (1, 1, &[1, 2, 3, 1, 5, 0]),
-        Refuted {
+    &[Step {
+        row: Row {
+            number: 1,
+            start: 1,
+            values: &[1, 2, 3, 1, 5, 0],
+        },
+        status: Refuted {
             at: 5,
             claimed: 5,
             truth: 4,
         },
-        1,
-        1,
-    )],
-    &[((1, 4_095, &[0]), Pending, 1, 0)],
+        known: 1,
+        checks: 1,
+    }],
+    &[Step {
+        row: Row {
+            number: 1,
+            start: 4_095,
+            values: &[0],
+        },
+        status: Pending,
+        known: 1,
+        checks: 0,
+    }],
 ];
 
 /// The block of the code with these values, where there is memory.
@@ -138,9 +343,8 @@ fn status<A: Allocator + Copy>(
     ledger: &mut Ledger<A>,
     row: Row,
 ) -> Option<Status> {
-    let (number, start, values) = row;
-    let dot = dot(rt, 1, number);
-    let block = block(alloc, ledger.code(), start, values)?;
+    let dot = dot(rt, 1, row.number);
+    let block = block(alloc, ledger.code(), row.start, row.values)?;
     let again = block.copy(alloc).ok()?;
     match ledger.insert(dot, block) {
         Ok(()) => Some(ledger.status(&dot, &again)),
@@ -201,7 +405,12 @@ fn make<A: Allocator + Copy>(
     grants: u64,
     case: usize,
 ) -> bool {
-    let (row, said, known, checks) = *step;
+    let Step {
+        row,
+        status: said,
+        known,
+        checks,
+    } = *step;
     let before = (ledger.known(), ledger.checks());
     heap.arm(grants);
     let refused = status(rt, alloc, ledger, row).is_none();

@@ -8,34 +8,120 @@ use oct_ops::{Body, Dot, Note, Op, Removal};
 use std::alloc::{Allocator, Global};
 use std::process::Abort;
 
-/// A note: its author, its number, its name and its text.
-type Row = (u32, u32, &'static [u8], &'static [u8]);
+/// A note.
+#[derive(Clone, Copy)]
+struct NoteRow {
+    author: u32,
+    number: u32,
+    name: &'static [u8],
+    text: &'static [u8],
+}
 
 // The note of a letter. A word stands for the operations of its letters; a capital is the removal of its note's dot, and `-`
 // takes the removal A back.
-fn row(letter: u8) -> Row {
+fn row(letter: u8) -> NoteRow {
     match letter {
-        b'a' | b'A' | b'-' => (1, 1, b"a", b""),
-        b'b' => (1, 1, b"a", b"again"),
-        b'c' => (1, 1, b"b", b""),
-        b'd' => (1, 2, b"a", b"text"),
-        b'e' | b'E' => (1, 1, b"kayles", b"early"),
-        b'l' => (1, 2, b"kayles", b"later"),
-        b'p' | b'P' => (1, 3, b"a", b""),
-        b'q' => (2, 1, b"a", b""),
-        b'r' => (1, 2, b"aa", b""),
-        b's' => (3, 1, b"aa", b"y"),
-        b't' => (3, 1, b"aa", b"xx"),
-        b'u' => (3, 1, b"b", b""),
-        b'v' => (5, 1, b"a", b""),
-        b'w' => (5, 3, b"a", b""),
-        _ => (3, 1, b"a", b""),
+        b'a' | b'A' | b'-' => NoteRow {
+            author: 1,
+            number: 1,
+            name: b"a",
+            text: b"",
+        },
+        b'b' => NoteRow {
+            author: 1,
+            number: 1,
+            name: b"a",
+            text: b"again",
+        },
+        b'c' => NoteRow {
+            author: 1,
+            number: 1,
+            name: b"b",
+            text: b"",
+        },
+        b'd' => NoteRow {
+            author: 1,
+            number: 2,
+            name: b"a",
+            text: b"text",
+        },
+        b'e' | b'E' => NoteRow {
+            author: 1,
+            number: 1,
+            name: b"kayles",
+            text: b"early",
+        },
+        b'l' => NoteRow {
+            author: 1,
+            number: 2,
+            name: b"kayles",
+            text: b"later",
+        },
+        b'p' | b'P' => NoteRow {
+            author: 1,
+            number: 3,
+            name: b"a",
+            text: b"",
+        },
+        b'q' => NoteRow {
+            author: 2,
+            number: 1,
+            name: b"a",
+            text: b"",
+        },
+        b'r' => NoteRow {
+            author: 1,
+            number: 2,
+            name: b"aa",
+            text: b"",
+        },
+        b's' => NoteRow {
+            author: 3,
+            number: 1,
+            name: b"aa",
+            text: b"y",
+        },
+        b't' => NoteRow {
+            author: 3,
+            number: 1,
+            name: b"aa",
+            text: b"xx",
+        },
+        b'u' => NoteRow {
+            author: 3,
+            number: 1,
+            name: b"b",
+            text: b"",
+        },
+        b'v' => NoteRow {
+            author: 5,
+            number: 1,
+            name: b"a",
+            text: b"",
+        },
+        b'w' => NoteRow {
+            author: 5,
+            number: 3,
+            name: b"a",
+            text: b"",
+        },
+        _ => NoteRow {
+            author: 3,
+            number: 1,
+            name: b"a",
+            text: b"",
+        },
     }
 }
 
 // The operation of a letter: its note, or the removal of that note's dot by author 9.
 fn operation<A: Allocator + Copy>(rt: &impl Abort, alloc: A, letter: u8) -> Op<A> {
-    let (author, number, name, text) = row(letter);
+    let NoteRow {
+        author,
+        number,
+        name,
+        text,
+    } = row(letter);
     let of_note = dot(rt, author, number);
     if letter.is_ascii_lowercase() {
         let note = Note::new(alloc, name, text).expect(rt, "a note");
@@ -156,7 +242,7 @@ fn add_word<A: Allocator + Copy>(
 
 // This is the dot of the note of the letter.
 fn is_dot(rt: &impl Abort, dot: Dot, letter: u8, word: &str) {
-    let (author, number, _, _) = row(letter);
+    let NoteRow { author, number, .. } = row(letter);
     assert_eq!(rt;
         (dot.author(), dot.number()),
         (author, number),
@@ -169,7 +255,7 @@ fn are_notes<A: Allocator>(rt: &impl Abort, ops: &[Op<A>], word: &str) {
     assert_eq!(rt; ops.len(), word.len(), "live notes of {word}");
     for (op, letter) in ops.iter().zip(word.as_bytes()) {
         is_dot(rt, op.dot(), *letter, word);
-        let (_, _, name, text) = row(*letter);
+        let NoteRow { name, text, .. } = row(*letter);
         match op.body() {
             Body::Note(note) => {
                 assert_eq!(rt; note.name(), name, "a name of {word}");
@@ -196,9 +282,14 @@ fn reads<A: Allocator + Copy>(
     notes: &Notes<A>,
     case: &Case,
 ) {
-    let [_, came, live, named] = *case;
+    let Case {
+        came,
+        live,
+        named,
+        ..
+    } = *case;
     let name = match came.as_bytes() {
-        [letter, ..] => row(*letter).2,
+        [letter, ..] => row(*letter).name,
         [] => b"dawson",
     };
     for grants in 0..64u64 {
@@ -247,9 +338,15 @@ fn join<A: Allocator + Copy>(
     refused
 }
 
-/// The words of a set, of another one that is joined to it, of the notes that are live then, in their order, and of the
-/// dots of those that have the name of the other set's first note.
-type Case = [&'static str; 4];
+/// Words: of a set that is held, of another one that came and is joined to it, of the notes that are live then, in their
+/// order, and of the dots of those that are named as the first note that came.
+#[derive(Clone, Copy, Debug)]
+struct Case {
+    held: &'static str,
+    came: &'static str,
+    live: &'static str,
+    named: &'static str,
+}
 
 // Makes the two sets of a case and joins them, each time with so many requests granted at first. Says whether these were too
 // few. New sets take no memory.
@@ -264,8 +361,8 @@ fn unite<A: Allocator + Copy>(
     let mut one = Notes::new(alloc);
     let mut other = Notes::new(alloc);
     assert_eq!(rt; heap.left(), 1_000, "requests that are left");
-    let mut refused = add_word(rt, heap, alloc, &mut one, case[0], grants);
-    refused |= add_word(rt, heap, alloc, &mut other, case[1], grants);
+    let mut refused = add_word(rt, heap, alloc, &mut one, case.held, grants);
+    refused |= add_word(rt, heap, alloc, &mut other, case.came, grants);
     refused |= join(rt, heap, &mut one, &other, grants);
     reads(rt, heap, &one, case);
     refused
@@ -284,25 +381,105 @@ fn survives(rt: &impl Abort, heap: &Metered<Global>, case: &Case) {
 
 const CASES: &[Case] = &[
     // The later note alone is live, in whatever order it, the early one and the early one's removal come.
-    ["e", "lE", "l", "l"],
-    ["e", "El", "l", "l"],
-    ["l", "eE", "l", "l"],
-    ["l", "Ee", "l", "l"],
-    ["E", "el", "l", "l"],
-    ["E", "le", "l", "l"],
+    Case {
+        held: "e",
+        came: "lE",
+        live: "l",
+        named: "l",
+    },
+    Case {
+        held: "e",
+        came: "El",
+        live: "l",
+        named: "l",
+    },
+    Case {
+        held: "l",
+        came: "eE",
+        live: "l",
+        named: "l",
+    },
+    Case {
+        held: "l",
+        came: "Ee",
+        live: "l",
+        named: "l",
+    },
+    Case {
+        held: "E",
+        came: "el",
+        live: "l",
+        named: "l",
+    },
+    Case {
+        held: "E",
+        came: "le",
+        live: "l",
+        named: "l",
+    },
     // The live notes are by name, byte by byte, and then as operations: by dot, and a shorter text first.
-    ["", "pqrstcu", "pqrstcu", "pq"],
-    ["uctsr", "qp", "pqrstcu", "pq"],
-    ["x", "cd", "dxc", "c"],
-    ["", "vw", "vw", "vw"],
+    Case {
+        held: "",
+        came: "pqrstcu",
+        live: "pqrstcu",
+        named: "pq",
+    },
+    Case {
+        held: "uctsr",
+        came: "qp",
+        live: "pqrstcu",
+        named: "pq",
+    },
+    Case {
+        held: "x",
+        came: "cd",
+        live: "dxc",
+        named: "c",
+    },
+    Case {
+        held: "",
+        came: "vw",
+        live: "vw",
+        named: "vw",
+    },
     // The contents of one dot live and go together, a removal hides neither another dot nor what its author has not seen,
     // and a note comes back when its removal is taken back.
-    ["", "abc", "abc", "a"],
-    ["", "abcA", "", ""],
-    ["", "dcP", "dc", "d"],
-    ["aA", "q", "q", "q"],
-    ["", "aA", "", ""],
-    ["", "aA-", "a", "a"],
+    Case {
+        held: "",
+        came: "abc",
+        live: "abc",
+        named: "a",
+    },
+    Case {
+        held: "",
+        came: "abcA",
+        live: "",
+        named: "",
+    },
+    Case {
+        held: "",
+        came: "dcP",
+        live: "dc",
+        named: "d",
+    },
+    Case {
+        held: "aA",
+        came: "q",
+        live: "q",
+        named: "q",
+    },
+    Case {
+        held: "",
+        came: "aA",
+        live: "",
+        named: "",
+    },
+    Case {
+        held: "",
+        came: "aA-",
+        live: "a",
+        named: "a",
+    },
 ];
 
 #[test]

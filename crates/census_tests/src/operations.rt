@@ -15,12 +15,35 @@ use std::test::Fail;
 // As many values as no block holds.
 const ZEROS: &[u32] = &[0; 1_025];
 
-// The starts and periods of claims, and the faults of those that are refused.
-const CLAIMS: &[(u32, u32, Option<PeriodError>)] = &[
-    (0, 1, Some(PeriodError::Zero)),
-    (65_537, 0, Some(PeriodError::Zero)),
-    (65_537, 1, Some(PeriodError::PastLimit)),
-    (4_097, 1, None),
+/// The start and the period of a claim, and its fault where it is refused.
+#[derive(Clone, Copy)]
+struct ClaimRow {
+    start: u32,
+    period: u32,
+    fault: Option<PeriodError>,
+}
+
+const CLAIMS: &[ClaimRow] = &[
+    ClaimRow {
+        start: 0,
+        period: 1,
+        fault: Some(PeriodError::Zero),
+    },
+    ClaimRow {
+        start: 65_537,
+        period: 0,
+        fault: Some(PeriodError::Zero),
+    },
+    ClaimRow {
+        start: 65_537,
+        period: 1,
+        fault: Some(PeriodError::PastLimit),
+    },
+    ClaimRow {
+        start: 4_097,
+        period: 1,
+        fault: None,
+    },
 ];
 
 #[test]
@@ -32,7 +55,11 @@ fn dots_and_claims_are_made_or_refused(rt: HostRuntime) {
     }
     let last = dot(&rt, 7, u32::MAX);
     assert_eq!(rt; (last.author(), last.number()), (7, u32::MAX));
-    for &(start, period, fault) in CLAIMS {
+    for &ClaimRow {
+        start,
+        period,
+        fault,
+    } in CLAIMS {
         match Period::new(code, start, period) {
             Ok(claim) => {
                 assert_eq!(rt; None, fault, "from {start} by {period}");
@@ -44,12 +71,35 @@ fn dots_and_claims_are_made_or_refused(rt: HostRuntime) {
     }
 }
 
-// The starts and counts of blocks that are refused, and their faults.
-const BLOCKS: &[(u32, usize, BlockError)] = &[
-    (0, 0, BlockError::Empty),
-    (65_536, 1_025, BlockError::TooMany),
-    (65_536, 1, BlockError::PastLimit),
-    (65_535, 2, BlockError::PastLimit),
+/// The start and the count of a block that is refused, and its fault.
+#[derive(Clone, Copy)]
+struct RefusedBlock {
+    start: u32,
+    count: usize,
+    fault: BlockError,
+}
+
+const BLOCKS: &[RefusedBlock] = &[
+    RefusedBlock {
+        start: 0,
+        count: 0,
+        fault: BlockError::Empty,
+    },
+    RefusedBlock {
+        start: 65_536,
+        count: 1_025,
+        fault: BlockError::TooMany,
+    },
+    RefusedBlock {
+        start: 65_536,
+        count: 1,
+        fault: BlockError::PastLimit,
+    },
+    RefusedBlock {
+        start: 65_535,
+        count: 2,
+        fault: BlockError::PastLimit,
+    },
 ];
 
 // So many values from the place on are refused by this fault, and come back.
@@ -74,19 +124,42 @@ fn block_is_refused(
     Ok(())
 }
 
-// The names and texts of notes that are refused, and their faults.
-const NOTES: &[(&[u8], &[u8], NoteError)] = &[
-    (b"A", b"", NoteError::Name),
-    (b"", b"\x7f", NoteError::Name),
-    (b"a", b"\x7f", NoteError::Text),
+/// The name and the text of a note that is refused, and its fault.
+#[derive(Clone, Copy)]
+struct RefusedNote {
+    name: &'static [u8],
+    text: &'static [u8],
+    fault: NoteError,
+}
+
+const NOTES: &[RefusedNote] = &[
+    RefusedNote {
+        name: b"A",
+        text: b"",
+        fault: NoteError::Name,
+    },
+    RefusedNote {
+        name: b"",
+        text: b"\x7f",
+        fault: NoteError::Name,
+    },
+    RefusedNote {
+        name: b"a",
+        text: b"\x7f",
+        fault: NoteError::Text,
+    },
 ];
 
 #[test]
 fn blocks_and_notes_are_refused(rt: HostRuntime) -> Result<(), Fail> {
-    for &(start, count, fault) in BLOCKS {
+    for &RefusedBlock {
+        start,
+        count,
+        fault,
+    } in BLOCKS {
         block_is_refused(&rt, rt.alloc(), start, count, fault)?;
     }
-    for &(name, text, fault) in NOTES {
+    for &RefusedNote { name, text, fault } in NOTES {
         let refused = Note::new(rt.alloc(), name, text).err();
         assert_eq!(rt;
             refused,
@@ -308,20 +381,52 @@ fn operations_are_copied_and_given_back(rt: HostRuntime) -> Result<(), Fail> {
 // As many letters as no text has, one more than the longest.
 const LETTERS: &[u8; 201] = &[b'k'; 201];
 
-// Bytes, whether they are the name of a note, and whether they are the text of one.
-const WORDS: &[(&[u8], bool, bool)] = &[
-    (b"kayles-0-77", true, true),
-    (b"", false, true),
-    (b"Kayles", false, true),
-    (b" ~", false, true),
-    (b"\x7f", false, false),
-    (LETTERS, false, false),
+/// Bytes, whether they are the name of a note, and whether they are the text of one.
+#[derive(Clone, Copy)]
+struct Word {
+    bytes: &'static [u8],
+    is_name: bool,
+    is_text: bool,
+}
+
+const WORDS: &[Word] = &[
+    Word {
+        bytes: b"kayles-0-77",
+        is_name: true,
+        is_text: true,
+    },
+    Word {
+        bytes: b"",
+        is_name: false,
+        is_text: true,
+    },
+    Word {
+        bytes: b"Kayles",
+        is_name: false,
+        is_text: true,
+    },
+    Word {
+        bytes: b" ~",
+        is_name: false,
+        is_text: true,
+    },
+    Word {
+        bytes: b"\x7f",
+        is_name: false,
+        is_text: false,
+    },
+    Word {
+        bytes: LETTERS,
+        is_name: false,
+        is_text: false,
+    },
 ];
 
 #[test]
 fn names_and_texts_are_told(rt: HostRuntime) {
-    for &(word, name, text) in WORDS {
-        assert_eq!(rt; (is_name(word), is_text(word)), (name, text), "of {word:?}");
+    for word in WORDS {
+        let told = (is_name(word.bytes), is_text(word.bytes));
+        assert_eq!(rt; told, (word.is_name, word.is_text), "of {:?}", word.bytes);
     }
     assert!(rt; is_name(&LETTERS[..32]));
     assert!(rt; !is_name(&LETTERS[..33]));

@@ -98,14 +98,26 @@ fn has_all<A: Allocator + Copy>(rt: &impl Abort, store: &Store<A>, ops: &[Op<A>]
 
 // The authors of all these operations, of each of whom the first one is there: through which number they are known, and the
 // last number.
-const AUTHORS: &[(u32, u32, u32)] = &[(1, 1, 1), (2, 1, 1), (5, 1, 3)];
+const AUTHORS: &[Author] = &[
+    Author {
+        author: 1,
+        through: 1,
+        last: 1,
+    },
+    Author {
+        author: 2,
+        through: 1,
+        last: 1,
+    },
+    Author {
+        author: 5,
+        through: 1,
+        last: 3,
+    },
+];
 
 fn are_authors(rt: &impl Abort, authors: &[Author]) {
-    assert_eq!(rt; authors.len(), AUTHORS.len(), "authors");
-    for (author, wanted) in authors.iter().zip(AUTHORS) {
-        let shown = (author.author, author.through, author.last);
-        assert_eq!(rt; shown, *wanted, "author, through and last");
-    }
+    assert!(rt; authors == AUTHORS, "other authors");
 }
 
 // The one fork is that of the two blocks 1.1.

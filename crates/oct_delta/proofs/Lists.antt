@@ -1,8 +1,7 @@
 -- The text of a list of operations is read as it is written.
-use Rattle.std.proofs.Common.{◌≡◌, ℕ, suc, zero, ◌^◌, ◌<◌, ◌≤◌, List, [], ◌∷◌, ◌++◌, length, drop, Option, Some, None, Result, Ok, Err, false, eqb, refl, sym, ap, subst, ◌∙◌, append_assoc, arith}
+use Rattle.std.proofs.Common.{◌≡◌, ℕ, suc, zero, ◌^◌, ◌<◌, ◌≤◌, List, [], ◌∷◌, ◌++◌, length, drop, Option, Some, None, Result, Ok, Err, false, eqb, refl, sym, ap, ◌∙◌, append_assoc, arith}
 use Rattle.std.specs.Int.{w32, to_be_bytes}
 use Rattle.std.specs.List.{flat_map}
-use Rattle.std.specs.Prelude.{IfOk, IfErr}
 use Rattle.std.proofs.lemmas.Bool.{false≢true}
 use Rattle.std.proofs.lemmas.List.{append-nil, drop_at}
 use Rattle.std.proofs.lemmas.List.Elements.{All-from_recursion, recursion_from_All}
@@ -11,13 +10,11 @@ use Rattle.oct_ops.specs.Body.{Operation}
 use Rattle.oct_ops.specs.Order.{op_cmp}
 use Rattle.oct_ops.specs.OrderLaws.{op_cmp_total}
 use Rattle.oct_delta.specs.declared.fault.TextFault.{TextFault}
-use Rattle.oct_delta.specs.declared.fault.ReadError.{ReadError}
-use Rattle.oct_delta.specs.declared.fault.ReadError.TheVariants.{Memory, Fault as Unread}
 use Rattle.oct_delta.specs.Bytes.{IsBytes}
 use Rattle.oct_delta.specs.Text.{op_bytes, list_bytes}
 use Rattle.oct_delta.specs.Delta.{Fits, Format, IsOpList, IsList, IsDelta}
-use Rattle.oct_delta.specs.Reading.{GivesIfRoom, skipped, checked, follows, number_at, op_at, next_at, next_op_at, chain_at}
-use Rattle.oct_delta.proofs.Codecs.{Chained, number_codec, wide32, bind_ok, checked_ok, ok_is, as_part, done, failed, skipped_ok}
+use Rattle.oct_delta.specs.Reading.{skipped, checked, follows, number_at, op_at, next_at, next_op_at, chain_at}
+use Rattle.oct_delta.proofs.Codecs.{Chained, number_codec, wide32, bind_ok, checked_ok, ok_is, as_part, failed, skipped_ok}
 use Rattle.oct_delta.proofs.Chains.{each_from_chain, rises_from_chain, chain_from_rising}
 use Rattle.oct_delta.proofs.Formats.{ops_codec, IsNextOp}
 
@@ -94,17 +91,6 @@ pub refused_rest : (limit : ℕ) → limit ≤ LIMIT → (bytes rest after : Lis
 refused_rest limit low bytes rest after n count read more ops is =
     let nothing = ok_is after [] (list_passes limit low bytes rest n (Ok after) count read ops is) in
     false≢true (sym more ∙ ap (λ (z : List ℕ). eqb (length z) 0) nothing)
-
-pub built : {V : Type 0} (items : V → List Operation) (limit : ℕ) → limit ≤ LIMIT → (bytes rest after : List ℕ) (n : ℕ) (r : Result V ReadError) → number_at w32 bytes ≡ Ok (n, rest) → GivesIfRoom (λ v. (items v, after)) r (chain_at (λ _. op_at limit) None n rest)
-    → (ops : List Operation) → IsList limit bytes ops → IfOk r (λ v. IsList limit bytes (items v)) × IfErr r (λ e. e ≡ Memory)
-built {V} items limit low bytes rest after n (Ok v) count gives ops is =
-    let same = ok_is (ops, []) (items v, after) (sym (list_reads limit low bytes rest n count ops is) ∙ gives) in
-    (subst (IsList limit bytes) (ap (λ (x : List Operation × List ℕ). x.0) same) is, tt)
-built items limit low bytes rest after n (Err Memory) count gives ops is = (tt, refl)
-built items limit low bytes rest after n (Err (Unread f)) count gives ops is = absurd (no_err (sym (list_reads limit low bytes rest n count ops is) ∙ gives))
-  where
-    no_err : done {A = List Operation × List ℕ} (ops, []) ≡ Err f → ⊥
-    no_err e = cc
 
 -- the text of a list at the front of that of another is all of it
 pub front_is_all : (limit : ℕ) → limit ≤ LIMIT → (a b : List Operation) (more : List ℕ) → IsOpList limit a → IsOpList limit b → list_bytes a ++ more ≡ list_bytes b → (a ≡ b) × (more ≡ [])

@@ -20,7 +20,7 @@ use Rattle.oct_delta.specs.declared.error.DeltaError.{DeltaError}
 use Rattle.oct_delta.specs.declared.error.DeltaError.TheVariants as faults
 use Rattle.oct_delta.specs.declared.format.Edition.{Edition}
 use Rattle.oct_delta.specs.declared.format.Edition.TheVariants.{First, Second}
-use Rattle.oct_delta.specs.declared.state.Progress.{Progress}
+use Rattle.oct_delta.specs.declared.state.Arrived.{Arrived}
 use Rattle.oct_delta.specs.declared.state.ReaderState.{ReaderState}
 use Rattle.oct_delta.specs.declared.state.ReaderState.TheVariants.{Reading, Failed}
 use Rattle.oct_delta.specs.Bytes.{IsBytes}
@@ -246,18 +246,18 @@ left_within front after rest now parts is =
 
 -- ---- what a state tells
 
-pub unfinished_here : {A : Type 0} (s : ReaderState A) (p : Progress A) → s ≡ Reading p → IsReaderState s → length p.ops.items < p.count
+pub unfinished_here : {A : Type 0} (s : ReaderState A) (p : Arrived A) → s ≡ Reading p → IsReaderState s → length p.ops.items < p.count
     → IfSome (fed s) (λ bytes. HasTag bytes × ((other : List Operation) → ¬ IsDeltaText bytes other))
 unfinished_here {A} s p is held lt =
     subst (λ (z : ReaderState A). IsReaderState z → IfSome (fed z) (λ bytes. HasTag bytes × ((other : List Operation) → ¬ IsDeltaText bytes other))) (sym is)
     (λ q. (has_tag p.edition _, unfinished p.edition p.count p.ops.items p.rest.items q lt)) held
 
-pub finished_here : {A : Type 0} (s : ReaderState A) (p : Progress A) (list : List Operation) → s ≡ Reading p → IsReaderState s → p.count ≤ length p.ops.items → list ≡ p.ops.items → IfSome (fed s) (λ bytes. IsDeltaText bytes list)
+pub finished_here : {A : Type 0} (s : ReaderState A) (p : Arrived A) (list : List Operation) → s ≡ Reading p → IsReaderState s → p.count ≤ length p.ops.items → list ≡ p.ops.items → IfSome (fed s) (λ bytes. IsDeltaText bytes list)
 finished_here {A} s p list is held le same =
     subst (λ (z : List Operation). IfSome (fed s) (λ bytes. IsDeltaText bytes z)) (sym same)
     (subst (λ (z : ReaderState A). IsReaderState z → IfSome (fed z) (λ bytes. IsDeltaText bytes p.ops.items)) (sym is) (λ q. text_at_end p.edition p.count p.ops.items p.rest.items q le) held)
 
-pub whole_here : {A : Type 0} (s : ReaderState A) (p : Progress A) (value : Option (List ℕ)) (items : List Operation) → s ≡ Reading p → IsReaderState s → fed s ≡ value → items ≡ p.ops.items → IfSome value (λ bytes. AreWhole bytes items)
+pub whole_here : {A : Type 0} (s : ReaderState A) (p : Arrived A) (value : Option (List ℕ)) (items : List Operation) → s ≡ Reading p → IsReaderState s → fed s ≡ value → items ≡ p.ops.items → IfSome value (λ bytes. AreWhole bytes items)
 whole_here {A} s p value items is held view same =
     subst (λ (v : Option (List ℕ)). IfSome v (λ bytes. AreWhole bytes items)) view
     (subst (λ (z : List Operation). IfSome (fed s) (λ bytes. AreWhole bytes z)) (sym same)
@@ -288,7 +288,7 @@ begun_more e count ops rest piece now is =
     ∙ ap (λ (y : List ℕ). (format e).tag ++ y) (append_assoc (u32 count) (flat_map op_bytes ops ++ rest) piece ∙ ap (λ (y : List ℕ). u32 count ++ y) (append_assoc (flat_map op_bytes ops) rest piece))
     )
 
-pub begins_still : {A : Type 0} (s : ReaderState A) (p : Progress A) → s ≡ Reading p → IsReaderState s → BeginsList (format p.edition).limit p.count p.ops.items
+pub begins_still : {A : Type 0} (s : ReaderState A) (p : Arrived A) → s ≡ Reading p → IsReaderState s → BeginsList (format p.edition).limit p.count p.ops.items
 begins_still {A} s p is held = (subst (λ (z : ReaderState A). IsReaderState z) is held).begins
 
 pub untold : {A : Type 0} (r : Result (ReaderState A) DeltaError) (s : ReaderState A) (piece : List ℕ) → s ≡ Failed → IfSome (fed s) (λ bytes. Tells r (bytes ++ piece))

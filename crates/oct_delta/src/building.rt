@@ -1,8 +1,8 @@
 //! Operations from the front of the bytes, in memory.
 
-ghost use Rattle.std.specs.Prelude.{◌≡◌, ◌≤◌, None, length, IfOk};
+ghost use Rattle.std.specs.Prelude.{◌≡◌, ◌≤◌, length, IfOk};
 ghost use Rattle.oct_ops.specs.Views.{content};
-ghost use Rattle.oct_delta.specs.Reading.{GivesIfRoom, numbers_at, dots_at, removal_at, block_at, note_at, op_at, body_at, chain_at};
+ghost use Rattle.oct_delta.specs.Reading.{GivesIfRoom, numbers_at, dots_at, removal_at, block_at, note_at, op_at, body_at};
 
 use crate::fault::{ReadError, TextFault};
 use crate::input::Input;
@@ -113,23 +113,5 @@ impl Input<'_> {
         let kind = self.byte()?;
         let body = self.body(alloc, limit, kind)?;
         Ok(Op::new(dot, body))
-    }
-
-    /// So many operations, in whatever order.
-    pub(crate) fn ops<A: Allocator + Copy>(
-        &mut self,
-        alloc: A,
-        limit: usize,
-        count: u32,
-    ) -> Result<Vec<Op<A>, A>, ReadError>
-        requires { limit ≤ LIMIT }
-        ensures { GivesIfRoom (λ x. (x.items, self.new)) result (chain_at (λ _. op_at limit) None count self.old) }
-    {
-        let mut ops = Vec::with_capacity(alloc, count as usize)?;
-        for _ in 0..count {
-            let op = self.op(alloc, limit)?;
-            ops.push_reserved(op);
-        }
-        Ok(ops)
     }
 }

@@ -1,9 +1,10 @@
 //! Passing over operations, each as it should be, without memory.
 
-ghost use Rattle.std.specs.Prelude.{◌≡◌, ◌≤◌, None, IfOk};
+ghost use Rattle.std.specs.Prelude.{◌≡◌, ◌≤◌, List, None, IfOk, OnOk, OnErr};
 ghost use Rattle.std.specs.Ordering.{is_lt, nat_cmp};
 ghost use Rattle.std.specs.Cmp.Lexicographic.{slice_cmp};
 ghost use Rattle.oct_ops.specs.Body.{Operation};
+ghost use Rattle.oct_delta.specs.Delta.{IsList};
 ghost use Rattle.oct_delta.specs.Text.{op_bytes};
 ghost use Rattle.oct_delta.specs.Passing.{Passed};
 ghost use Rattle.oct_delta.specs.Reading.{Gives, skipped, numbers_at, dots_at, removal_at, block_at, op_at, body_at, ops_at};
@@ -117,4 +118,19 @@ impl<'a> Input<'a> {
         }
         Ok(())
     }
+}
+
+/// Whether the bytes are the text of a rising list of operations, without memory.
+pub(crate) fn check_list(limit: usize, bytes: &[u8]) -> Result<(), TextFault>
+    requires { limit ≤ LIMIT }
+    ensures ok { OnOk result ((ops : List Operation) × IsList limit bytes.now ops) }
+    ensures err { OnErr result ((ops : List Operation) → IsList limit bytes.now ops → ⊥) }
+{
+    let mut input = Input::new(bytes);
+    let count = input.u32()?;
+    input.skip_ops(limit, count)?;
+    if !input.is_empty() {
+        return Err(TextFault::Malformed);
+    }
+    Ok(())
 }

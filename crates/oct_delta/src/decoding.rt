@@ -6,8 +6,7 @@ ghost use Rattle.oct_delta.specs.Delta.{IsDeltaText};
 ghost use Rattle.oct_delta.specs.Decoding.{format_at, read_delta};
 
 use crate::error::DeltaError;
-use crate::format::split_tag;
-use crate::list::{build_list, check_list};
+use crate::text_ops::{made, read_ops};
 use oct_ops::OpList;
 use std::alloc::Allocator;
 
@@ -25,14 +24,11 @@ pub fn decode<A: Allocator + Copy>(alloc: A, bytes: &[u8]) -> Result<OpList<A>, 
     ensures memory { IsErrOf result DeltaError.OutOfMemory → (ops : List Operation) × IsDeltaText bytes.now ops }
     ensures failed { ¬ IsErrOf result DeltaError.Failed }
 {
-    let Some((edition, list)) = split_tag(bytes) else {
-        return Err(DeltaError::Version);
+    let left = match read_ops(bytes) {
+        Ok(left) => left,
+        Err(refused) => return Err(refused),
     };
-    let limit = edition.limit();
-    if check_list(limit, list).is_err() {
-        return Err(DeltaError::Refused);
-    }
-    let Ok(ops) = build_list(alloc, limit, list) else {
+    let Ok(ops) = made(alloc, left) else {
         return Err(DeltaError::OutOfMemory);
     };
     Ok(OpList::of_rising(ops))

@@ -31,7 +31,6 @@ mod fault;
 mod format;
 mod input;
 pub mod laws;
-mod list;
 mod output;
 mod reader;
 mod state;

@@ -12,7 +12,7 @@ use crate::error::DeltaError;
 use crate::fault::ReadError;
 use crate::format::split_tag;
 use crate::input::Input;
-use crate::state::{Progress, ReaderState};
+use crate::state::{Arrived, ReaderState};
 use oct_ops::{Op, OpList};
 use std::alloc::{AllocError, Allocator};
 use std::marker::Model;
@@ -34,19 +34,16 @@ fn keep_from<A: Allocator + Copy>(
 }
 
 // Takes the operations that are whole from the front of the rest.
-fn read_on<A: Allocator + Copy>(
-    alloc: A,
-    progress: Progress<A>,
-) -> Result<ReaderState<A>, DeltaError>
-    requires { BeginsList (format progress.edition).limit progress.count progress.ops.items }
-    ensures { Tells result (begun_bytes progress.edition progress.count progress.ops.items progress.rest.items) }
+fn read_on<A: Allocator + Copy>(alloc: A, arrived: Arrived<A>) -> Result<ReaderState<A>, DeltaError>
+    requires { BeginsList (format arrived.edition).limit arrived.count arrived.ops.items }
+    ensures { Tells result (begun_bytes arrived.edition arrived.count arrived.ops.items arrived.rest.items) }
 {
-    let Progress {
+    let Arrived {
         edition,
         count,
         mut ops,
         rest,
-    } = progress;
+    } = arrived;
     let mut input = Input::new(&rest);
     match input.whole_ops(alloc, edition.limit(), count, &mut ops) {
         Ok(()) => {}
@@ -58,7 +55,7 @@ fn read_on<A: Allocator + Copy>(
     }
     let taken = rest.len() - input.rest().len();
     let rest = keep_from(alloc, rest, taken)?;
-    Ok(ReaderState::Reading(Progress {
+    Ok(ReaderState::Reading(Arrived {
         edition,
         count,
         ops,
@@ -84,7 +81,7 @@ fn begin<A: Allocator + Copy>(alloc: A, bytes: Vec<u8, A>) -> Result<ReaderState
     let ops = Vec::new(alloc);
     read_on(
         alloc,
-        Progress {
+        Arrived {
             edition,
             count,
             ops,
@@ -108,9 +105,9 @@ fn advance<A: Allocator + Copy>(
             bytes.extend_from_slice(piece)?;
             begin(alloc, bytes)
         }
-        ReaderState::Reading(mut progress) => {
-            progress.rest.extend_from_slice(piece)?;
-            read_on(alloc, progress)
+        ReaderState::Reading(mut arrived) => {
+            arrived.rest.extend_from_slice(piece)?;
+            read_on(alloc, arrived)
         }
         ReaderState::Failed => Err(DeltaError::Failed),
     }
@@ -132,8 +129,8 @@ fn end<A: Allocator + Copy>(state: ReaderState<A>) -> Result<OpList<A>, DeltaErr
             }
             Err(DeltaError::Refused)
         }
-        ReaderState::Reading(progress) => {
-            let Progress { count, ops, .. } = progress;
+        ReaderState::Reading(arrived) => {
+            let Arrived { count, ops, .. } = arrived;
             if ops.len() < count as usize {
                 return Err(DeltaError::Refused);
             }
@@ -199,7 +196,7 @@ impl<A: Allocator + Copy> Reader<A> {
         ensures none { self.now ≡ None → result.now ≡ [] }
     {
         match &self.state {
-            ReaderState::Reading(progress) => &progress.ops,
+            ReaderState::Reading(arrived) => &arrived.ops,
             _ => &[],
         }
     }

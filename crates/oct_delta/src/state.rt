@@ -6,7 +6,7 @@ use std::alloc::Allocator;
 
 /// The operations that came whole, so many as are to come, and the bytes after them.
 #[derive(Drop)]
-pub(crate) struct Progress<A: Allocator> {
+pub(crate) struct Arrived<A: Allocator> {
     pub(crate) edition: Edition,
     pub(crate) count: u32,
     pub(crate) ops: Vec<Op<A>, A>,
@@ -19,7 +19,7 @@ pub(crate) enum ReaderState<A: Allocator> {
     /// Fewer than eight bytes have come.
     Begun(Vec<u8, A>),
     /// The tag and the count have come.
-    Reading(Progress<A>),
+    Reading(Arrived<A>),
     /// A call was refused.
     Failed,
 }

@@ -5,11 +5,11 @@ ghost use Rattle.oct_ops.specs.Body.{Operation};
 ghost use Rattle.oct_delta.specs.Delta.{IsDeltaText, IsList};
 ghost use Rattle.oct_delta.specs.Decoding.{format_at, read_delta};
 
+use crate::checking::check_list;
 use crate::error::DeltaError;
 use crate::fault::ReadError;
 use crate::format::split_tag;
 use crate::input::Input;
-use crate::list::check_list;
 use oct_code::LIMIT;
 use oct_ops::Op;
 use std::alloc::{AllocError, Allocator};
@@ -53,6 +53,11 @@ impl<'a> TextOps<'a> {
             Ok(left) => TextOps { input, limit, left },
             Err(_) => unreachable!(),
         }
+    }
+
+    // How many operations are left.
+    fn count(&self) -> u32 {
+        self.left
     }
 
     /// The next operation, in memory of `alloc`, and none after the last. Memory can be refused only where an operation is
@@ -99,4 +104,18 @@ pub fn read_ops(bytes: &[u8]) -> Result<TextOps<'_>, DeltaError>
         return Err(DeltaError::Refused);
     }
     Ok(TextOps::new(limit, list))
+}
+
+/// The operations that are left, in memory. Only memory can be missing.
+pub(crate) fn made<A: Allocator + Copy>(
+    alloc: A,
+    mut left: TextOps<'_>,
+) -> Result<Vec<Op<A>, A>, AllocError>
+    ensures { IfOk result (λ ops. ops.items ≡ left.entry) }
+{
+    let mut ops = Vec::with_capacity(alloc, left.count() as usize)?;
+    while let Some(op) = left.next(alloc)? {
+        ops.push(op)?;
+    }
+    Ok(ops)
 }

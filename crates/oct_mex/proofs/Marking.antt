@@ -1,19 +1,14 @@
 -- Steps that add marks to a table.
-use Rattle.std.proofs.Common.{◌≡◌, ℕ, suc, ◌^◌, ◌++◌, ◌∷◌, [], ap, refl, ◌+◌, ◌*◌, ◌/◌, ◌<◌, ◌≤◌, ◌-◌, IsTrue, Bool, false, List, length, min, replicate, slice_index, sym, ap₂, ◌∙◌, subst, arith, ◌⊎◌, inl, inr, bit_xor}
-use Rattle.std.proofs.lemmas.Bool.{cases_eq, cases_lt, cases_Bool, false≢true}
+use Rattle.std.proofs.Common.{◌≡◌, ℕ, suc, ◌^◌, ◌++◌, ◌∷◌, [], ap, refl, ◌+◌, ◌*◌, ◌/◌, ◌<◌, ◌≤◌, ◌-◌, IsTrue, Bool, List, length, slice_index, sym, ap₂, ◌∙◌, subst, arith, ◌⊎◌, inl, inr, bit_xor}
+use Rattle.std.proofs.lemmas.Bool.{cases_eq, cases_lt}
 use Rattle.std.proofs.Math.Nat.{pow-suc}
 use Rattle.std.specs.List.{Contains}
 use Rattle.std.proofs.lemmas.List.{get_or_default}
 use Rattle.std.proofs.lemmas.List.Elements.{All-push, All-weaker, Contains-get_or}
 use Rattle.std.proofs.lemmas.Nat.{xor_lt, xor_comm, pow_pos}
-use Rattle.std.proofs.Math.ListN.{get_or-replicate, length-replicate}
 use Rattle.oct_code.specs.Code.{Code, len, allows}
-use Rattle.oct_mex.specs.Mex.{IsMex}
-use Rattle.oct_mex.specs.NimValues.{IsOptionValue}
-use Rattle.oct_mex.specs.Marks.{IsOneHeapBy, heaps_left, IsBelow, IsMarked, AddsMarks, IsPairBy, IsPairValue, IsRareBy, IsRarePair, IsOptionBy, IsTableFor}
-use Rattle.oct_mex.specs.Rare.{is_rare, ListsRare}
-use Rattle.oct_mex.proofs.Parity.{rare-of_common, some-of_common}
-use Rattle.oct_mex.proofs.Moves.{heaps_two, parts, move_of}
+use Rattle.oct_mex.specs.Marks.{IsOneHeapBy, heaps_left, IsBelow, AddsMarks, IsPairBy, IsPairValue, IsRareBy, IsRarePair, IsOptionBy, IsTableFor}
+use Rattle.oct_mex.proofs.Moves.{heaps_two}
 
 -- one step after another
 pub AddsMarks-then : (x y z : List Bool) (P Q R : ℕ → Type 0) → AddsMarks x y P → AddsMarks y z Q
@@ -235,111 +230,10 @@ removals_more P r x y z p q =
     (λ v o. (o.0, omega (arith, o.1), o.2))
     (λ v o. (r, omega arith, o))
 
--- a round of pairs after the earlier ones
-pub rounds_more : (c : Code) (g : ℕ → ℕ) (n k from mid end : ℕ) (x y z : List Bool) → from ≤ mid → mid ≤ end
-    → AddsMarks x y (IsBelow (IsPairBy c g n from mid) k) → AddsMarks y z (IsBelow (IsPairBy c g n mid end) k) → AddsMarks x z (IsBelow (IsPairBy c g n from end) k)
-rounds_more c g n k from mid end x y z h l p q =
-    AddsMarks-then x y z (IsBelow (IsPairBy c g n from mid) k) (IsBelow (IsPairBy c g n mid end) k) (IsBelow (IsPairBy c g n from end) k) p q
-    (λ v o. elim (cases_lt o.2.0.a mid) [
-      | inl low ↦ inl (o.0, o.1, (o.2.0, o.2.1, low))
-      | inr high ↦ inr (o.0, o.1, (o.2.0, omega arith, o.2.2))
-    ])
-    (λ v o. (o.0, o.1, (o.2.0, o.2.1, omega (arith, o.2.2))))
-    (λ v o. (o.0, o.1, (o.2.0, omega (arith, o.2.1), o.2.2)))
-
-option_by : (c : Code) (g : ℕ → ℕ) (n v : ℕ) (o : IsOptionValue c g n v) → (r : ℕ) × (r < min (len c) n + 1) × IsOptionBy c g n r v
-option_by c g n v o =
-    let p = parts c n o.a o.b o.move in
-    (o.move.removed, omega (arith, p.total, p.few), record { a = o.a; b = o.b; parts = p; is = o.is })
-
-option_from_by : (c : Code) (g : ℕ → ℕ) (n r v : ℕ) → IsOptionBy c g n r v → IsOptionValue c g n v
-option_from_by c g n r v o = record { a = o.a; b = o.b; move = move_of c n r o.a o.b o.parts; is = o.is }
-
 -- the exclusive or of two values is in the table
 pub xor_within : (values : List ℕ) (size a b : ℕ) → IsTableFor values size → a < length values → b < length values
     → bit_xor (slice_index values a) (slice_index values b) < size
 xor_within values size a b table l k = rw table.power (xor_lt table.bits _ _ (table.small a 0 l) (table.small b 0 k))
-
-option_within : (c : Code) (values : List ℕ) (size v : ℕ) → IsTableFor values size → IsOptionValue c (slice_index values) (length values) v → v < size
-option_within c values size v table o =
-    let p = parts c (length values) o.a o.b o.move in
-    rw o.is (xor_within values size o.a o.b table (omega (arith, p.ordered, p.smaller)) p.smaller)
-
--- the first place that is not marked, once all options are
-pub mex_from_all : (c : Code) (values : List ℕ) (m size : ℕ) (marks : List Bool) → IsTableFor values size
-    → AddsMarks (replicate size false) marks (IsBelow (IsOptionBy c (slice_index values) (length values)) (min (len c) (length values) + 1))
-    → m ≤ length marks → ((v : ℕ) → v < m → IsMarked marks v) → (m < length marks → IsMarked marks m → ⊥)
-    → IsMex (IsOptionValue c (slice_index values) (length values)) m
-mex_from_all c values m size marks table adds within low first =
-    let g = slice_index values in
-    let n = length values in
-    let sized : length marks ≡ size = adds.size ∙ length-replicate size false in
-    record {
-      excluded = λ o.
-          let inside : m < size = option_within c values size m table o in
-          first (omega arith) ((adds.marked m (omega (arith, length-replicate size false))).1 (inr (option_by c g n m o)));
-      below = λ v l. elim ((adds.marked v (omega (arith, length-replicate size false))).0 (low v l)) [
-        | inl old ↦ absurd (false≢true (sym (get_or-replicate size v false false (omega arith)) ∙ old))
-        | inr o ↦ option_from_by c g n o.0 v o.2
-      ];
-    }
-
--- an option is among those that are marked first, or in a round, or leaves two common heaps and so is rare
-marked_option : (c : Code) (values : List ℕ) (mask : ℕ) (heaps : List ℕ) (end v : ℕ) → ListsRare mask values (length values) heaps
-    → (length values / 2 < end) ⊎ (is_rare mask v ≡ false) → IsOptionValue c (slice_index values) (length values) v
-    → IsBelow (IsRareBy c (slice_index values) (length values) heaps) (min (len c) (length values) + 1) v
-    ⊎ IsBelow (IsPairBy c (slice_index values) (length values) 1 end) (min (len c) (length values) + 1) v
-marked_option c values mask heaps end v listed enough option =
-    let g = slice_index values in
-    let by = option_by c g (length values) v option in
-    let o = by.2 in
-    elim (cases_eq o.a 0) [
-      | inl none ↦ inl (by.0, by.1, (o, inl none))
-      | inr some ↦ elim enough [
-        | inl all ↦ inr (by.0, by.1, (o, omega arith, omega (arith, o.parts.ordered, o.parts.total)))
-        | inr common ↦
-            let masked = some-of_common mask v common in
-            let held_b = o.parts.smaller in
-            elim (cases_Bool (is_rare mask (g o.a))) [
-              | inl rare ↦ inl (by.0, by.1, (o, inr (inl (listed masked o.a (omega arith) (omega (arith, o.parts.ordered, held_b)) rare))))
-              | inr not_a ↦ elim (cases_Bool (is_rare mask (g o.b))) [
-                | inl rare ↦ inl (by.0, by.1, (o, inr (inr (listed masked o.b (omega (arith, o.parts.ordered)) held_b rare))))
-                | inr not_b ↦ absurd (false≢true (sym common ∙ ap (is_rare mask) o.is ∙ rare-of_common mask (g o.a) (g o.b) not_a not_b))
-              ]
-            ]
-      ]
-    ]
-
--- the first place that is not marked, once all pairs are or it is common
-pub mex_from_marks : (c : Code) (values : List ℕ) (mask : ℕ) (heaps : List ℕ) (m size end : ℕ) (first marks : List Bool) → IsTableFor values size
-    → ListsRare mask values (length values) heaps
-    → AddsMarks (replicate size false) first (IsBelow (IsRareBy c (slice_index values) (length values) heaps) (min (len c) (length values) + 1))
-    → AddsMarks first marks (IsBelow (IsPairBy c (slice_index values) (length values) 1 end) (min (len c) (length values) + 1))
-    → (length values / 2 < end) ⊎ (is_rare mask m ≡ false)
-    → m ≤ length marks → ((v : ℕ) → v < m → IsMarked marks v) → (m < length marks → IsMarked marks m → ⊥)
-    → IsMex (IsOptionValue c (slice_index values) (length values)) m
-mex_from_marks c values mask heaps m size end first marks table listed rare pairs enough within low none =
-    let g = slice_index values in
-    let n = length values in
-    let sized_first : length first ≡ size = rare.size ∙ length-replicate size false in
-    let sized : length marks ≡ size = pairs.size ∙ sized_first in
-    record {
-      excluded = λ o.
-          let inside : m < size = option_within c values size m table o in
-          let in_first = rare.marked m (omega (arith, length-replicate size false)) in
-          let in_marks = pairs.marked m (omega arith) in
-          none (omega arith) (elim (marked_option c values mask heaps end m listed enough o) [
-            | inl before ↦ in_marks.1 (inl (in_first.1 (inr before)))
-            | inr round ↦ in_marks.1 (inr round)
-          ]);
-      below = λ v l. elim ((pairs.marked v (omega arith)).0 (low v l)) [
-        | inl before ↦ elim ((rare.marked v (omega (arith, length-replicate size false))).0 before) [
-          | inl old ↦ absurd (false≢true (sym (get_or-replicate size v false false (omega arith)) ∙ old))
-          | inr o ↦ option_from_by c g n o.0 v o.2.0
-        ]
-        | inr o ↦ option_from_by c g n o.0 v o.2.0
-      ];
-    }
 
 -- with a further value that is not above the table's length, a table twice as long serves
 pub table_grows : (values : List ℕ) (size v : ℕ) → IsTableFor values size → v ≤ size → IsTableFor (values ++ v ∷ []) (size * 2)

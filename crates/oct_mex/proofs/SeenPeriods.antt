@@ -1,11 +1,9 @@
 -- A period that a list of nim-values shows.
-use Rattle.std.proofs.Common.{◌≡◌, ◌≢◌, ℕ, suc, ◌+◌, ◌-◌, ◌*◌, ◌<◌, ◌≤◌, ◌++◌, ◌∷◌, [], List, length, slice_index, take, drop, inl, inr, subst, sym, ap, ap₂, ◌∙◌, arith}
-use Rattle.std.proofs.lemmas.Bool.{cases_lt}
-use Rattle.std.proofs.lemmas.List.{get_or-drop, get_or-take, length-drop, length-take-le}
+use Rattle.std.proofs.Common.{◌≡◌, ◌≢◌, ℕ, ◌==◌, ◌||◌, Bool, true, false, not, refl, suc, ◌+◌, ◌-◌, ◌*◌, ◌<◌, ◌≤◌, ◌++◌, ◌∷◌, [], List, length, slice_index, inl, inr, subst, sym, ap, ap₂, ◌∙◌, arith}
+use Rattle.std.proofs.lemmas.Bool.{cases_Bool, cases_eq, cases_lt, eqb-true, false≢true}
 use Rattle.oct_code.specs.Code.{Code, len}
-use Rattle.oct_mex.specs.Differences.{IsFirstDifference}
 use Rattle.oct_mex.specs.NimValues.{nim_values, nim_value}
-use Rattle.oct_mex.specs.Periods.{ComesAgain, GoesOn, IsBreak, IsPeriodicFrom, IsShown, NoneIsShown, NoneIsShownBefore}
+use Rattle.oct_mex.specs.Periods.{ComesAgain, GoesOn, IsPeriodicFrom, IsShown, NoneIsShown, NoneIsShownBefore}
 use Rattle.oct_mex.proofs.NimValues.{nim_values-at, nim_value-eq}
 use Rattle.oct_mex.proofs.Periods.{seen_periods_hold}
 
@@ -33,40 +31,18 @@ pub not_shown_before : (c : Code) (values : List ℕ) (start period : ℕ) → v
 not_shown_before c values start period are within first earlier low shown =
     first (omega (arith, shown.first)) (again_if_shown c values earlier period (start - 1) are shown (omega arith) (start - 1) (omega arith) (omega (arith, shown.first)))
 
--- ---- two slices of a list: its values from the start on, and those one period later
-
-module _ (values : List ℕ) (start period : ℕ) (within : start + period ≤ length values) where
-  abbrev count : ℕ
-  count = length values - period - start
-
-  abbrev earlier : List ℕ
-  earlier = take (start + count - start) (drop start values)
-
-  abbrev later : List ℕ
-  later = take (length values - (start + period)) (drop (start + period) values)
-
-  at_earlier : (n : ℕ) → n < count → slice_index earlier n ≡ slice_index values (start + n)
-  at_earlier n low = get_or-take (start + count - start) (drop start values) n 0 (omega arith) ∙ get_or-drop start values n 0
-
-  at_later : (n : ℕ) → n < count → slice_index later n ≡ slice_index values (start + n + period)
-  at_later n low =
-      let there : start + period + n ≡ start + n + period = omega arith in
-      get_or-take (length values - (start + period)) (drop (start + period) values) n 0 (omega arith) ∙ get_or-drop (start + period) values n 0 ∙ ap (slice_index values) there
-
-  pub comes_again-same : earlier ≡ later → ComesAgain values start period
-  comes_again-same same n low near =
-      let at : start + (n - start) ≡ n = omega arith in
-      ap (λ m. slice_index values (m + period)) (sym at) ∙ sym (at_later (n - start) (omega arith)) ∙ ap (λ xs. slice_index xs (n - start)) (sym same)
-      ∙ at_earlier (n - start) (omega arith) ∙ ap (slice_index values) at
-
-  pub break_differs : (index : ℕ) → IsFirstDifference earlier later index → IsBreak values start period (start + index)
-  break_differs index differ =
-      let few : index < count = omega (arith, differ.within, length-take-le (start + count - start) (drop start values) (omega (arith, length-drop start values))) in
-      record {
-        behind = omega arith;
-        within = omega arith;
-        breaks = λ again. differ.differs (at_earlier index few ∙ sym again ∙ sym (at_later index few));
-      }
+-- a walk over some values that compares each with the one a period later, x and y are the next two
+pub again_next : (values : List ℕ) (from heap period x y : ℕ) (differs : Bool) → x ≡ slice_index values (heap + period) → y ≡ slice_index values heap
+    → (differs ≡ false → (n : ℕ) → from ≤ n → n < heap → slice_index values (n + period) ≡ slice_index values n)
+    → (differs || not (x == y)) ≡ false → (n : ℕ) → from ≤ n → n < heap + 1 → slice_index values (n + period) ≡ slice_index values n
+again_next values from heap period x y true is_x is_y again same n low high = absurd (false≢true (sym same))
+again_next values from heap period x y false is_x is_y again same n low high = elim (cases_eq n heap) [
+  | inl e ↦ elim (cases_Bool (x == y)) [
+    | inl t ↦ subst (λ m. slice_index values (m + period) ≡ slice_index values m) (sym e) (sym is_x ∙ eqb-true x y t ∙ is_y)
+    | inr f ↦ absurd (false≢true (sym same ∙ ap not f))
+  ]
+  | inr ne ↦ again refl n low (omega arith)
+]
 
 -- ---- periods one after another
 

@@ -9,20 +9,34 @@
 //!     values.as_slice()                                 // 0 1 2 3 1 4 3 2
 //!
 //! - `Values` is a code and the list of its first nim-values. Room is made ahead, and within it nothing can fail.
-//! - In most games few heaps have values of a rare kind, and the options with such a heap settle the mex: `rare`.
+//! - In most games few heaps are rare under a mask, and the options with such a heap settle the mex: `rare`. The best
+//!   mask is found by a transform of the counts of the values: `mask`.
+//! - Where they don't settle it, other pairs are marked, and the few values that are still not marked are sought in
+//!   those that are left, many pairs at a time: `next`, `marks`, `pairs`.
+//! - A `Cell` holds a nim-value in 8, 16 or 32 bits, and a `Row` the values of a game in cells: the functions over
+//!   them are the same for each width, with clauses over the numbers in the cells.
 //! - Once they show a period that holds for ever, the further values are copied.
 //! - `find_period` looks for the least period that first nim-values show, and for the least heap from which on they do.
 //! - `first_difference` compares two lists of claimed and true values.
 //! - `laws` says what holds of the moves and the nim-values of all heaps: the periodicity theorem above all.
 #![tactic(auto)]
 
+mod cell;
 mod difference;
 pub mod laws;
 mod marks;
+mod mask;
+mod next;
+mod pairs;
 mod period;
 mod rare;
+mod row;
 mod values;
 
+pub use cell::Cell;
 pub use difference::first_difference;
-pub use period::{SeenPeriod, find_period};
+pub use mask::{Mask, NO_MASK};
+pub use period::{SeenPeriod, expected_need, find_period, find_shown};
+pub use rare::Rare;
+pub use row::Row;
 pub use values::Values;

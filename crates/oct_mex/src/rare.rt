@@ -1,160 +1,149 @@
 //! The rare heaps of a game.
 //!
-//! A mask parts the nim-values: one is rare if an even number of its bits are in the mask, and otherwise common. So the
-//! exclusive or of two common values is rare. In most games there is a mask under which few values are rare (Berlekamp, in
-//! Winning Ways, chapter 4; Gangolli and Plambeck 1989; Flammenkamp 2002), and then few options have common values.
+//! A mask parts the heaps: one is rare if an even number of the bits of its nim-value are in the mask, and otherwise
+//! common; where all moves that leave two heaps remove beans of one parity, the parity of the heap may count as a
+//! further bit. Two common heaps then never have an exclusive or that is common at the heap that they came from. In
+//! most games there is a mask under which few heaps are rare (Berlekamp, in Winning Ways, chapter 4; Gangolli and
+//! Plambeck 1989; Flammenkamp 2002).
 //!
-//! A value that is common and stands for no option with a rare heap stands for none at all, so the options with a rare heap
-//! mostly settle the mex. This is exact under each mask: that a mask is good is nowhere proved, and shows in the time alone.
+//! So a value that is common and stands for no option with a rare heap stands for none of two heaps at all, and the
+//! options with a rare heap mostly settle the mex. This is exact under each mask: that a mask is good is nowhere
+//! proved, and shows in the time alone.
 
-ghost use Rattle.std.specs.Prelude.{◌≡◌, ◌+◌, ◌-◌, ◌/◌, ◌^◌, ◌<◌, ◌≤◌, length, vec_capacity, IfOk, OnOk};
-ghost use Rattle.oct_mex.specs.Rare.{is_rare, ListsRare};
+ghost use Rattle.std.specs.Prelude.{◌≡◌, ◌+◌, ◌-◌, ◌^◌, ◌<◌, ◌≤◌, [], IfOk, IsTrue, length, map, vec_len, vec_capacity};
+ghost use Rattle.oct_mex.specs.Rare.{IsFit, Lists};
 
-use oct_code::LIMIT;
+use crate::cell::Cell;
+use crate::mask::{Mask, NO_MASK, best_mask, is_rare};
+use oct_code::Code;
 use std::alloc::{AllocError, Allocator};
 
-// After each so many values a mask is sought.
-const OFTEN: usize = 2048;
+// The rare heaps are listed while they are at most one in so many, and some more.
+const SHARE: usize = 24;
 
-// By so many values it is judged, which stand so far apart, modulo how many there are: a prime near the golden section of
-// `LIMIT`, so that a period of the values is not met in some places only.
-const SAMPLE: usize = 256;
+const SPARE: usize = 64;
 
-const STRIDE: usize = 40_487;
+// Fewer values have no mask.
+const FIRST_LOOK: usize = 256;
 
-/// The rare heaps are listed while they are at most one in so many.
-pub(crate) const SHARE: usize = 12;
-
-/// A mask, and the rare heaps from 1 on in a list. Under the mask 0 each heap is rare, and none is listed.
+/// A mask, and the rare heaps from 1 on in a list, with their nim-values in another. With no bits in the mask none is
+/// listed.
 #[derive(Drop)]
-pub(crate) struct Rare<A: Allocator + Copy> {
-    pub(crate) mask: u32,
-    pub(crate) heaps: Vec<u32, A>,
+pub struct Rare<T, A: Allocator> {
+    pub mask: Mask,
+    pub heaps: Vec<u32, A>,
+    pub values: Vec<T, A>,
+    // How many values there are when a mask is sought next.
+    due: usize,
 }
 
-impl<A: Allocator + Copy> Rare<A> {
-    /// The mask 0. Takes no memory.
-    pub(crate) fn new(alloc: A) -> Rare<A>
-        ensures { result.mask ≡ 0 }
+impl<T: Cell, A: Allocator + Copy> Rare<T, A> {
+    /// No bits in the mask. Takes no memory.
+    pub fn new(alloc: A) -> Rare<T, A>
+        ensures mask { result.mask ≡ NO_MASK }
+        ensures heaps { result.heaps.items ≡ [] }
+        ensures values { result.values.items ≡ [] }
     {
         Rare {
-            mask: 0,
+            mask: NO_MASK,
             heaps: Vec::new(alloc),
+            values: Vec::new(alloc),
+            due: FIRST_LOOK,
         }
     }
 
-    /// Makes room to follow `count` values. Without memory nothing changes but the room.
+    /// Makes room for the lists as `count` values have them at most.
     pub(crate) fn room_to(&mut self, count: usize) -> Result<(), AllocError>
-        requires { count ≤ LIMIT }
+        requires { count ≤ 2 ^ 32 }
         ensures mask { self.new.mask ≡ self.old.mask }
         ensures heaps { self.new.heaps.items ≡ self.old.heaps.items }
-        ensures more { vec_capacity self.old.heaps ≤ vec_capacity self.new.heaps }
-        ensures room { OnOk result (count / SHARE ≤ vec_capacity self.new.heaps) }
+        ensures values { self.new.values.items ≡ self.old.values.items }
     {
-        self.heaps.reserve(count / SHARE)
+        let most = count / SHARE + SPARE;
+        self.heaps
+            .reserve_exact(most.saturating_sub(self.heaps.len()))?;
+        self.values
+            .reserve_exact(most.saturating_sub(self.values.len()))
     }
 
-    /// The same mask and list, with room to follow `count` values, in memory of `alloc`.
-    pub(crate) fn copy(&self, alloc: A, count: usize) -> Result<Rare<A>, AllocError>
-        requires { count ≤ LIMIT }
+    /// The same mask and lists, in memory of `alloc`.
+    pub(crate) fn copy(&self, alloc: A, count: usize) -> Result<Rare<T, A>, AllocError>
+        requires { count ≤ 2 ^ 32 }
         ensures mask { IfOk result (λ copy. copy.mask ≡ self.now.mask) }
         ensures heaps { IfOk result (λ copy. copy.heaps.items ≡ self.now.heaps.items) }
-        ensures room { IfOk result (λ copy. count / SHARE ≤ vec_capacity copy.heaps) }
+        ensures values { IfOk result (λ copy. copy.values.items ≡ self.now.values.items) }
     {
-        let mut heaps = Vec::with_capacity(alloc, count / SHARE)?;
-        heaps.extend_from_slice(&self.heaps)?;
-        Ok(Rare {
+        let mut copy = Rare {
             mask: self.mask,
-            heaps,
-        })
+            heaps: Vec::from_slice(alloc, &self.heaps)?,
+            values: Vec::from_slice(alloc, &self.values)?,
+            due: self.due,
+        };
+        copy.room_to(count)?;
+        Ok(copy)
     }
 
-    /// Follows a list of values by its last one.
-    pub(crate) fn follow(&mut self, values: &[u32], used: usize)
+    /// Follows a list of values by its last one. Takes no memory: where there is no room for a list, or it has too many
+    /// heaps, no mask serves until the next one is sought.
+    pub(crate) fn follow(&mut self, code: &Code, values: &[T])
         requires some { 0 < length values.now }
-        requires limited { length values.now ≤ LIMIT }
-        requires small { used < 2 ^ 32 }
-        requires listed { ListsRare self.old.mask values.now (length values.now - 1) self.old.heaps.items }
-        requires room { length values.now / SHARE ≤ vec_capacity self.old.heaps }
-        ensures listed { ListsRare self.new.mask values.now (length values.now) self.new.heaps.items }
-        ensures room { vec_capacity self.new.heaps ≡ vec_capacity self.old.heaps }
+        requires limited { length values.now ≤ 2 ^ 32 }
+        requires fit { IsFit code.now self.old.mask }
+        requires listed { Lists self.old.mask (map T.number values.now) (length values.now - 1) self.old.heaps.items (map T.number self.old.values.items) }
+        ensures fit { IsFit code.now self.new.mask }
+        ensures listed { Lists self.new.mask (map T.number values.now) (length values.now) self.new.heaps.items (map T.number self.new.values.items) }
     {
-        if values.len() % OFTEN == 0 {
-            self.choose(values, used);
+        if values.len() >= self.due {
+            self.due = values.len() + values.len() / 4;
+            self.mask = best_mask(code, values);
+            self.list(values);
         } else {
             self.note(values.len() - 1, values);
         }
     }
 
-    // Takes the mask below `used` that seems best, and lists the rare heaps.
-    fn choose(&mut self, values: &[u32], used: usize)
-        requires some { 0 < length values.now }
-        requires limited { length values.now ≤ LIMIT }
-        requires small { used < 2 ^ 32 }
-        requires room { length values.now / SHARE ≤ vec_capacity self.old.heaps }
-        ensures listed { ListsRare self.new.mask values.now (length values.now) self.new.heaps.items }
-        ensures room { vec_capacity self.new.heaps ≡ vec_capacity self.old.heaps }
+    // Lists the rare heaps anew.
+    fn list(&mut self, values: &[T])
+        requires limited { length values.now ≤ 2 ^ 32 }
+        ensures parity { self.new.mask.parity ≡ self.old.mask.parity }
+        ensures turn { self.new.mask.turn ≡ self.old.mask.turn }
+        ensures listed { Lists self.new.mask (map T.number values.now) (length values.now) self.new.heaps.items (map T.number self.new.values.items) }
     {
-        self.mask = best_mask(values, used);
         self.heaps.clear();
+        self.values.clear();
         for heap in 0..values.len() {
             self.note(heap, values);
         }
     }
 
     // Lists a heap if it is rare. If there are too many, no mask serves.
-    fn note(&mut self, heap: usize, values: &[u32])
+    fn note(&mut self, heap: usize, values: &[T])
         requires held { heap < length values.now }
-        requires limited { length values.now ≤ LIMIT }
-        requires listed { ListsRare self.old.mask values.now heap self.old.heaps.items }
-        requires room { length values.now / SHARE ≤ vec_capacity self.old.heaps }
-        ensures listed { ListsRare self.new.mask values.now (heap + 1) self.new.heaps.items }
-        ensures room { vec_capacity self.new.heaps ≡ vec_capacity self.old.heaps }
+        requires limited { length values.now ≤ 2 ^ 32 }
+        requires listed { Lists self.old.mask (map T.number values.now) heap self.old.heaps.items (map T.number self.old.values.items) }
+        ensures parity { self.new.mask.parity ≡ self.old.mask.parity }
+        ensures turn { self.new.mask.turn ≡ self.old.mask.turn }
+        ensures listed { Lists self.new.mask (map T.number values.now) (heap + 1) self.new.heaps.items (map T.number self.new.values.items) }
     {
-        if 0 < heap && 0 < self.mask && is_rare(self.mask, values[heap]) {
-            if self.heaps.len() < values.len() / SHARE {
+        if 0 < heap && 0 < self.mask.bits && is_rare(self.mask, heap, values[heap].number()) {
+            if self.has_room(values.len()) {
                 self.heaps.push_reserved(heap as u32);
+                self.values.push_reserved(values[heap]);
             } else {
-                self.mask = 0;
+                self.mask.bits = 0;
                 self.heaps.clear();
+                self.values.clear();
             }
         }
     }
-}
 
-/// Whether a value is rare under a mask.
-pub(crate) fn is_rare(mask: u32, value: u32) -> bool
-    ensures { result ≡ is_rare mask value }
-{
-    (mask & value).count_ones() % 2 == 0
-}
-
-// The mask below a number under which the fewest values are rare, of a sample.
-fn best_mask(values: &[u32], end: usize) -> u32
-    requires some { 0 < length values.now }
-    requires small { end < 2 ^ 32 }
-{
-    let mut sample = [0; SAMPLE];
-    for at in 0..SAMPLE {
-        sample[at] = values[at * STRIDE % values.len()];
+    // Whether a further heap may be listed, of so many values.
+    fn has_room(&self, count: usize) -> bool
+        ensures { IsTrue result → (vec_len self.now.heaps < vec_capacity self.now.heaps) × (vec_len self.now.values < vec_capacity self.now.values) }
+    {
+        let len = self.heaps.len();
+        len < count / SHARE + SPARE
+            && len < self.heaps.capacity()
+            && self.values.len() < self.values.capacity()
     }
-    let mut best = 0;
-    let mut fewest = SAMPLE;
-    for mask in 1..end {
-        let rare = count_rare(mask as u32, &sample);
-        if rare < fewest {
-            best = mask as u32;
-            fewest = rare;
-        }
-    }
-    best
-}
-
-// How many values of a list are rare.
-fn count_rare(mask: u32, values: &[u32]) -> usize {
-    let mut rare = 0;
-    for value in values {
-        rare += usize::from(is_rare(mask, *value));
-    }
-    rare
 }

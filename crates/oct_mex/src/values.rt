@@ -6,9 +6,9 @@ ghost use Rattle.oct_code.specs.Code as octal;
 ghost use Rattle.oct_mex.specs.NimValues.{nim_values, nim_value};
 ghost use Rattle.oct_mex.specs.Periods.{IsPeriodicFrom, NoneIsShown, NoneIsShownBefore};
 
-use crate::marks::{next_value, table_len};
+use crate::marks::table_len;
 use crate::period::{SeenPeriod, find_period};
-use crate::rare::Rare;
+use crate::row::Row;
 use oct_code::{Code, LIMIT};
 use std::alloc::{AllocError, Allocator};
 use std::marker::Model;
@@ -20,12 +20,9 @@ const FIRST_LOOK: usize = 64;
 #[derive(Drop)]
 pub struct Values<A: Allocator + Copy> {
     code: Code,
-    values: Vec<u32, A>,
+    row: Row<u32, A>,
     marks: Vec<bool, A>,
     room: usize,
-    // The part of the table of marks that is used: a power of two above each value.
-    used: usize,
-    rare: Rare<A>,
     // A period with which the values go on, or 0 while none is seen.
     period: usize,
 }
@@ -49,11 +46,9 @@ impl<A: Allocator + Copy> Values<A> {
         let _ = code.len();
         Values {
             code,
-            values: Vec::new(alloc),
+            row: Row::new(alloc),
             marks: Vec::new(alloc),
             room: 0,
-            used: 1,
-            rare: Rare::new(alloc),
             period: 0,
         }
     }
@@ -71,7 +66,7 @@ impl<A: Allocator + Copy> Values<A> {
         ensures len { length result.now ≡ self.now.len }
         ensures small { All (λ v. v < 2 ^ 20) result.now }
     {
-        self.values.as_slice()
+        self.row.values.as_slice()
     }
 
     /// The nim-value of a heap, if it is computed.
@@ -79,7 +74,7 @@ impl<A: Allocator + Copy> Values<A> {
         ensures value { SomeIff result (heap < self.now.len) (nim_value self.now.code heap) }
         ensures small { IfSome result (λ v. v < 2 ^ 20) }
     {
-        self.values.get(heap).copied()
+        self.row.values.get(heap).copied()
     }
 
     /// For how many nim-values there is room, at most `LIMIT`.
@@ -99,9 +94,8 @@ impl<A: Allocator + Copy> Values<A> {
         ensures short { OnErr result (self.old.room < count) }
     {
         if self.room < count {
-            self.values.reserve(count - self.values.len())?;
+            self.row.room_to(count)?;
             self.marks.resize(table_len(&self.code, count), false)?;
-            self.rare.room_to(count)?;
             self.room = count;
         }
         Ok(())
@@ -112,7 +106,7 @@ impl<A: Allocator + Copy> Values<A> {
         requires { count ≤ self.old.room }
         ensures { self.new ≡ record self.old { len = max count self.old.len } }
     {
-        for _ in self.values.len()..count {
+        for _ in self.row.values.len()..count {
             self.look_for_period();
             self.push_next();
         }
@@ -122,8 +116,8 @@ impl<A: Allocator + Copy> Values<A> {
     fn look_for_period(&mut self)
         ensures { self.new ≡ self.old }
     {
-        if self.period == 0 && is_looked_at(self.values.len()) {
-            if let Some(seen) = find_period(&self.code, &self.values) {
+        if self.period == 0 && is_looked_at(self.row.values.len()) {
+            if let Some(seen) = find_period(&self.code, &self.row.values) {
                 self.period = seen.period;
             }
         }
@@ -135,23 +129,9 @@ impl<A: Allocator + Copy> Values<A> {
         ensures { self.new ≡ record self.old { len = self.old.len + 1 } }
     {
         if self.period > 0 {
-            let value = self.values[self.values.len() - self.period];
-            self.values.push_reserved(value);
-            self.rare.follow(&self.values, self.used);
+            self.row.push_again(&self.code, self.period);
         } else {
-            let value = next_value(
-                &self.code,
-                &self.values,
-                self.rare.mask,
-                &self.rare.heaps,
-                &mut self.marks,
-                self.used,
-            );
-            self.values.push_reserved(value);
-            self.rare.follow(&self.values, self.used);
-            if value as usize == self.used {
-                self.used *= 2;
-            }
+            let _ = self.row.push_next(&self.code, &mut self.marks);
         }
     }
 
@@ -179,22 +159,18 @@ impl<A: Allocator + Copy> Values<A> {
         ensures least { MatchOption result (NoneIsShown self.now.code self.now.len self.now.len) (λ seen. NoneIsShown self.now.code self.now.len seen.period) }
         ensures holds { IfSome result (λ seen. IsPeriodicFrom self.now.code seen.start seen.period) }
     {
-        find_period(&self.code, &self.values)
+        find_period(&self.code, &self.row.values)
     }
 
     /// The same values with the same room, in memory of `alloc`. From there on each of the two grows on its own.
     pub fn copy(&self, alloc: A) -> Result<Values<A>, AllocError>
         ensures { IfOk result (λ copy. copy ≡ self.now) }
     {
-        let mut values = Vec::with_capacity(alloc, self.room)?;
-        values.extend_from_slice(&self.values)?;
         Ok(Values {
             code: self.code,
-            values,
+            row: self.row.copy(alloc, self.room)?,
             marks: Vec::from_slice(alloc, &self.marks)?,
             room: self.room,
-            used: self.used,
-            rare: self.rare.copy(alloc, self.room)?,
             period: self.period,
         })
     }

@@ -1,4 +1,1 @@
-pub mod Listed
-pub mod Marked
-pub mod Next
-pub mod Walks
+pub mod CellReads

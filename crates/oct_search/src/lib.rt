@@ -9,30 +9,17 @@
 //!     search.search(1_000_000)?                         // period 149,459 from heap 105,351
 //!     search.value_by(seen, 10_000_000_000)             // the nim-value of a heap of 10^10 beans
 //!
-//! A heap of n has some n / 2 options for each digit that allows two heaps, so that n values take n * n steps by the rule.
-//! In most games few heaps have to be looked at (Berlekamp's sparse spaces; Gangolli and Plambeck 1989; Flammenkamp's
-//! records):
+//! The values are in cells of 8 bits until one exceeds 255, and then of 16 (`cells`), in memory that grows by a
+//! sixteenth: a list of some 400 million values takes as many bytes. How the next one is found, by a mask that parts
+//! the heaps and by a table of marks, is that of `oct_mex`, whose functions are the same for each width.
 //!
-//! - `mask`: a mask parts the heaps. A heap is rare if its nim-value has an even number of bits in the mask, and otherwise
-//!   common; where all moves that leave two heaps remove beans of one parity, the parity of the heap may count as a further
-//!   bit. Two common heaps then never have a value that is common at the heap that they came from.
-//! - `rare`: so a value that is common and stands for no option with a rare heap stands for none at all. The rare heaps
-//!   are in a list, and the options with one of them mostly settle the mex. This is exact under each mask: that a mask is
-//!   good is nowhere proved, and shows in the time alone. The best one is found by a transform of the counts of the values.
-//! - `mex`: where they don't settle it, some other pairs are marked, and the few values that are still not marked are
-//!   sought in those that are left, many pairs at a time (`pairs`).
-//! - `period`: a period is looked for at lengths that grow by a quarter, mostly at two heaps for each.
+//! A period is looked for at lengths that grow by a quarter, mostly at two heaps for each.
 //!
 //! What nim-values, periods and what proves them are is defined in `oct_mex`.
 #![tactic(auto)]
 
+mod cells;
 mod error;
-mod marks;
-mod mask;
-mod mex;
-mod pairs;
-mod period;
-mod rare;
 mod search;
 #[cfg(test)]
 mod tests;

@@ -1,15 +1,13 @@
 //! A search for the period of a game.
 
 ghost use Rattle.std.specs.Prelude.{◌≡◌, ◌+◌, ◌^◌, ◌<◌, ◌≤◌, max, IfErr, IfOk, OnErr, OnOk, SomeIff};
-ghost use Rattle.oct_mex.specs.NimValues.{nim_values, nim_value};
+ghost use Rattle.oct_mex.specs.NimValues.{nim_value};
 ghost use Rattle.oct_mex.specs.Periods.{IsPeriodicFrom};
 ghost use Rattle.oct_search.specs.Found.{IsFound};
 ghost use Rattle.oct_search.specs.declared.error.SearchError.TheVariants.{PastValue};
 
+use crate::cells::Cells;
 use crate::error::SearchError;
-use crate::mex::next_value;
-use crate::period::{expected_need, find_period};
-use crate::rare::Rare;
 use oct_code::Code;
 use oct_mex::SeenPeriod;
 use std::alloc::Allocator;
@@ -25,11 +23,9 @@ const FIRST_LOOK: usize = 64;
 #[derive(Drop)]
 pub struct Search<A: Allocator + Copy> {
     code: Code,
-    values: Vec<u16, A>,
+    cells: Cells<A>,
     marks: Vec<bool, A>,
-    // The part of the table of marks that is used: a power of two above each value.
-    used: usize,
-    rare: Rare<A>,
+    alloc: A,
 }
 
 impl<A: Allocator + Copy> Model for Search<A> {
@@ -50,10 +46,9 @@ impl<A: Allocator + Copy> Search<A> {
     {
         Search {
             code,
-            values: Vec::new(alloc),
+            cells: Cells::new(alloc),
             marks: Vec::new(alloc),
-            used: 1,
-            rare: Rare::new(alloc),
+            alloc,
         }
     }
 
@@ -69,21 +64,26 @@ impl<A: Allocator + Copy> Search<A> {
         ensures len { result ≡ self.now.len }
         ensures limited { result ≤ MOST }
     {
-        self.values.len()
-    }
-
-    /// The nim-values of the heaps 0, 1, .., as far as they are computed.
-    pub fn as_slice(&self) -> &[u16]
-        ensures { result.now ≡ nim_values self.now.code self.now.len }
-    {
-        self.values.as_slice()
+        self.cells.len()
     }
 
     /// The nim-value of a heap, if it is computed.
     pub fn value(&self, heap: usize) -> Option<u16>
         ensures { SomeIff result (heap < self.now.len) (nim_value self.now.code heap) }
     {
-        self.values.get(heap).copied()
+        if heap < self.len() {
+            Some(self.known(heap))
+        } else {
+            None
+        }
+    }
+
+    /// The nim-value of a heap that is computed.
+    pub fn known(&self, heap: usize) -> u16
+        requires { heap < self.now.len }
+        ensures { result ≡ nim_value self.now.code heap }
+    {
+        self.cells.value(heap)
     }
 
     /// The nim-value of a heap of any size, by a period that holds and is computed to its end.
@@ -95,9 +95,9 @@ impl<A: Allocator + Copy> Search<A> {
     {
         let heap = heap as usize;
         if heap < seen.start {
-            self.values[heap]
+            self.known(heap)
         } else {
-            self.values[seen.start + (heap - seen.start) % seen.period]
+            self.known(seen.start + (heap - seen.start) % seen.period)
         }
     }
 
@@ -111,7 +111,7 @@ impl<A: Allocator + Copy> Search<A> {
         ensures short { OnErr result (self.new.len < count) }
         ensures past { IfErr result (λ fault. fault ≡ PastValue → 2 ^ 16 ≤ nim_value self.new.code self.new.len) }
     {
-        for _ in self.values.len()..count {
+        for _ in self.cells.len()..count {
             self.push_next()?;
         }
         Ok(())
@@ -124,26 +124,8 @@ impl<A: Allocator + Copy> Search<A> {
         ensures err { OnErr result (self.new ≡ self.old) }
         ensures past { IfErr result (λ fault. fault ≡ PastValue → 2 ^ 16 ≤ nim_value self.new.code self.new.len) }
     {
-        self.rare.follow(&self.code, &self.values, self.used)?;
-        self.rare.heaps.reserve(1)?;
-        self.values.reserve(1)?;
-        self.marks.resize(self.used, false)?;
-        let value = next_value(
-            &self.code,
-            &self.values,
-            self.rare.mask,
-            &self.rare.heaps,
-            &mut self.marks,
-        );
-        let Ok(stored) = u16::try_from(value) else {
-            return Err(SearchError::PastValue);
-        };
-        self.values.push_reserved(stored);
-        self.rare.note(&self.values);
-        if value == self.used {
-            self.used *= 2;
-        }
-        Ok(())
+        self.cells
+            .push_next(self.alloc, &self.code, &mut self.marks)
     }
 
     /// The least period that the values show so far that it holds for ever: twice the heap from which on it is seen, twice
@@ -152,7 +134,7 @@ impl<A: Allocator + Copy> Search<A> {
     pub fn find_period(&self) -> Option<SeenPeriod>
         ensures { IsFound self.now.code self.now.len result }
     {
-        find_period(&self.code, &self.values)
+        self.cells.find_period(&self.code)
     }
 
     /// How many values there should be when a period is looked for next, more than there are now: a quarter more, or as many
@@ -160,9 +142,9 @@ impl<A: Allocator + Copy> Search<A> {
     pub fn next_look(&self) -> usize
         ensures { self.now.len < result }
     {
-        let len = self.values.len();
+        let len = self.cells.len();
         let next = FIRST_LOOK.max(len + len / 4);
-        let need = expected_need(&self.code, &self.values);
+        let need = self.cells.expected_need(&self.code);
         if len < need && need < next + len / 2 {
             need
         } else {

@@ -67,3 +67,17 @@ fn what_is_not_searched_far_enough_shows_no_period(rt: HostRuntime) {
     assert!(&rt; search.extend(168).is_ok(), "memory");
     assert!(&rt; search.find_period().is_some(), "no period");
 }
+
+// By the rule of the games, in a program of another language: the first value above 255 is 256.
+#[test]
+fn values_above_255_are_held(rt: HostRuntime) {
+    let all_sevens = Code::parse(b"4.7777777777777777")
+        .ok()
+        .expect(&rt, "a code");
+    let mut search = Search::new(rt.alloc(), all_sevens);
+    assert!(&rt; search.extend(1_500).is_ok(), "memory");
+    assert_eq!(&rt; search.len(), 1_500, "values");
+    assert_eq!(&rt; search.value(235), Some(256), "of heap 235");
+    assert_eq!(&rt; search.value(1_499), Some(128), "of heap 1,499");
+    assert_eq!(&rt; search.known(235), 256, "of heap 235");
+}

@@ -3,7 +3,7 @@ use Rattle.std.specs.Prelude.{◌≡◌, ◌⊎◌, ◌++◌, [], Option}
 use Rattle.std.specs.Io.KnownBytes.{Appends, Consumes, Keeps}
 use Rattle.oct_delta.specs.Text.{Bytes}
 use Rattle.oct_ops.specs.Operations.{Operations}
-use Rattle.oct_sync.specs.Output.{AppendsPrefix}
+use Rattle.written.specs.Output.{AppendsPrefix}
 use Rattle.oct_sync.specs.Session.{Phase, Session, HasFailed, IsDone, fed, new_client, new_client_of_all, new_server}
 use Rattle.oct_sync.specs.SessionState.{IsOpenPhase}
 use Rattle.oct_sync.specs.Standing.{HasNotFailed, StopsShort}

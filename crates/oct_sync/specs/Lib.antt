@@ -3,7 +3,6 @@ pub mod Driven
 pub mod Exchange
 pub mod Frames
 pub mod Laws
-pub mod Output
 pub mod Packs
 pub mod Session
 pub mod SessionState

@@ -3,17 +3,17 @@
 ghost use Rattle.std.specs.Prelude.{◌≡◌, ◌≢◌, ◌++◌, ◌<◌, ◌≤◌, [], Some, length, take, vec_len, IfOk, IfErr, OnOk, OnErr, IsErrOf};
 ghost use Rattle.std.specs.Io.KnownBytes.{Appends, Consumes, IsAtEnd, Keeps};
 ghost use Rattle.oct_sync.specs.Driven.{Breaks, Completes, Concludes, IsOutside, LacksMemory, RunsOut, begun};
-ghost use Rattle.oct_sync.specs.Output.{AppendsPrefix};
+ghost use Rattle.written.specs.Output.{AppendsPrefix};
 ghost use Rattle.oct_sync.specs.Standing.{at_start};
 
 use crate::error::SyncError;
-use crate::output::{Unwritten, write_out};
 use crate::peer::Peer;
-use crate::progress::Progress;
 use crate::role::Role;
 use crate::session::Session;
+use crate::stage::Stage;
 use std::alloc::{AllocError, Allocator};
 use std::io::{Read, Write};
+use written::{Unwritten, write_out};
 
 /// The most reads of one session.
 pub const MAX_READS: u32 = 1_000_000;
@@ -52,7 +52,7 @@ pub fn drive<A: Allocator + Copy, P: Peer<A>, R: Read, W: Write>(
 }
 
 /// Does what `drive` does, except that the bytes that are owed once the session is done are the answer, and not written. So
-/// a server can keep what it holds before it says, by its last frame, that it has it: the caller writes them, by `write_out`.
+/// a server can keep what it holds before it says, by its last frame, that it has it: the caller writes them.
 ///
 /// The errors are those of `drive`, which come while the session is not done.
 pub fn converse<A: Allocator + Copy, P: Peer<A>, R: Read, W: Write>(
@@ -106,8 +106,8 @@ fn take_turns<A: Allocator + Copy, P: Peer<A>, R: Read, W: Write>(
         send(writer, owed)?;
         let count = receive(reader, buffer, session.wanted())?;
         let piece = &buffer[..count];
-        let progress = session.feed(peer, piece, owed)?;
-        if let Progress::Done = progress {
+        let stage = session.feed(peer, piece, owed)?;
+        if let Stage::Done = stage {
             return Ok(());
         }
     }

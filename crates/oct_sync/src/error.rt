@@ -2,8 +2,8 @@
 
 ghost use Rattle.std.specs.Prelude.{◌≡◌};
 
-use crate::output::Unwritten;
 use std::alloc::AllocError;
+use written::Unwritten;
 
 /// Why a session ended early. Of the faults that one frame shows, the first of `Frame`, `Order`, `Clock` and `Delta` is
 /// answered.

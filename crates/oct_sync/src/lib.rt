@@ -18,7 +18,7 @@
 //! - `Session` is one side, which is fed the other side's bytes and appends what it sends to a vector.
 //! - `Peer` is whoever a side speaks for: it keeps a set of operations, as a `Replica` does.
 //! - `drive` runs a session to its end over a reader and a writer; `converse` does so too, and leaves its last answer to the
-//!   caller; `write_out` writes all bytes to a writer.
+//!   caller.
 //! - `SyncError` says why a session ended early, and `laws` what holds of all sessions: bytes may be cut anywhere, and two
 //!   sides that answer each other both end with all that either held.
 //!
@@ -32,19 +32,17 @@ mod error;
 mod frame;
 mod heads;
 pub mod laws;
-mod output;
 mod peer;
-mod progress;
 mod receiving;
 mod role;
 mod sending;
 mod session;
+mod stage;
 mod state;
 
 pub use driver::{MAX_READS, converse, drive};
 pub use error::SyncError;
-pub use output::{Unwritten, write_out};
 pub use peer::Peer;
-pub use progress::Progress;
 pub use role::Role;
 pub use session::Session;
+pub use stage::Stage;

@@ -1,13 +1,14 @@
 -- A document has no floats.
-use Rattle.std.proofs.Common.{◌≡◌, false, ◌||◌, List, [], ◌∷◌, map, refl}
+use Rattle.std.proofs.Common.{◌≡◌, ℕ, false, ◌||◌, List, [], ◌∷◌, map, refl}
 use Rattle.oct_ops.specs.Body as kind
 use Rattle.oct_ops.specs.Body.{Body, Operation}
 use Rattle.oct_ops.specs.Operation.{Dot}
 use Rattle.oct_period.specs.declared.status.PeriodStatus.{PeriodStatus}
 use Rattle.oct_period.specs.declared.status.PeriodStatus.TheVariants as of_claim
+use Rattle.oct_store.specs.declared.author.Author.{Author}
 use Rattle.oct_verify.specs.declared.status.Status.{Status}
 use Rattle.oct_verify.specs.declared.status.Status.TheVariants as of_block
-use Rattle.oct_views.specs.Json.{author_data, block_by, block_data, count, document, fork_data, game_data, op_data, period_by, period_data}
+use Rattle.oct_views.specs.Json.{author_data, block_by, block_data, called_data, count, document, fork_data, game_data, op_data, period_by, period_data}
 use Rattle.oct_views.specs.Sheet.{GameSheet, Sheet}
 use Rattle.oct_pages.specs.declared.statuses.BlockRow.{BlockRow}
 use Rattle.oct_pages.specs.declared.statuses.PeriodRow.{PeriodRow}
@@ -38,10 +39,14 @@ op_float o = by o.dot o.body
     by d (kind.Note n) = refl
     by d (kind.Removal r) = refl
 
-game_float : (g : GameSheet) → has_float (game_data g) ≡ false
+pub game_float : (g : GameSheet) → has_float (game_data g) ≡ false
 game_float g =
     λ i. items_float block_data (λ b. block_float b b.status) g.blocks i || (false || (false || (items_float period_data (λ p. period_float p p.status) g.periods i || (items_float count (λ n. refl) g.values i || false))))
 
+author_float : (a : Author) (name : List ℕ) → has_float (called_data a name) ≡ false
+author_float a [] = refl
+author_float a (b ∷ name) = refl
+
 pub document_float : (s : Sheet) → has_float (document s) ≡ false
 document_float s =
-    λ i. items_float author_data (λ a. refl) s.authors i || (false || (items_float fork_data (λ f. refl) s.forks i || (items_float game_data game_float s.games i || (items_float op_data op_float s.notes i || false))))
+    λ i. items_float author_data (λ a. author_float a.author a.name) s.authors i || (false || (items_float fork_data (λ f. refl) s.forks i || (items_float game_data game_float s.games i || (items_float op_data op_float s.notes i || false))))

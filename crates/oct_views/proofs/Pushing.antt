@@ -14,3 +14,8 @@ row_pushed f g x z rest old new all same pushed so_far =
 pub text_pushed : {Z : Type 0} (text : Z → List ℕ) (z : Z) (rest : List Z) (old new all : List ℕ) → new ≡ old ++ text z → old ++ flat_map text (z ∷ rest) ≡ all
     → new ++ flat_map text rest ≡ all
 text_pushed text z rest old new all pushed so_far = ap (λ l. l ++ flat_map text rest) pushed ∙ append_assoc old (text z) (flat_map text rest) ∙ so_far
+
+-- each item makes one
+pub one_pushed : {X Z : Type 0} (make : Z → X) (z : Z) (rest : List Z) (old new all : List X) → new ≡ old ++ make z ∷ [] → old ++ map make (z ∷ rest) ≡ all
+    → new ++ map make rest ≡ all
+one_pushed make z rest old new all pushed so_far = ap (λ l. l ++ map make rest) pushed ∙ append_assoc old (make z ∷ []) (map make rest) ∙ so_far

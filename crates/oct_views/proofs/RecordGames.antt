@@ -1,5 +1,5 @@
 -- What is made of each game of a record, one after another.
-use Rattle.std.proofs.Common.{◌≡◌, ℕ, List, map, sym, ap, ◌∙◌}
+use Rattle.std.proofs.Common.{◌≡◌, List, map, sym, ap, ◌∙◌}
 use Rattle.std.specs.List.{flat_map}
 use Rattle.std.specs.BTreeMap as tree
 use Rattle.std.specs.BTreeMap.{BTreeMap}
@@ -14,7 +14,7 @@ use Rattle.oct_views.specs.Sheet.{GameSheet, game_sheet}
 
 module _ (ops : Operations) (m : BTreeMap Code Operations) (ordered : tree.IsOrdered code_cmp m) (index : (c : Code) → tree.get code_cmp m c ≡ index_of ops c) where
   -- a text of each
-  pub each_text : (text : GameSheet → List ℕ) → flat_map (λ (e : Code × Operations). text (game_sheet (listed ops) e.0)) m.entries ≡ flat_map text (map (game_sheet (listed ops)) (games (listed ops)))
+  pub each_text : {X : Type 0} (text : GameSheet → List X) → flat_map (λ (e : Code × Operations). text (game_sheet (listed ops) e.0)) m.entries ≡ flat_map text (map (game_sheet (listed ops)) (games (listed ops)))
   each_text text =
       sym (flat_map-map (λ c. text (game_sheet (listed ops) c)) (λ (e : Code × Operations). e.0) m.entries)
       ∙ ap (flat_map (λ c. text (game_sheet (listed ops) c))) (codes_are ops m ordered index) ∙ sym (flat_map-map text (game_sheet (listed ops)) (games (listed ops)))

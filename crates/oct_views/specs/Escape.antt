@@ -1,6 +1,6 @@
--- Texts of others, as a page shows them.
-use Rattle.std.specs.Prelude.{ℕ, ◌==◌, [], ◌∷◌, codes, if◌then◌else◌}
-use Rattle.std.specs.List.{flat_map}
+-- Texts of others, as a page and a string of JSON show them.
+use Rattle.std.specs.Prelude.{ℕ, ◌==◌, [], ◌∷◌, codes, length, if◌then◌else◌}
+use Rattle.std.specs.List.{concat, flat_map}
 use Rattle.oct_pages.specs.Catalogue.{Text}
 
 -- & < > " ', each by the entity that stands for it, and any other byte by itself
@@ -14,3 +14,17 @@ escaped_byte b =
 
 abbrev pub escaped : Text → Text
 escaped text = flat_map escaped_byte text
+
+-- a name behind a number on a page, where there is one
+abbrev pub name_part : Text → Text
+name_part name = concat (codes " <span class=\"name\">" ∷ escaped name ∷ codes "</span>" ∷ [])
+
+abbrev pub name_beside : Text → Text
+name_beside name = if length name == 0 then [] else name_part name
+
+-- " and \ after a \, and any other byte by itself: a printable text inside a string of JSON
+abbrev pub quoted_byte : ℕ → Text
+quoted_byte b = if b == 34 then codes "\\\"" else (if b == 92 then codes "\\\\" else b ∷ [])
+
+abbrev pub quoted : Text → Text
+quoted text = flat_map quoted_byte text

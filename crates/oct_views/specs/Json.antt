@@ -1,5 +1,5 @@
 -- A sheet as JSON. The members of an object are in the order of their keys.
-use Rattle.std.specs.Prelude.{ℕ, List, length, map, codes}
+use Rattle.std.specs.Prelude.{ℕ, List, [], ◌∷◌, length, map, codes}
 use Rattle.oct_code.specs.CodeText.{code_text}
 use Rattle.oct_ops.specs.Body as kind
 use Rattle.oct_ops.specs.Body.{Operation}
@@ -10,6 +10,7 @@ use Rattle.oct_store.specs.declared.author.Author.{Author}
 use Rattle.oct_store.specs.declared.fork.Fork.{Fork}
 use Rattle.oct_verify.specs.declared.status.Status.{Status}
 use Rattle.oct_verify.specs.declared.status.Status.TheVariants as of_block
+use Rattle.oct_views.specs.Names.{Called}
 use Rattle.oct_views.specs.Sheet.{GameSheet, Sheet}
 use Rattle.oct_pages.specs.declared.statuses.BlockRow.{BlockRow}
 use Rattle.oct_pages.specs.declared.statuses.PeriodRow.{PeriodRow}
@@ -131,12 +132,22 @@ fork_data f =
     (member (codes "contents") (count f.contents)
     (member (codes "number") (count f.dot.number) no_members)))
 
-abbrev pub author_data : Author → Data
-author_data a =
+-- an author that has a name, and one that has none
+abbrev pub called_data : Author → List ℕ → Data
+called_data a [] =
     object
     (member (codes "author") (count a.author)
     (member (codes "last") (count a.last)
     (member (codes "through") (count a.through) no_members)))
+called_data a (b ∷ name) =
+    object
+    (member (codes "author") (count a.author)
+    (member (codes "last") (count a.last)
+    (member (codes "name") (word (b ∷ name))
+    (member (codes "through") (count a.through) no_members))))
+
+abbrev pub author_data : Called → Data
+author_data a = called_data a.author a.name
 
 -- `census` is the edition of the catalogue
 abbrev pub document_of : Data → Data → Data → Data → Data

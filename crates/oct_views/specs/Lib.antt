@@ -4,11 +4,17 @@ pub mod Bfile
 pub mod BfileLaws
 pub mod Json
 pub mod Escape
+pub mod Overview
+pub mod Game
+pub mod Index
+pub mod Names
 pub mod Pieces
 pub mod Plot
 pub mod Points
 pub mod Report
 pub mod Sheet
 pub mod Styles
+pub mod Summary
 pub mod Tables
+pub mod Values
 pub mod ViewLaws

@@ -33,14 +33,14 @@ rows = 640
 abbrev pub point_at : Frame → ℕ × ℕ → Point
 point_at frame h = record { column = scaled h.0 frame.heaps columns; row = scaled h.1 frame.values rows }
 
--- by column, then by row
+-- by row, then by column
 abbrev pub point_cmp : Point → Point → Ordering
-point_cmp = then_cmp (on (λ p. p.column) nat_cmp) (on (λ p. p.row) nat_cmp)
+point_cmp = then_cmp (on (λ p. p.row) nat_cmp) (on (λ p. p.column) nat_cmp)
 
 -- each heap from 0 on with its value
 abbrev pub heaps_of : List ℕ → List (ℕ × ℕ)
 heaps_of values = enumerate_from 0 values
 
--- the points of all known values, from left to right and from below to above, each once
+-- the points of all known values, row by row from below to above and from left to right, each once
 abbrev pub points_of : List ℕ → List Point
 points_of values = arranged point_cmp (map (point_at (frame_of values)) (heaps_of values))

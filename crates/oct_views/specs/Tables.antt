@@ -7,13 +7,23 @@ use Rattle.oct_pages.specs.Catalogue.{Text}
 abbrev pub column : Text → Text
 column name = concat (codes "<th scope=\"col\">" ∷ name ∷ codes "</th>" ∷ [])
 
-abbrev pub caption_text : Text → Text
-caption_text caption = concat (codes "<table>\n<caption>" ∷ caption ∷ codes "</caption>\n<thead><tr>" ∷ [])
+-- the table of a kind, in a part of the page that scrolls by itself
+abbrev pub caption_text : Text → Text → Text
+caption_text kind caption = concat (
+    codes "<div class=\"scroll\" role=\"region\" tabindex=\"0\" aria-label=\"" ∷ caption ∷ codes "\">\n<table class=\"" ∷ kind
+    ∷ codes "\">\n<caption>" ∷ caption ∷ codes "</caption>\n<thead><tr>" ∷ [])
 
-abbrev pub table_head : Text → List Text → Text
-table_head caption columns = concat (caption_text caption ∷ flat_map column columns ∷ codes "</tr></thead>\n<tbody>\n" ∷ [])
+abbrev pub table_head : Text → Text → List Text → Text
+table_head kind caption columns = concat (caption_text kind caption ∷ flat_map column columns ∷ codes "</tr></thead>\n<tbody>\n" ∷ [])
+
+abbrev pub table_end : Text
+table_end = codes "</tbody>\n</table>\n</div>\n"
 
 -- a table of these rows, or nothing where they have no text
+abbrev pub table_of : Text → Text → List Text → Text → Text
+table_of kind caption columns [] = []
+table_of kind caption columns (b ∷ rows) = concat (table_head kind caption columns ∷ (b ∷ rows) ∷ table_end ∷ [])
+
+-- one of no other kind
 abbrev pub table : Text → List Text → Text → Text
-table caption columns [] = []
-table caption columns (b ∷ rows) = concat (table_head caption columns ∷ (b ∷ rows) ∷ codes "</tbody>\n</table>\n" ∷ [])
+table caption columns rows = table_of (codes "plain") caption columns rows

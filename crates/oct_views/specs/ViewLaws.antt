@@ -22,7 +22,7 @@ is_known values p = list_any (λ h. eq_by_cmp point_cmp p (point_at (frame_of va
 abbrev pub DrawnWhereKnown : Type 0
 DrawnWhereKnown = (values : List ℕ) (p : Point) → is_drawn values p ≡ is_known values p
 
--- the points rise strictly by column and row
+-- the points rise strictly by row and column
 abbrev pub DrawnOnce : Type 0
 DrawnOnce = (values : List ℕ) → rises point_cmp (points_of values) ≡ true
 

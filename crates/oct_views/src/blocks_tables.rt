@@ -1,47 +1,54 @@
 //! The tables of a game's blocks: of those that are refuted, and of all.
 
-ghost use Rattle.std.specs.Prelude.{◌≡◌, ◌++◌, OnOk};
+ghost use Rattle.std.specs.Prelude.{◌≡◌, ◌++◌, OnOk, map};
 ghost use Rattle.oct_pages.specs.Growth.{Extends};
-ghost use Rattle.oct_views.specs.Report.{refutation_row, status_word};
+ghost use Rattle.oct_views.specs.Game.{refutation_row, status_word};
 
-use crate::pieces::Piece::{Dot as DotText, Number, Text};
+use crate::names::author_name;
+use crate::pieces::Piece::{Beside, Dot as DotText, Number, Text};
 use crate::pieces::append_pieces;
 use crate::tables::Rows;
-use oct_ops::Dot;
+use oct_ops::{Dot, Op};
 use oct_pages::BlockRow;
 use oct_verify::Status;
 use std::alloc::{AllocError, Allocator};
 
-/// Rows of the table of refuted blocks.
-pub(crate) struct Refutations;
+/// Rows of the table of refuted blocks, with the names of authors by these notes.
+#[derive(Drop)]
+pub(crate) struct Refutations<'a, 'b, B: Allocator + Copy>(pub &'a [&'b Op<B>]);
 
-/// Rows of the table of all blocks.
-pub(crate) struct Blocks;
+/// Rows of the table of all blocks, with the names of authors by these notes.
+#[derive(Drop)]
+pub(crate) struct Blocks<'a, 'b, B: Allocator + Copy>(pub &'a [&'b Op<B>]);
 
-impl Rows<BlockRow> for Refutations {
-    ghost use Rattle.oct_views.specs.Report.{refuted_row};
+impl<'a, 'b, B: Allocator + Copy> Rows<BlockRow> for Refutations<'a, 'b, B> {
+    ghost use Rattle.std.specs.Prelude.{map};
+    ghost use Rattle.oct_views.specs.Game.{refuted_row};
 
-    ghost text = { λ row. refuted_row row.dot row.status };
+    ghost text = { λ way row. refuted_row (map (λ op. op.now) way.0.now) row.dot row.status };
 
     fn append_row<A: Allocator + Copy>(
+        &self,
         out: &mut Vec<u8, A>,
         row: &BlockRow,
     ) -> Result<(), AllocError> {
         match row.status {
             Status::Refuted { at, claimed, truth } => {
-                append_refutation(out, row.dot, at, claimed, truth)
+                append_refutation(out, self.0, row.dot, at, claimed, truth)
             }
             Status::Proved | Status::Pending => Ok(()),
         }
     }
 }
 
-impl Rows<BlockRow> for Blocks {
-    ghost use Rattle.oct_views.specs.Report.{block_row};
+impl<'a, 'b, B: Allocator + Copy> Rows<BlockRow> for Blocks<'a, 'b, B> {
+    ghost use Rattle.std.specs.Prelude.{map};
+    ghost use Rattle.oct_views.specs.Game.{block_row};
 
-    ghost text = { block_row };
+    ghost text = { λ way row. block_row (map (λ op. op.now) way.0.now) row };
 
     fn append_row<A: Allocator + Copy>(
+        &self,
         out: &mut Vec<u8, A>,
         row: &BlockRow,
     ) -> Result<(), AllocError> {
@@ -50,6 +57,7 @@ impl Rows<BlockRow> for Blocks {
             &[
                 Text(b"<tr><th scope=\"row\">"),
                 DotText(row.dot),
+                Beside(author_name(self.0, row.dot.author())),
                 Text(b"</th><td>"),
                 Number(row.start as u64),
                 Text(b"</td><td>"),
@@ -63,14 +71,15 @@ impl Rows<BlockRow> for Blocks {
 }
 
 // Appends the row of a refuted block.
-fn append_refutation<A: Allocator>(
+fn append_refutation<A: Allocator, B: Allocator>(
     out: &mut Vec<u8, A>,
+    names: &[&Op<B>],
     dot: Dot,
     heap: u32,
     claimed: u32,
     truth: u32,
 ) -> Result<(), AllocError>
-    ensures ok { OnOk result (out.new.items ≡ out.old.items ++ refutation_row dot heap claimed truth) }
+    ensures ok { OnOk result (out.new.items ≡ out.old.items ++ refutation_row (map (λ op. op.now) names.now) dot heap claimed truth) }
     ensures grown { Extends out.old.items out.new.items }
 {
     append_pieces(
@@ -78,6 +87,7 @@ fn append_refutation<A: Allocator>(
         &[
             Text(b"<tr><th scope=\"row\">"),
             DotText(dot),
+            Beside(author_name(names, dot.author())),
             Text(b"</th><td>"),
             Number(heap as u64),
             Text(b"</td><td>"),

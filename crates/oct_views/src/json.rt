@@ -5,10 +5,12 @@ ghost use Rattle.serde_json.specs.Data.{Data, array};
 ghost use Rattle.serde_json.specs.View.{items_of, view};
 ghost use Rattle.serde_json.specs.Written.{compact_text};
 ghost use Rattle.oct_ops.specs.Operations.{listed};
+ghost use Rattle.oct_pages.specs.Contents.{game_content};
 ghost use Rattle.oct_store.specs.Summary as summary;
 ghost use Rattle.oct_views.specs.Json.{document, document_of, game_data, list};
 ghost use Rattle.oct_views.specs.Sheet.{game_sheet, sheet};
 
+use crate::names::with_names;
 use oct_code::Code;
 use oct_join::OpSet;
 use oct_pages::{GameSheet, game_of};
@@ -28,6 +30,21 @@ pub fn write_json(alloc: Global, said: &Record<Global>, out: &mut Vec<u8>) -> Re
     out.extend_from_slice(text.as_bytes())
 }
 
+/// Appends what views show of one game as one JSON object, without spaces. The one error is that memory is refused, and
+/// then `out` stays as it is.
+pub fn write_game_json(
+    alloc: Global,
+    game: &GameSheet<'_, Global>,
+    out: &mut Vec<u8>,
+) -> Result<(), AllocError>
+    ensures ok { OnOk result (out.new.items ≡ out.old.items ++ compact_text (game_data (game_content game.now))) }
+    ensures err { OnErr result (out.new.items ≡ out.old.items) }
+{
+    let value = game.to_json(alloc)?;
+    let text = value.to_string(alloc)?;
+    out.extend_from_slice(text.as_bytes())
+}
+
 // The document.
 fn document(alloc: Global, said: &Record<Global>) -> Result<Value, AllocError>
     ensures { IfOk result (λ v. view v ≡ document (sheet (listed said.now.ops))) }
@@ -35,6 +52,7 @@ fn document(alloc: Global, said: &Record<Global>) -> Result<Value, AllocError>
     let authors = said.store().authors()?;
     let forks = said.store().forks()?;
     let notes = said.notes().live_refs()?;
+    let authors = with_names(alloc, &notes, &authors)?;
     let authors = array_of(alloc, &authors)?;
     let forks = array_of(alloc, &forks)?;
     let games = games_of(alloc, said)?;

@@ -1,12 +1,13 @@
 //! The rows of a sheet as JSON.
 
-ghost use Rattle.std.specs.Prelude.{◌≡◌, IfOk};
+ghost use Rattle.std.specs.Prelude.{◌≡◌, ◌<◌, [], IfOk, length};
 ghost use Rattle.std.specs.Str.{IsAscii};
 ghost use Rattle.serde_json.specs.View.{view};
 ghost use Rattle.oct_code.specs.CodeText.{code_text};
-ghost use Rattle.oct_views.specs.Json.{note_data, pending_period, plain_block, proved_period, refuted_block, refuted_period, word};
+ghost use Rattle.oct_views.specs.Json.{called_data, note_data, pending_period, plain_block, proved_period, refuted_block, refuted_period, word};
 
 use crate::json::{ToJson, array_of};
+use crate::names::Called;
 use oct_code::Code;
 use oct_ops::{Body, Dot, Note, Op};
 use oct_pages::{BlockRow, GameSheet, PeriodRow};
@@ -213,16 +214,40 @@ impl ToJson for Fork {
     }
 }
 
-impl ToJson for Author {
+impl ToJson for Called<'_> {
     ghost use Rattle.oct_views.specs.Json.{author_data};
 
     ghost form = { author_data };
 
     fn to_json(&self, alloc: Global) -> Result<Value, AllocError> {
-        json!(in alloc; {
-            "author": self.author,
-            "last": self.last,
-            "through": self.through
-        })
+        if self.name.is_empty() {
+            return plain_author(alloc, self.author);
+        }
+        named_author(alloc, self.author, self.name)
     }
+}
+
+// An author that has no name.
+fn plain_author(alloc: Global, author: Author) -> Result<Value, AllocError>
+    ensures { IfOk result (λ v. view v ≡ called_data author []) }
+{
+    json!(in alloc; {
+        "author": author.author,
+        "last": author.last,
+        "through": author.through
+    })
+}
+
+// An author of this name.
+fn named_author(alloc: Global, author: Author, name: &[u8]) -> Result<Value, AllocError>
+    requires ascii { IsAscii name.now }
+    requires some { 0 < length name.now }
+    ensures { IfOk result (λ v. view v ≡ called_data author name.now) }
+{
+    json!(in alloc; {
+        "author": author.author,
+        "last": author.last,
+        "name": ascii(name),
+        "through": author.through
+    })
 }

@@ -9,6 +9,7 @@
 //!
 //! - `write_report` writes one page of all of a record, and `write_json` one JSON document. Each builds the games one
 //!   after another, and holds one of them at a time.
+//! - `write_overview` tells of each game on one line, or of each block and claim that is refuted.
 //! - `write_bfile` writes known values as a b-file, and `read_bfile` reads a b-file, so that its values can be claimed.
 //! - `write_plot` draws the known values of a game, as an SVG picture.
 //! - `laws` says that a written b-file reads back, that a plot shows exactly what is known, that a style loads nothing,
@@ -23,23 +24,37 @@ mod bfile;
 mod bfile_error;
 mod bfile_line;
 mod blocks_tables;
+mod common;
 mod escape;
-mod games_table;
+mod game_tables;
+mod index;
 mod json;
 mod json_rows;
 pub mod laws;
+mod names;
+mod overview;
+mod periodic;
 mod periods_table;
 mod pieces;
 mod plot;
 mod points;
 mod records;
 mod report;
-mod sections;
+mod sentence;
+mod shown;
+mod site;
+mod styles;
+mod summary;
 mod tables;
 mod values_table;
 
 pub use bfile::{Bfile, read_bfile, write_bfile};
 pub use bfile_error::BfileError;
-pub use json::write_json;
+pub use json::{write_game_json, write_json};
+pub use names::{Called, author_name, naming_notes};
+pub use overview::{Form, Told, write_overview};
 pub use plot::write_plot;
 pub use report::write_report;
+pub use shown::Shown;
+pub use site::{write_game_page, write_index, write_style};
+pub use summary::{Summary, Tally};

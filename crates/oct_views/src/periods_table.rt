@@ -1,42 +1,77 @@
-//! The table of a game's period claims.
+//! The tables of a game's period claims: of those that are refuted, and of all.
 
-ghost use Rattle.std.specs.Prelude.{◌≡◌, ◌++◌, OnOk};
+ghost use Rattle.std.specs.Prelude.{◌≡◌, ◌++◌, OnOk, map};
 ghost use Rattle.oct_pages.specs.Growth.{Extends};
-ghost use Rattle.oct_views.specs.Report.{period_cells, period_status};
+ghost use Rattle.oct_views.specs.Game.{period_cells, period_row, period_status};
 
-use crate::pieces::Piece::{Dot as DotText, Number, Text};
+use crate::names::author_name;
+use crate::pieces::Piece::{Beside, Dot as DotText, Number, Text};
 use crate::pieces::append_pieces;
 use crate::tables::Rows;
-use oct_ops::{Dot, Period};
+use oct_ops::{Dot, Op, Period};
 use oct_pages::PeriodRow;
 use oct_period::PeriodStatus;
 use std::alloc::{AllocError, Allocator};
 
-/// Rows of the table of period claims.
-pub(crate) struct Periods;
+/// Rows of the table of period claims, with the names of authors by these notes.
+#[derive(Drop)]
+pub(crate) struct Periods<'a, 'b, B: Allocator + Copy>(pub &'a [&'b Op<B>]);
 
-impl Rows<PeriodRow> for Periods {
-    ghost use Rattle.oct_views.specs.Report.{period_row};
+/// Rows of the table of refuted period claims, with the names of authors by these notes.
+#[derive(Drop)]
+pub(crate) struct Broken<'a, 'b, B: Allocator + Copy>(pub &'a [&'b Op<B>]);
 
-    ghost text = { period_row };
+impl<'a, 'b, B: Allocator + Copy> Rows<PeriodRow> for Periods<'a, 'b, B> {
+    ghost text = { λ way row. period_row (map (λ op. op.now) way.0.now) row };
 
     fn append_row<A: Allocator + Copy>(
+        &self,
         out: &mut Vec<u8, A>,
         row: &PeriodRow,
     ) -> Result<(), AllocError> {
-        append_claim(out, row.dot, &row.period)?;
-        append_status(out, row.status)?;
-        append_pieces(out, &[Text(b"</td></tr>\n")])
+        append_period_row(out, self.0, row)
     }
 }
 
-// Appends the cells of which claim it is, its start and its period.
-fn append_claim<A: Allocator>(
+impl<'a, 'b, B: Allocator + Copy> Rows<PeriodRow> for Broken<'a, 'b, B> {
+    ghost use Rattle.oct_views.specs.Game.{broken_row};
+
+    ghost text = { λ way row. broken_row (map (λ op. op.now) way.0.now) row row.status };
+
+    fn append_row<A: Allocator + Copy>(
+        &self,
+        out: &mut Vec<u8, A>,
+        row: &PeriodRow,
+    ) -> Result<(), AllocError> {
+        match row.status {
+            PeriodStatus::Refuted { .. } => append_period_row(out, self.0, row),
+            PeriodStatus::Proved | PeriodStatus::Pending { .. } => Ok(()),
+        }
+    }
+}
+
+// Appends the row of a claim.
+fn append_period_row<A: Allocator, B: Allocator>(
     out: &mut Vec<u8, A>,
+    names: &[&Op<B>],
+    row: &PeriodRow,
+) -> Result<(), AllocError>
+    ensures ok { OnOk result (out.new.items ≡ out.old.items ++ period_row (map (λ op. op.now) names.now) row.now) }
+    ensures grown { Extends out.old.items out.new.items }
+{
+    append_claim(out, names, row.dot, &row.period)?;
+    append_status(out, row.status)?;
+    append_pieces(out, &[Text(b"</td></tr>\n")])
+}
+
+// Appends the cells of which claim it is, its start and its period.
+fn append_claim<A: Allocator, B: Allocator>(
+    out: &mut Vec<u8, A>,
+    names: &[&Op<B>],
     dot: Dot,
     period: &Period,
 ) -> Result<(), AllocError>
-    ensures ok { OnOk result (out.new.items ≡ out.old.items ++ period_cells dot period.now) }
+    ensures ok { OnOk result (out.new.items ≡ out.old.items ++ period_cells (map (λ op. op.now) names.now) dot period.now) }
     ensures grown { Extends out.old.items out.new.items }
 {
     append_pieces(
@@ -44,6 +79,7 @@ fn append_claim<A: Allocator>(
         &[
             Text(b"<tr><th scope=\"row\">"),
             DotText(dot),
+            Beside(author_name(names, dot.author())),
             Text(b"</th><td>"),
             Number(period.start() as u64),
             Text(b"</td><td>"),

@@ -5,7 +5,7 @@ ghost use Rattle.std.specs.List.{flat_map};
 ghost use Rattle.oct_pages.specs.Growth.{Extends};
 ghost use Rattle.oct_views.specs.Pieces.{piece_text};
 
-use crate::escape::append_escaped;
+use crate::escape::{append_beside, append_escaped, append_quoted};
 use oct_code::Code;
 use oct_ops::Dot;
 use oct_pages::{append_dot, append_number, append_text};
@@ -24,6 +24,10 @@ pub(crate) enum Piece<'a> {
     Code(Code),
     /// A text of others, escaped.
     Escaped(&'a [u8]),
+    /// The name of an author behind its number, or nothing where it is empty.
+    Beside(&'a [u8]),
+    /// A printable text inside a string of JSON.
+    Quoted(&'a [u8]),
 }
 
 /// Appends the pieces, one after another.
@@ -51,5 +55,7 @@ fn append_piece<A: Allocator>(out: &mut Vec<u8, A>, piece: &Piece<'_>) -> Result
         Piece::Dot(dot) => append_dot(out, *dot),
         Piece::Code(code) => code.append_text(out),
         Piece::Escaped(text) => append_escaped(out, text),
+        Piece::Beside(name) => append_beside(out, name),
+        Piece::Quoted(text) => append_quoted(out, text),
     }
 }

@@ -20,13 +20,13 @@ pub(crate) struct Frame {
     pub values: u64,
 }
 
-/// A point of a plot, by its column from the left and its row from below.
+/// A point of a plot, by its row from below and its column from the left.
 #[derive(Clone, Copy, PartialEq, Eq, PartialOrd, Ord)]
 pub(crate) struct Point {
-    /// The column, 0 to 1,400.
-    pub column: u64,
     /// The row, 0 to 640.
     pub row: u64,
+    /// The column, 0 to 1,400.
+    pub column: u64,
 }
 
 impl Frame {
@@ -60,8 +60,8 @@ fn point_at(frame: Frame, heap: u64, value: u32) -> Point
     ensures { result ≡ point_at frame (heap, value) }
 {
     Point {
-        column: scaled(heap, frame.heaps, COLUMNS),
         row: scaled(u64::from(value), frame.values, ROWS),
+        column: scaled(heap, frame.heaps, COLUMNS),
     }
 }
 

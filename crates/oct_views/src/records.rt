@@ -1,52 +1,64 @@
 //! The tables of what belongs to no game: notes, forks and authors.
 
-ghost use Rattle.std.specs.Prelude.{◌≡◌, ◌++◌, OnOk};
+ghost use Rattle.std.specs.Prelude.{◌≡◌, ◌++◌, OnOk, map};
 ghost use Rattle.oct_pages.specs.Growth.{Extends};
-ghost use Rattle.oct_views.specs.Report.{noted_row};
+ghost use Rattle.oct_views.specs.Index.{called_row, noted_row};
 
-use crate::pieces::Piece::{Dot as DotText, Escaped, Number, Text};
+use crate::names::{Called, author_name};
+use crate::pieces::Piece::{Beside, Dot as DotText, Escaped, Number, Text};
 use crate::pieces::append_pieces;
 use crate::tables::Rows;
 use oct_ops::{Body, Dot, Note, Op};
 use oct_store::{Author, Fork};
 use std::alloc::{AllocError, Allocator};
 
-/// Rows of the table of notes.
-pub(crate) struct Notes;
+/// Rows of the table of notes, with the names of authors by these notes.
+#[derive(Drop)]
+pub(crate) struct Notes<'a, 'b, B: Allocator + Copy>(pub &'a [&'b Op<B>]);
 
-/// Rows of the table of forks.
-pub(crate) struct Forks;
+/// Rows of the table of forks, with the names of authors by these notes.
+#[derive(Drop)]
+pub(crate) struct Forks<'a, 'b, B: Allocator + Copy>(pub &'a [&'b Op<B>]);
 
 /// Rows of the table of authors.
+#[derive(Clone, Copy)]
 pub(crate) struct Authors;
 
-impl<'a, B: Allocator + Copy> Rows<&'a Op<B>> for Notes {
-    ghost use Rattle.oct_views.specs.Report.{note_row};
+impl<'a, 'b, 'c, B: Allocator + Copy> Rows<&'c Op<B>> for Notes<'a, 'b, B> {
+    ghost use Rattle.std.specs.Prelude.{map};
+    ghost use Rattle.oct_views.specs.Index.{note_row};
 
-    ghost text = { λ op. note_row op.now };
+    ghost text = { λ way op. note_row (map (λ o. o.now) way.0.now) op.now };
 
     fn append_row<A: Allocator + Copy>(
+        &self,
         out: &mut Vec<u8, A>,
-        row: &&'a Op<B>,
+        row: &&'c Op<B>,
     ) -> Result<(), AllocError> {
         match row.body() {
-            Body::Note(note) => append_note(out, row.dot(), note),
+            Body::Note(note) => append_note(out, self.0, row.dot(), note),
             _ => Ok(()),
         }
     }
 }
 
-impl Rows<Fork> for Forks {
-    ghost use Rattle.oct_views.specs.Report.{fork_row};
+impl<'a, 'b, B: Allocator + Copy> Rows<Fork> for Forks<'a, 'b, B> {
+    ghost use Rattle.std.specs.Prelude.{map};
+    ghost use Rattle.oct_views.specs.Index.{fork_row};
 
-    ghost text = { fork_row };
+    ghost text = { λ way row. fork_row (map (λ o. o.now) way.0.now) row };
 
-    fn append_row<A: Allocator + Copy>(out: &mut Vec<u8, A>, row: &Fork) -> Result<(), AllocError> {
+    fn append_row<A: Allocator + Copy>(
+        &self,
+        out: &mut Vec<u8, A>,
+        row: &Fork,
+    ) -> Result<(), AllocError> {
         append_pieces(
             out,
             &[
                 Text(b"<tr><th scope=\"row\">"),
                 DotText(row.dot),
+                Beside(author_name(self.0, row.dot.author())),
                 Text(b"</th><td>"),
                 Number(row.contents as u64),
                 Text(b"</td></tr>\n"),
@@ -55,42 +67,53 @@ impl Rows<Fork> for Forks {
     }
 }
 
-impl Rows<Author> for Authors {
-    ghost use Rattle.oct_views.specs.Report.{author_row};
+impl<'a> Rows<Called<'a>> for Authors {
+    ghost use Rattle.oct_views.specs.Index.{author_row};
 
-    ghost text = { author_row };
+    ghost text = { λ _ row. author_row row };
 
     fn append_row<A: Allocator + Copy>(
+        &self,
         out: &mut Vec<u8, A>,
-        row: &Author,
+        row: &Called<'a>,
     ) -> Result<(), AllocError> {
-        let Author {
-            author,
-            through,
-            last,
-        } = *row;
-        append_pieces(
-            out,
-            &[
-                Text(b"<tr><th scope=\"row\">"),
-                Number(author as u64),
-                Text(b"</th><td>"),
-                Number(through as u64),
-                Text(b"</td><td>"),
-                Number(last as u64),
-                Text(b"</td></tr>\n"),
-            ],
-        )
+        append_called(out, row.author, row.name)
     }
 }
 
-// Appends the row of a note.
-fn append_note<A: Allocator, B: Allocator + Copy>(
+// Appends the row of an author of this name.
+fn append_called<A: Allocator>(
     out: &mut Vec<u8, A>,
-    dot: Dot,
-    note: &Note<B>,
+    author: Author,
+    name: &[u8],
 ) -> Result<(), AllocError>
-    ensures ok { OnOk result (out.new.items ≡ out.old.items ++ noted_row dot note.now) }
+    ensures ok { OnOk result (out.new.items ≡ out.old.items ++ called_row author name.now) }
+    ensures grown { Extends out.old.items out.new.items }
+{
+    append_pieces(
+        out,
+        &[
+            Text(b"<tr><th scope=\"row\">"),
+            Number(author.author as u64),
+            Text(b"</th><td class=\"text\">"),
+            Escaped(name),
+            Text(b"</td><td>"),
+            Number(author.through as u64),
+            Text(b"</td><td>"),
+            Number(author.last as u64),
+            Text(b"</td></tr>\n"),
+        ],
+    )
+}
+
+// Appends the row of a note.
+fn append_note<'a, A: Allocator, B: Allocator + Copy>(
+    out: &mut Vec<u8, A>,
+    names: &[&'a Op<B>],
+    dot: Dot,
+    note: &'a Note<B>,
+) -> Result<(), AllocError>
+    ensures ok { OnOk result (out.new.items ≡ out.old.items ++ noted_row (map (λ o. o.now) names.now) dot note.now) }
     ensures grown { Extends out.old.items out.new.items }
 {
     append_pieces(
@@ -100,7 +123,8 @@ fn append_note<A: Allocator, B: Allocator + Copy>(
             Escaped(note.name()),
             Text(b"</th><td>"),
             DotText(dot),
-            Text(b"</td><td>"),
+            Beside(author_name(names, dot.author())),
+            Text(b"</td><td class=\"text\">"),
             Escaped(note.text()),
             Text(b"</td></tr>\n"),
         ],

@@ -6,14 +6,14 @@ use crate::texts::{
     TWO, bytes, long_claimed, many_blocks, many_notes,
 };
 use census_core::{
-    Fault, ImportError, Reply, Request, digest, first_foreign, number, perform, rejoin,
+    Fault, ImportError, Reply, Request, digest, number, perform, rejoin, rejoin_grown,
 };
 use oct_code::CodeError;
 use oct_ops::{Dot, NoteError, PeriodError};
 use oct_record::Record;
 use oct_replica::{ComputeError, IssueError, LoadError, RemovalError, TakeError};
 use oct_sync::SyncError;
-use oct_views::BfileError;
+use oct_views::{BfileError, Form, Shown};
 use std::alloc::{AllocError, Global};
 use std::process::Abort;
 use std::test::Fail;
@@ -45,7 +45,12 @@ enum Ask<'a> {
 type Step<'a> = (Ask<'a>, Result<&'a str, Fault>);
 
 /// A state, the commands that are given on it one after the other, and the state in the end, where it is told.
-type Script<'a> = (&'a str, &'a [Step<'a>], Option<&'a str>);
+#[derive(Clone, Copy)]
+struct Script<'a> {
+    start: &'a str,
+    steps: &'a [Step<'a>],
+    end: Option<&'a str>,
+}
 
 /// The state of author 7 without operations but for its last byte, FIRST but for its last byte, and the state of author 8
 /// without operations.
@@ -132,7 +137,11 @@ fn request_of(alloc: Global, ask: Ask) -> Result<Request, AllocError> {
         Ask::Value(code, heaps) => {
             let code = Vec::from_slice(alloc, code.as_bytes())?;
             let heaps = Vec::from_slice(alloc, heaps)?;
-            Request::Value { code, heaps }
+            Request::Value {
+                code,
+                heaps,
+                form: Form::Lines,
+            }
         }
         Ask::Page(number) => Request::Page { number },
         Ask::Show => Request::Show,
@@ -145,7 +154,9 @@ fn request_of(alloc: Global, ask: Ask) -> Result<Request, AllocError> {
             Request::Plot { code }
         }
         Ask::Json => Request::Json,
-        Ask::Report => Request::Report,
+        Ask::Report => Request::Report {
+            shown: Shown::Brief,
+        },
     })
 }
 
@@ -212,7 +223,7 @@ fn answer_all(rt: &(impl Abort + AllocGlobal), state: &mut Vec<u8>, steps: &[Ste
 
 // The commands of the script are answered so, and leave the state that is told.
 fn follows(rt: &(impl Abort + AllocGlobal), script: Script) {
-    let (start, steps, end) = script;
+    let Script { start, steps, end } = script;
     let mut state = bytes(rt, start);
     answer_all(rt, &mut state, steps);
     if let Some(end) = end {
@@ -237,27 +248,35 @@ fn follow_delta(rt: &(impl Abort + AllocGlobal), delta: &[u8], merged: &str, ste
 
 const STATES: &[Script<'static>] = &[
     // A state of author 7 is made, and none of author 0; what is no state is refused.
-    ("", &[(Ask::Init(7), Ok("author 7\n"))], Some(EMPTY_STATE)),
-    ("", &[(Ask::Init(0), Err(Fault::Zero))], None),
-    (
-        "",
-        &[(Ask::Show, Err(Fault::Load(LoadError::Version)))],
-        None,
-    ),
-    (
-        FIRST,
-        &[(Ask::Show, Err(Fault::Load(LoadError::Version)))],
-        None,
-    ),
-    (
-        CUT_STATE,
-        &[(Ask::Show, Err(Fault::Load(LoadError::Refused)))],
-        None,
-    ),
+    Script {
+        start: "",
+        steps: &[(Ask::Init(7), Ok("author 7\n"))],
+        end: Some(EMPTY_STATE),
+    },
+    Script {
+        start: "",
+        steps: &[(Ask::Init(0), Err(Fault::Zero))],
+        end: None,
+    },
+    Script {
+        start: "",
+        steps: &[(Ask::Show, Err(Fault::Load(LoadError::Version)))],
+        end: None,
+    },
+    Script {
+        start: FIRST,
+        steps: &[(Ask::Show, Err(Fault::Load(LoadError::Version)))],
+        end: None,
+    },
+    Script {
+        start: CUT_STATE,
+        steps: &[(Ask::Show, Err(Fault::Load(LoadError::Refused)))],
+        end: None,
+    },
     // A state goes on under a number of which it holds nothing, and under no other.
-    (
-        FIRST_STATE,
-        &[
+    Script {
+        start: FIRST_STATE,
+        steps: &[
             (Ask::Renumber(0), Err(Fault::Zero)),
             (Ask::Renumber(1), Err(Fault::Held)),
             (Ask::Renumber(8), Ok("author 7 renumbered 8\n")),
@@ -265,25 +284,25 @@ const STATES: &[Script<'static>] = &[
             (Ask::Renumber(8), Err(Fault::Held)),
             (Ask::Renumber(7), Ok("author 8 renumbered 7\n")),
         ],
-        None,
-    ),
-    (
-        CUT_STATE,
-        &[
+        end: None,
+    },
+    Script {
+        start: CUT_STATE,
+        steps: &[
             (Ask::Renumber(0), Err(Fault::Zero)),
             (Ask::Renumber(8), Err(Fault::Load(LoadError::Refused))),
         ],
-        Some(CUT_STATE),
-    ),
+        end: Some(CUT_STATE),
+    },
     // FIRST is merged once, and what is no delta is refused.
-    (
-        EMPTY_STATE,
-        &[(Ask::Merge(FIRST), Ok("new 1\n"))],
-        Some(FIRST_STATE),
-    ),
-    (
-        FIRST_STATE,
-        &[
+    Script {
+        start: EMPTY_STATE,
+        steps: &[(Ask::Merge(FIRST), Ok("new 1\n"))],
+        end: Some(FIRST_STATE),
+    },
+    Script {
+        start: FIRST_STATE,
+        steps: &[
             (Ask::Merge(FIRST), Ok("new 0\n")),
             (Ask::Delta(FIRST), Ok("operations 1\n")),
             (
@@ -292,12 +311,12 @@ const STATES: &[Script<'static>] = &[
             ),
             (Ask::Merge(CUT_FIRST), Err(Fault::Merge(TakeError::Refused))),
         ],
-        Some(FIRST_STATE),
-    ),
+        end: Some(FIRST_STATE),
+    },
     // Positions of Kayles have the values that FIRST tells.
-    (
-        FIRST_STATE,
-        &[
+    Script {
+        start: FIRST_STATE,
+        steps: &[
             (
                 Ask::Value("0.77", &[1, 2, 3]),
                 Ok("value 0\nnext player loses\n"),
@@ -309,25 +328,29 @@ const STATES: &[Script<'static>] = &[
             (Ask::Value("0.77", &[5]), Ok("unknown at 0\n")),
             (Ask::Value("0.77", &[]), Ok("value 0\nnext player loses\n")),
         ],
-        None,
-    ),
+        end: None,
+    },
 ];
 
 const ISSUES: &[Script<'static>] = &[
     // A file that is no block is refused, and a block is imported.
-    (EMPTY_STATE, REFUSED_FILES, Some(EMPTY_STATE)),
-    (
-        EMPTY_STATE,
-        &[
+    Script {
+        start: EMPTY_STATE,
+        steps: REFUSED_FILES,
+        end: Some(EMPTY_STATE),
+    },
+    Script {
+        start: EMPTY_STATE,
+        steps: &[
             (Ask::Import(DAWSON), Ok("issued 7.1\n")),
             (Ask::Show, Ok(IMPORTED)),
         ],
-        None,
-    ),
+        end: None,
+    },
     // Values are computed, neither none nor too many.
-    (
-        EMPTY_STATE,
-        &[
+    Script {
+        start: EMPTY_STATE,
+        steps: &[
             (
                 Ask::Compute("0.137", 0),
                 Err(Fault::Compute(ComputeError::Zero)),
@@ -339,12 +362,12 @@ const ISSUES: &[Script<'static>] = &[
             (Ask::Compute("0.137", 5), Ok("issued 7.1\n")),
             (Ask::Show, Ok(COMPUTED)),
         ],
-        None,
-    ),
+        end: None,
+    },
     // One claim is issued, and others are refused.
-    (
-        EMPTY_STATE,
-        &[
+    Script {
+        start: EMPTY_STATE,
+        steps: &[
             (Ask::Period(".3", 4_097), Ok("issued 7.1\n")),
             (
                 Ask::Period("0.3", 65_537),
@@ -353,8 +376,8 @@ const ISSUES: &[Script<'static>] = &[
             (Ask::Period("0.3", 0), Err(Fault::Period(PeriodError::Zero))),
             (Ask::Period("0.8", 0), Err(Fault::Code(CodeError::Digit))),
         ],
-        None,
-    ),
+        end: None,
+    },
 ];
 
 /// A b-file of Kayles, with a comment, blanks and each end of a line.
@@ -365,9 +388,9 @@ const CLAIMED_JSON: &str =
 
 const VIEWS: &[Script<'static>] = &[
     // A b-file is claimed, and shown in other forms; so is a game of which nothing is claimed.
-    (
-        EMPTY_STATE,
-        &[
+    Script {
+        start: EMPTY_STATE,
+        steps: &[
             (Ask::Claim("0.77", KAYLES), Ok("issued 7.1\n")),
             (Ask::Bfile("0.77"), Ok("0 0\n1 1\n2 2\n3 3\n4 1\n")),
             (Ask::Bfile("0.6"), Ok("0 0\n")),
@@ -375,12 +398,12 @@ const VIEWS: &[Script<'static>] = &[
             (Ask::Bfile("0.8"), Err(Fault::Code(CodeError::Digit))),
             (Ask::Plot("0.8"), Err(Fault::Code(CodeError::Digit))),
         ],
-        None,
-    ),
+        end: None,
+    },
     // What is no b-file is refused by its line, after the state and the code.
-    (
-        EMPTY_STATE,
-        &[
+    Script {
+        start: EMPTY_STATE,
+        steps: &[
             (Ask::Claim("0.8", b"1"), Err(Fault::Code(CodeError::Digit))),
             (
                 Ask::Claim("0.77", b"0 0\r\n1 1 1\n"),
@@ -407,24 +430,24 @@ const VIEWS: &[Script<'static>] = &[
                 Err(Fault::Bfile(BfileError::Empty)),
             ),
         ],
-        Some(EMPTY_STATE),
-    ),
-    (
-        CUT_STATE,
-        &[
+        end: Some(EMPTY_STATE),
+    },
+    Script {
+        start: CUT_STATE,
+        steps: &[
             (Ask::Json, Err(Fault::Load(LoadError::Refused))),
             (Ask::Report, Err(Fault::Load(LoadError::Refused))),
             (Ask::Claim("0.8", b""), Err(Fault::Load(LoadError::Refused))),
         ],
-        None,
-    ),
+        end: None,
+    },
 ];
 
 const NOTES: &[Script<'static>] = &[
     // The live note is removed.
-    (
-        EMPTY_STATE,
-        &[
+    Script {
+        start: EMPTY_STATE,
+        steps: &[
             (Ask::Merge(EARLY), Ok("new 1\n")),
             (Ask::Merge(LATER), Ok("new 1\n")),
             (Ask::Merge(REMOVAL), Ok("new 1\n")),
@@ -435,45 +458,45 @@ const NOTES: &[Script<'static>] = &[
             (Ask::Unnote("kayles"), Ok("issued 7.1\n")),
             (Ask::Show, Ok(REMOVED)),
         ],
-        Some(REMOVED_STATE),
-    ),
+        end: Some(REMOVED_STATE),
+    },
     // Two notes from the same state make a fork where author 1 merges them, in both orders.
-    (
-        EMPTY_STATE,
-        &[
+    Script {
+        start: EMPTY_STATE,
+        steps: &[
             (Ask::Note("one"), Ok("issued 7.1\n")),
             (Ask::Delta(ONE), Ok("operations 1\n")),
         ],
-        None,
-    ),
-    (
-        EMPTY_STATE,
-        &[
+        end: None,
+    },
+    Script {
+        start: EMPTY_STATE,
+        steps: &[
             (Ask::Note("two"), Ok("issued 7.1\n")),
             (Ask::Delta(TWO), Ok("operations 1\n")),
         ],
-        None,
-    ),
-    (
-        "",
-        &[
+        end: None,
+    },
+    Script {
+        start: "",
+        steps: &[
             (Ask::Init(1), Ok("author 1\n")),
             (Ask::Merge(ONE), Ok("new 1\n")),
             (Ask::Merge(TWO), Ok("new 1\n")),
             (Ask::Show, Ok(FORKED_SHOWN)),
         ],
-        None,
-    ),
-    (
-        "",
-        &[
+        end: None,
+    },
+    Script {
+        start: "",
+        steps: &[
             (Ask::Init(1), Ok("author 1\n")),
             (Ask::Merge(TWO), Ok("new 1\n")),
             (Ask::Merge(ONE), Ok("new 1\n")),
             (Ask::Show, Ok(FORKED_SHOWN)),
         ],
-        None,
-    ),
+        end: None,
+    },
 ];
 
 const REFUSED_FILES: &[Step<'static>] = &[
@@ -535,24 +558,66 @@ const ONE_STATE: &str = "\
 4f475331 00000007 4f474431 00000001
 00000007 00000001 03 01 61 03 6f6e65";
 
-// Two texts of a state, and the least operation by its author that is only in the second, or the fault.
-const TWICE: &[(&str, &str, Result<Option<(u32, u32)>, Fault>)] = &[
-    (EMPTY_STATE, ONE_STATE, Ok(Some((7, 1)))),
-    (ONE_STATE, EMPTY_STATE, Ok(None)),
-    (ONE_STATE, ONE_STATE, Ok(None)),
-    (EMPTY_STATE, FIRST_STATE, Ok(None)),
-    (OTHER_STATE, ONE_STATE, Ok(None)),
-    (CUT_STATE, "", Err(Fault::Load(LoadError::Refused))),
-    (ONE_STATE, "", Err(Fault::Load(LoadError::Version))),
+/// The text of a state file, what is held, and the number of the least operation by the author, 7, that is held and that the
+/// file has not.
+#[derive(Clone, Copy)]
+struct Twice {
+    file: &'static str,
+    held: &'static str,
+    foreign: Option<u32>,
+}
+
+const TWICE: &[Twice] = &[
+    Twice {
+        file: EMPTY_STATE,
+        held: ONE_STATE,
+        foreign: Some(1),
+    },
+    Twice {
+        file: ONE_STATE,
+        held: EMPTY_STATE,
+        foreign: None,
+    },
+    Twice {
+        file: ONE_STATE,
+        held: ONE_STATE,
+        foreign: None,
+    },
+    Twice {
+        file: EMPTY_STATE,
+        held: FIRST_STATE,
+        foreign: None,
+    },
 ];
 
 #[test]
 fn a_number_that_two_use_is_seen(rt: HostRuntime) {
-    for &(before, later, wanted) in TWICE {
-        let found = first_foreign(rt.alloc(), &bytes(&rt, before), &bytes(&rt, later));
-        let found = found.map(|dot| dot.map(|dot: Dot| (dot.author(), dot.number())));
-        assert_eq!(rt; found, wanted, "between {before} and {later}");
+    for &Twice {
+        file,
+        held,
+        foreign,
+    } in TWICE {
+        let loaded = Record::load(rt.alloc(), &bytes(&rt, held));
+        let loaded = loaded.ok().expect(&rt, held);
+        let rejoined = rejoin(rt.alloc(), &bytes(&rt, file), &loaded);
+        let found = rejoined.ok().expect(&rt, file).foreign;
+        let found = found.map(|dot: Dot| (dot.author(), dot.number()));
+        let wanted = foreign.map(|number| (7, number));
+        assert_eq!(rt; found, wanted, "{file} with {held}");
     }
+}
+
+#[test]
+fn what_grew_is_written_as_it_is_held(rt: HostRuntime) {
+    let loaded = Record::load(rt.alloc(), &bytes(&rt, ONE_STATE));
+    let loaded = loaded.ok().expect(&rt, ONE_STATE);
+    let reply = rejoin_grown(rt.alloc(), 0, &loaded);
+    is_union(
+        &rt,
+        &reply.ok().expect(&rt, ONE_STATE),
+        "new 1 operations 1\n",
+        ONE_STATE,
+    );
 }
 
 // The text that the request prints of the state begins so.
@@ -571,7 +636,8 @@ fn pictures_and_pages_are_printed(rt: HostRuntime) -> Result<(), Fail> {
     let code = Vec::from_slice(rt.alloc(), b"0.77")?;
     let state = bytes(&rt, FIRST_STATE);
     begins(&rt, &state, &Request::Plot { code }, "<svg ");
-    begins(&rt, &state, &Request::Report, "<!DOCTYPE html>");
+    let shown = Shown::All;
+    begins(&rt, &state, &Request::Report { shown }, "<!DOCTYPE html>");
     Ok(())
 }
 
@@ -640,29 +706,104 @@ fn words_are_numbers(rt: HostRuntime) {
     }
 }
 
-/// Faults, and their texts and statuses.
-const FAULTS: &[(Fault, &str, u8)] = &[
-    (Fault::Code(CodeError::Digit), "Code Digit", 1),
-    (Fault::Load(LoadError::Version), "Load Version", 1),
-    (Fault::Import(ImportError::Shape), "Import Shape", 1),
-    (Fault::Compute(ComputeError::AtLimit), "Compute AtLimit", 1),
-    (Fault::Period(PeriodError::Zero), "Period Zero", 1),
-    (Fault::Note(NoteError::Name), "Note Name", 1),
-    (Fault::Removal(RemovalError::NoNote), "Removal NoNote", 1),
-    (Fault::Merge(TakeError::Refused), "Merge Refused", 1),
-    (Fault::Issue(IssueError::LastNumber), "Issue LastNumber", 1),
-    (Fault::Sync(SyncError::Order), "Sync Order", 1),
-    (Fault::Sync(SyncError::Cut), "Sync Cut", 3),
-    (Fault::NoPage, "NoPage", 1),
-    (Fault::PastValue, "PastValue", 1),
-    (Fault::Number, "Number", 2),
-    (Fault::Exists, "Exists", 3),
-    (Fault::OutOfMemory, "OutOfMemory", 4),
+/// A fault, its text and its status.
+#[derive(Clone, Copy)]
+struct Named {
+    fault: Fault,
+    text: &'static str,
+    status: u8,
+}
+
+const FAULTS: &[Named] = &[
+    Named {
+        fault: Fault::Code(CodeError::Digit),
+        text: "Code Digit",
+        status: 1,
+    },
+    Named {
+        fault: Fault::Load(LoadError::Version),
+        text: "Load Version",
+        status: 1,
+    },
+    Named {
+        fault: Fault::Import(ImportError::Shape),
+        text: "Import Shape",
+        status: 1,
+    },
+    Named {
+        fault: Fault::Compute(ComputeError::AtLimit),
+        text: "Compute AtLimit",
+        status: 1,
+    },
+    Named {
+        fault: Fault::Period(PeriodError::Zero),
+        text: "Period Zero",
+        status: 1,
+    },
+    Named {
+        fault: Fault::Note(NoteError::Name),
+        text: "Note Name",
+        status: 1,
+    },
+    Named {
+        fault: Fault::Removal(RemovalError::NoNote),
+        text: "Removal NoNote",
+        status: 1,
+    },
+    Named {
+        fault: Fault::Merge(TakeError::Refused),
+        text: "Merge Refused",
+        status: 1,
+    },
+    Named {
+        fault: Fault::Issue(IssueError::LastNumber),
+        text: "Issue LastNumber",
+        status: 1,
+    },
+    Named {
+        fault: Fault::Sync(SyncError::Order),
+        text: "Sync Order",
+        status: 1,
+    },
+    Named {
+        fault: Fault::Sync(SyncError::Cut),
+        text: "Sync Cut",
+        status: 3,
+    },
+    Named {
+        fault: Fault::NoPage,
+        text: "NoPage",
+        status: 1,
+    },
+    Named {
+        fault: Fault::PastValue,
+        text: "PastValue",
+        status: 1,
+    },
+    Named {
+        fault: Fault::Number,
+        text: "Number",
+        status: 2,
+    },
+    Named {
+        fault: Fault::Exists,
+        text: "Exists",
+        status: 3,
+    },
+    Named {
+        fault: Fault::OutOfMemory,
+        text: "OutOfMemory",
+        status: 4,
+    },
 ];
 
 #[test]
 fn faults_are_named(rt: HostRuntime) -> Result<(), Fail> {
-    for &(fault, text, status) in FAULTS {
+    for &Named {
+        fault,
+        text,
+        status,
+    } in FAULTS {
         let shown = format!(in rt.alloc(); "{fault}")?;
         assert_eq!(rt; shown.as_str(), text);
         assert_eq!(rt; fault.status(), status, "the status of {text}");
@@ -670,23 +811,53 @@ fn faults_are_named(rt: HostRuntime) -> Result<(), Fail> {
     Ok(())
 }
 
-/// A state file, the state that a session holds, and what is saved then, with its text.
-type Union<'a> = (&'a str, &'a str, Result<(&'a str, &'a str), Fault>);
+/// A state file, the state that a session holds, and what it leaves.
+#[derive(Clone, Copy)]
+struct Union<'a> {
+    file: &'a str,
+    held: &'a str,
+    left: Result<Left<'a>, Fault>,
+}
+
+/// What is printed after a session, and the state that is saved.
+#[derive(Clone, Copy)]
+struct Left<'a> {
+    text: &'a str,
+    state: &'a str,
+}
 
 const UNIONS: &[Union<'static>] = &[
-    (
-        EMPTY_STATE,
-        FIRST_STATE,
-        Ok(("new 1 operations 1\n", FIRST_STATE)),
-    ),
-    (
-        FIRST_STATE,
-        EMPTY_STATE,
-        Ok(("new 0 operations 1\n", FIRST_STATE)),
-    ),
-    (FIRST_STATE, OTHER_STATE, Err(Fault::Author)),
-    (CUT_STATE, OTHER_STATE, Err(Fault::Load(LoadError::Refused))),
-    ("", EMPTY_STATE, Err(Fault::Load(LoadError::Version))),
+    Union {
+        file: EMPTY_STATE,
+        held: FIRST_STATE,
+        left: Ok(Left {
+            text: "new 1 operations 1\n",
+            state: FIRST_STATE,
+        }),
+    },
+    Union {
+        file: FIRST_STATE,
+        held: EMPTY_STATE,
+        left: Ok(Left {
+            text: "new 0 operations 1\n",
+            state: FIRST_STATE,
+        }),
+    },
+    Union {
+        file: FIRST_STATE,
+        held: OTHER_STATE,
+        left: Err(Fault::Author),
+    },
+    Union {
+        file: CUT_STATE,
+        held: OTHER_STATE,
+        left: Err(Fault::Load(LoadError::Refused)),
+    },
+    Union {
+        file: "",
+        held: EMPTY_STATE,
+        left: Err(Fault::Load(LoadError::Version)),
+    },
 ];
 
 // The reply is this state and this text.
@@ -702,11 +873,11 @@ fn is_union(rt: &(impl Abort + AllocGlobal), reply: &Reply, text: &str, state: &
 
 // A session leaves what is told.
 fn leaves(rt: &(impl Abort + AllocGlobal), union: Union) {
-    let (file, held, wanted) = union;
+    let Union { file, held, left } = union;
     let loaded = Record::load(rt.alloc(), &bytes(rt, held));
     let loaded = loaded.ok().expect(rt, held);
-    match (rejoin(rt.alloc(), &bytes(rt, file), &loaded), wanted) {
-        (Ok(reply), Ok((text, state))) => is_union(rt, &reply, text, state),
+    match (rejoin(rt.alloc(), &bytes(rt, file), &loaded), left) {
+        (Ok(rejoined), Ok(Left { text, state })) => is_union(rt, &rejoined.reply, text, state),
         (Ok(_), Err(fault)) => panic!(rt; "{file} with {held} is not refused as {fault:?}"),
         (Err(fault), Ok(_)) => panic!(rt; "{file} with {held} is refused as {fault:?}"),
         (Err(fault), Err(named)) => assert_eq!(rt; fault, named, "{file} with {held}"),

@@ -69,57 +69,114 @@ const FORK_SHOWN: &str =
     "census 2\ngame 0.77 known 5\nvalues 0 0 1 2 3 1\nblock 1.1 at 0 count 5 proved\nblock 1.1 at 1 count 4 proved\nfork 1.1 contents 2\nauthor 1 through 1 last 1\nend\n";
 
 /// Lines, their catalogue, and how many of them are refused. Blanks of a line are left out.
-type Case = (&'static [&'static str], &'static str, u64);
+#[derive(Clone, Copy)]
+struct Case {
+    lines: &'static [&'static str],
+    shown: &'static str,
+    refused: u64,
+}
 
 const CASES: &[Case] = &[
-    (&[], NONE_SHOWN, 0),
-    (&[NOTHING], NONE_SHOWN, 0),
-    (&[NOTHING_NEW], NONE_SHOWN, 0),
-    (&[FIRST], FIRST_SHOWN, 0),
-    (&[FIRST, FIRST], FIRST_SHOWN, 0),
-    (&["zz", CAPITALS, "", CUT], FIRST_SHOWN, 2),
-    (&[FIRST, NEXT], BOTH_SHOWN, 0),
-    (&[NEXT, FIRST], BOTH_SHOWN, 0),
-    (&[NEXT], NEXT_SHOWN, 0),
-    (
-        &[OTHER],
-        "census 2\ngame 0.77 known 5\nvalues 0 0 1 2 3 1\nblock 1.1 at 1 count 4 proved\nauthor 1 through 1 last 1\nend\n",
-        0,
-    ),
-    (
-        &[FIRST, FIRST, SECOND, SECOND, THIRD, THIRD],
-        THREE_SHOWN,
-        0,
-    ),
-    (
-        &[WRONG],
-        "census 2\ngame 0.77 known 1\nvalues 0 0\nblock 1.1 at 1 count 6 refuted at 5 claimed 5 true 4\nauthor 1 through 1 last 1\nend\n",
-        0,
-    ),
-    (
-        &[LAST],
-        "census 2\ngame 0.77 known 1\nvalues 0 0\nblock 1.1 at 4095 count 1 pending\nauthor 1 through 1 last 1\nend\n",
-        0,
-    ),
-    (&[FIRST, OTHER], FORK_SHOWN, 0),
-    (&[OTHER, FIRST], FORK_SHOWN, 0),
-    (
-        &[SPLITS],
-        "census 2\ngame 4.0 known 7\nvalues 0 0 0 1 0 1 0 1\nblock 1.1 at 0 count 7 proved\nauthor 1 through 1 last 1\nend\n",
-        0,
-    ),
-    (
-        &[SPLITS, SPLITS_ON],
-        "census 2\ngame 4.0 known 7\nvalues 0 0 0 1 0 1 0 1\nblock 1.1 at 0 count 7 proved\nperiod 1.2 from 1 by 2 proved\nauthor 1 through 2 last 2\nend\n",
-        0,
-    ),
-    (&[TURNS], TURNS_SHOWN, 0),
-    (
-        &[SIX_TURNS],
-        "census 2\ngame 0.3 known 6\nvalues 0 0 1 0 1 0 1\nblock 1.1 at 0 count 6 proved\nperiod 1.2 from 1 by 2 pending needs 7\nauthor 1 through 2 last 2\nend\n",
-        0,
-    ),
-    (&[UNTOLD], UNTOLD_SHOWN, 0),
+    Case {
+        lines: &[],
+        shown: NONE_SHOWN,
+        refused: 0,
+    },
+    Case {
+        lines: &[NOTHING],
+        shown: NONE_SHOWN,
+        refused: 0,
+    },
+    Case {
+        lines: &[NOTHING_NEW],
+        shown: NONE_SHOWN,
+        refused: 0,
+    },
+    Case {
+        lines: &[FIRST],
+        shown: FIRST_SHOWN,
+        refused: 0,
+    },
+    Case {
+        lines: &[FIRST, FIRST],
+        shown: FIRST_SHOWN,
+        refused: 0,
+    },
+    Case {
+        lines: &["zz", CAPITALS, "", CUT],
+        shown: FIRST_SHOWN,
+        refused: 2,
+    },
+    Case {
+        lines: &[FIRST, NEXT],
+        shown: BOTH_SHOWN,
+        refused: 0,
+    },
+    Case {
+        lines: &[NEXT, FIRST],
+        shown: BOTH_SHOWN,
+        refused: 0,
+    },
+    Case {
+        lines: &[NEXT],
+        shown: NEXT_SHOWN,
+        refused: 0,
+    },
+    Case {
+        lines: &[OTHER],
+        shown: "census 2\ngame 0.77 known 5\nvalues 0 0 1 2 3 1\nblock 1.1 at 1 count 4 proved\nauthor 1 through 1 last 1\nend\n",
+        refused: 0,
+    },
+    Case {
+        lines: &[FIRST, FIRST, SECOND, SECOND, THIRD, THIRD],
+        shown: THREE_SHOWN,
+        refused: 0,
+    },
+    Case {
+        lines: &[WRONG],
+        shown: "census 2\ngame 0.77 known 1\nvalues 0 0\nblock 1.1 at 1 count 6 refuted at 5 claimed 5 true 4\nauthor 1 through 1 last 1\nend\n",
+        refused: 0,
+    },
+    Case {
+        lines: &[LAST],
+        shown: "census 2\ngame 0.77 known 1\nvalues 0 0\nblock 1.1 at 4095 count 1 pending\nauthor 1 through 1 last 1\nend\n",
+        refused: 0,
+    },
+    Case {
+        lines: &[FIRST, OTHER],
+        shown: FORK_SHOWN,
+        refused: 0,
+    },
+    Case {
+        lines: &[OTHER, FIRST],
+        shown: FORK_SHOWN,
+        refused: 0,
+    },
+    Case {
+        lines: &[SPLITS],
+        shown: "census 2\ngame 4.0 known 7\nvalues 0 0 0 1 0 1 0 1\nblock 1.1 at 0 count 7 proved\nauthor 1 through 1 last 1\nend\n",
+        refused: 0,
+    },
+    Case {
+        lines: &[SPLITS, SPLITS_ON],
+        shown: "census 2\ngame 4.0 known 7\nvalues 0 0 0 1 0 1 0 1\nblock 1.1 at 0 count 7 proved\nperiod 1.2 from 1 by 2 proved\nauthor 1 through 2 last 2\nend\n",
+        refused: 0,
+    },
+    Case {
+        lines: &[TURNS],
+        shown: TURNS_SHOWN,
+        refused: 0,
+    },
+    Case {
+        lines: &[SIX_TURNS],
+        shown: "census 2\ngame 0.3 known 6\nvalues 0 0 1 0 1 0 1\nblock 1.1 at 0 count 6 proved\nperiod 1.2 from 1 by 2 pending needs 7\nauthor 1 through 2 last 2\nend\n",
+        refused: 0,
+    },
+    Case {
+        lines: &[UNTOLD],
+        shown: UNTOLD_SHOWN,
+        refused: 0,
+    },
 ];
 
 // Three lines, and their catalogue in every order.
@@ -166,7 +223,11 @@ fn folds_orders(rt: &(impl Abort + AllocGlobal), lines: [&str; 3], shown: &str) 
 
 #[test]
 fn lines_are_folded(rt: HostRuntime) {
-    for &(lines, shown, refused) in CASES {
+    for &Case {
+        lines,
+        shown,
+        refused,
+    } in CASES {
         folds(&rt, lines, shown, refused);
     }
     for &(lines, shown) in IN_EVERY_ORDER {
@@ -205,7 +266,7 @@ fn folds_over(
     );
 }
 
-/// How a reader ends: well, by a failure at once, or never, since it gives line feeds without end.
+/// How a reader ends: well, by a failure at once, or never, since it gives lines without end.
 #[derive(Clone, Copy, Debug)]
 enum Kind {
     Whole,
@@ -213,7 +274,7 @@ enum Kind {
     Endless,
 }
 
-/// Gives its bytes, or fails at once, or gives line feeds without end.
+/// Gives its bytes, or fails at once, or gives lines without end, each of what stands in the room for it, up to its last byte.
 #[derive(Clone, Copy)]
 struct Source<'a> {
     bytes: &'a [u8],
@@ -226,7 +287,9 @@ impl Read for Source<'_> {
             Kind::Whole => self.bytes.read(buf),
             Kind::Failing => Err(io::Error::from(ErrorKind::BrokenPipe)),
             Kind::Endless => {
-                buf.fill(b'\n');
+                if let [.., last] = &mut *buf {
+                    *last = b'\n';
+                }
                 Ok(buf.len())
             }
         }

@@ -1,20 +1,41 @@
 //! Who is told how far a command is.
 
 use crate::texts::{EMPTY_STATE, bytes};
-use census_core::{Progress, Request, SearchForm, perform_watched, search};
+use census_core::{Form, Progress, Request, perform_watched, search};
 use oct_code::Code;
 use std::alloc::{AllocError, Global};
 use std::process::Abort;
 
 /// The code of a game, how many of its values are known, and how many are wanted.
-type Tale = (&'static str, u32, u32);
+#[derive(Clone, Copy)]
+struct Tale {
+    code: &'static str,
+    known: u32,
+    wanted: u32,
+}
 
 /// What is told of two games of which 1,030 values are wanted, where those of heap 0 are known: once before each block.
 const TOLD: &[Tale] = &[
-    ("0.137", 1, 1_030),
-    ("0.137", 1_025, 1_030),
-    ("0.77", 1, 1_030),
-    ("0.77", 1_025, 1_030),
+    Tale {
+        code: "0.137",
+        known: 1,
+        wanted: 1_030,
+    },
+    Tale {
+        code: "0.137",
+        known: 1_025,
+        wanted: 1_030,
+    },
+    Tale {
+        code: "0.77",
+        known: 1,
+        wanted: 1_030,
+    },
+    Tale {
+        code: "0.77",
+        known: 1_025,
+        wanted: 1_030,
+    },
 ];
 
 /// Expects to be told this, and notes whether something else came.
@@ -35,8 +56,8 @@ impl Progress for Listener {
 
 // This is what is told.
 fn is_told(tale: Tale, code: Code, known: u32, wanted: u32) -> bool {
-    let (name, known_then, wanted_then) = tale;
-    Code::parse(name.as_bytes()) == Ok(code) && known_then == known && wanted_then == wanted
+    let is_of = Code::parse(tale.code.as_bytes()) == Ok(code);
+    is_of && tale.known == known && tale.wanted == wanted
 }
 
 // The request for the values of both games.
@@ -69,10 +90,14 @@ fn each_block_is_told_before(rt: HostRuntime) {
 fn a_search_is_told(rt: HostRuntime) {
     let code = Code::parse(b"0.77").ok().expect(&rt, "a code");
     let mut listener = Listener {
-        expected: &[("0.77", 0, 5)],
+        expected: &[Tale {
+            code: "0.77",
+            known: 0,
+            wanted: 5,
+        }],
         is_right: true,
     };
-    let line = search(rt.alloc(), code, 5, &[], SearchForm::Lines, &mut listener);
+    let line = search(rt.alloc(), code, 5, &[], Form::Lines, &mut listener);
     assert!(&rt; line.is_ok(), "refused");
     assert!(&rt; listener.is_right, "something else is told");
     assert!(&rt; listener.expected.is_empty(), "less is told");

@@ -1,6 +1,8 @@
-//! Records: the operations of each game, the notes, and an operation that is taken out again.
+//! Records: the operations of each game, the notes, an operation that is taken out again, and what became of those that
+//! are new.
 
-use crate::texts::{EARLY, FIRST, NEXT, ONE, TURNS, bytes};
+use crate::texts::{EARLY, FIRST, LAST, NEXT, ONE, TURNS, bytes};
+use census_core::{Verdict, judge, tally};
 use oct_code::Code;
 use oct_record::{Record, RenumberError};
 use std::alloc::Global;
@@ -69,4 +71,21 @@ fn an_operation_that_one_never_held_is_found(rt: HostRuntime) {
         later.first_foreign(&said).is_none(),
         "all of the other are held"
     );
+}
+
+#[test]
+fn what_is_new_is_judged(rt: HostRuntime) {
+    let before = record_of(&rt, &[FIRST]);
+    let later = record_of(&rt, &[FIRST, NEXT, EARLY, LAST, TURNS]);
+    let all = judge(rt.alloc(), &before, &later);
+    let all = all.ok().expect(&rt, "verdicts");
+    let counts = tally(&all);
+    assert_eq!(rt; counts.proved, 3, "proved");
+    assert_eq!(rt; counts.refuted, 0, "refuted");
+    assert_eq!(rt; counts.pending, 1, "pending");
+    for one in &all {
+        let is_last = one.dot.author() == 1 && one.dot.number() == 4;
+        let is_pending = matches!(one.verdict, Verdict::PendingBlock);
+        assert_eq!(rt; is_pending, is_last, "past the known values");
+    }
 }

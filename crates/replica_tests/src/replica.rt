@@ -74,44 +74,121 @@ fn code_of(rt: &impl Abort, text: &str) -> Code {
 }
 
 /// What a replica of author 1 takes, one operation each, and what it then prints, with a name for the case.
-type Printed<'a> = (&'a str, &'a [&'a str], &'a str);
+#[derive(Clone, Copy)]
+struct Printed<'a> {
+    name: &'a str,
+    deltas: &'a [&'a str],
+    shown: &'a str,
+}
 
 const PRINTED: &[Printed<'static>] = &[
-    ("blocks", &[FIRST, NEXT], BOTH_SHOWN),
-    ("blocks turned", &[NEXT, FIRST], BOTH_SHOWN),
-    ("a far block", &[NEXT], NEXT_SHOWN),
-    ("overlapping", &[FIRST, SECOND, THIRD], THREE_SHOWN),
-    ("a fork", &[ONE, TWO], FORKED_SHOWN),
-    ("a fork turned", &[TWO, ONE], FORKED_SHOWN),
-    ("notes 123", &[EARLY, LATER, REMOVAL], LATER_SHOWN),
-    ("notes 132", &[EARLY, REMOVAL, LATER], LATER_SHOWN),
-    ("notes 213", &[LATER, EARLY, REMOVAL], LATER_SHOWN),
-    ("notes 231", &[LATER, REMOVAL, EARLY], LATER_SHOWN),
-    ("notes 312", &[REMOVAL, EARLY, LATER], LATER_SHOWN),
-    ("notes 321", &[REMOVAL, LATER, EARLY], LATER_SHOWN),
+    Printed {
+        name: "blocks",
+        deltas: &[FIRST, NEXT],
+        shown: BOTH_SHOWN,
+    },
+    Printed {
+        name: "blocks turned",
+        deltas: &[NEXT, FIRST],
+        shown: BOTH_SHOWN,
+    },
+    Printed {
+        name: "a far block",
+        deltas: &[NEXT],
+        shown: NEXT_SHOWN,
+    },
+    Printed {
+        name: "overlapping",
+        deltas: &[FIRST, SECOND, THIRD],
+        shown: THREE_SHOWN,
+    },
+    Printed {
+        name: "a fork",
+        deltas: &[ONE, TWO],
+        shown: FORKED_SHOWN,
+    },
+    Printed {
+        name: "a fork turned",
+        deltas: &[TWO, ONE],
+        shown: FORKED_SHOWN,
+    },
+    Printed {
+        name: "notes 123",
+        deltas: &[EARLY, LATER, REMOVAL],
+        shown: LATER_SHOWN,
+    },
+    Printed {
+        name: "notes 132",
+        deltas: &[EARLY, REMOVAL, LATER],
+        shown: LATER_SHOWN,
+    },
+    Printed {
+        name: "notes 213",
+        deltas: &[LATER, EARLY, REMOVAL],
+        shown: LATER_SHOWN,
+    },
+    Printed {
+        name: "notes 231",
+        deltas: &[LATER, REMOVAL, EARLY],
+        shown: LATER_SHOWN,
+    },
+    Printed {
+        name: "notes 312",
+        deltas: &[REMOVAL, EARLY, LATER],
+        shown: LATER_SHOWN,
+    },
+    Printed {
+        name: "notes 321",
+        deltas: &[REMOVAL, LATER, EARLY],
+        shown: LATER_SHOWN,
+    },
 ];
 
 fn prints(rt: &(impl Abort + AllocGlobal), case: Printed) {
-    let (name, deltas, wanted) = case;
+    let Printed {
+        name,
+        deltas,
+        shown,
+    } = case;
     let mut replica = new_replica(rt, rt.alloc(), 1);
     takes(rt, &mut replica, deltas, 1);
-    shows(rt, rt.alloc(), &replica, wanted, name);
+    shows(rt, rt.alloc(), &replica, shown, name);
 }
 
 /// What a replica of author 7 takes, what another takes with which it is joined, and what it then prints.
-type Joined<'a> = (&'a str, &'a str, &'a str);
+#[derive(Clone, Copy)]
+struct Joined<'a> {
+    ours: &'a str,
+    theirs: &'a str,
+    shown: &'a str,
+}
 
-const JOINED: &[Joined<'static>] = &[(FIRST, NEXT, BOTH_SHOWN), (TWO, ONE, FORKED_SHOWN)];
+const JOINED: &[Joined<'static>] = &[
+    Joined {
+        ours: FIRST,
+        theirs: NEXT,
+        shown: BOTH_SHOWN,
+    },
+    Joined {
+        ours: TWO,
+        theirs: ONE,
+        shown: FORKED_SHOWN,
+    },
+];
 
 // The joined replica holds both operations.
 fn joins(rt: &(impl Abort + AllocGlobal), case: Joined) {
-    let (ours, theirs, wanted) = case;
+    let Joined {
+        ours,
+        theirs,
+        shown,
+    } = case;
     let mut replica = new_replica(rt, rt.alloc(), 7);
     let mut other = new_replica(rt, rt.alloc(), 1);
     takes(rt, &mut replica, &[ours], 1);
     takes(rt, &mut other, &[theirs], 1);
     assert!(rt; replica.join(&other).is_ok(), "{ours} with {theirs}");
-    shows(rt, rt.alloc(), &replica, wanted, "a join");
+    shows(rt, rt.alloc(), &replica, shown, "a join");
     assert_eq!(rt;
         (replica.author(), replica.len()),
         (7, 2),

@@ -7,7 +7,13 @@ use std::test::Fail;
 use std::{env, fs};
 
 /// Words, the status with which they end, their output, and their errors. A text that ends with two dots is the front of one.
-type Case<'a> = (&'a [&'a str], u8, &'a str, &'a str);
+#[derive(Clone, Copy)]
+struct Case<'a> {
+    words: &'a [&'a str],
+    status: u8,
+    output: &'a str,
+    errors: &'a str,
+}
 
 /// How the program ended: its status, its output and its errors.
 #[derive(Drop)]
@@ -33,7 +39,12 @@ impl End {
 
     // It is that of the case.
     fn is_right(&self, rt: &impl Abort, case: Case) {
-        let (words, status, output, errors) = case;
+        let Case {
+            words,
+            status,
+            output,
+            errors,
+        } = case;
         is_like(rt, &self.errors, errors, words);
         assert_eq!(rt; self.status, status, "the status of {words:?}");
         is_like(rt, &self.output, output, words);
@@ -58,44 +69,186 @@ fn folder_name(rt: &HostRuntime) -> Result<String, Fail> {
 
 // Commands on a state, of which one reads a file of JSON, and how they end. The words STATE and JSON stand for the files.
 const ON_FILES: &[Case<'static>] = &[
-    (&["init", "STATE", "7"], 0, "author 7\n", ""),
-    (&["init", "STATE", "7"], 3, "", "census: Exists\n"),
-    (&["sync", "STATE", "nowhere"], 3, "", "census: Net\n"),
-    (&["hub", "STATE", "nowhere"], 3, "", "census: Net\n"),
-    (
-        &["hub", "STATE", "nowhere", "--longest", "0"],
-        2,
-        "",
-        "census: Number\n",
-    ),
-    (
-        &["hub", "STATE", "127.0.0.1:0", "--peers", "0"],
-        0,
-        "listening on 127.0.0.1:..",
-        "",
-    ),
-    (
-        &["unnote", "STATE", "dawson"],
-        1,
-        "",
-        "census: Removal NoNote\n",
-    ),
-    (&["delta", "STATE", "STATE"], 3, "", "census: Same\n"),
-    (&["import", "STATE", "JSON"], 0, "issued 7.1\n", ""),
-    (&["show", "STATE"], 0, DAWSON, ""),
-    (&["digest", "STATE"], 0, DAWSON_DIGEST, ""),
-    (&["digest", "JSON"], 1, "", "census: Merge Version\n"),
-    (&["init", "STATE", "--draw"], 3, "", "census: Exists\n"),
-    (&["init", "STATE", "8", "--draw"], 2, "", "error: .."),
-    (&["renumber", "STATE", "7"], 1, "", "census: Held\n"),
-    (
-        &["renumber", "STATE", "8"],
-        0,
-        "author 7 renumbered 8\n",
-        "",
-    ),
-    (&["renumber", "STATE"], 0, "author 8 renumbered ..", ""),
-    (&["digest", "STATE"], 0, DAWSON_DIGEST, ""),
+    Case {
+        words: &["init", "STATE", "7"],
+        status: 0,
+        output: "author 7\n",
+        errors: "",
+    },
+    Case {
+        words: &["init", "STATE", "7"],
+        status: 3,
+        output: "",
+        errors: "census: Exists\n",
+    },
+    Case {
+        words: &["sync", "STATE", "nowhere"],
+        status: 3,
+        output: "",
+        errors: "census: Net\n",
+    },
+    Case {
+        words: &["hub", "STATE", "nowhere"],
+        status: 3,
+        output: "",
+        errors: "census: Net\n  nowhere has no port: ..",
+    },
+    Case {
+        words: &["--explain", "sync", "STATE", "nowhere"],
+        status: 3,
+        output: "",
+        errors: "census: Net\n  nowhere has no port: ..",
+    },
+    Case {
+        words: &["hub", "STATE", "nowhere", "--longest", "0"],
+        status: 2,
+        output: "",
+        errors: "census: Number\n  --longest must be 1 to 4294967295, and is 0; ..",
+    },
+    Case {
+        words: &["hub", "STATE", "127.0.0.1:0", "--peers", "0"],
+        status: 0,
+        output: "listening on 127.0.0.1:..",
+        errors: "",
+    },
+    Case {
+        words: &["unnote", "STATE", "dawson"],
+        status: 1,
+        output: "",
+        errors: "census: Removal NoNote\n",
+    },
+    Case {
+        words: &["delta", "STATE", "STATE"],
+        status: 3,
+        output: "",
+        errors: "census: Same\n",
+    },
+    Case {
+        words: &["import", "STATE", "JSON"],
+        status: 0,
+        output: "issued 7.1\n",
+        errors: "",
+    },
+    Case {
+        words: &["show", "STATE"],
+        status: 0,
+        output: DAWSON,
+        errors: "",
+    },
+    Case {
+        words: &["delta", "STATE", "-"],
+        status: 0,
+        output: "OGD1..",
+        errors: "",
+    },
+    Case {
+        words: &["find", "STATE", "0.07"],
+        status: 0,
+        output: "0.07 no period in 7 values\n",
+        errors: "",
+    },
+    Case {
+        words: &["--explain", "find", "STATE", "0.07", "0.87"],
+        status: 1,
+        output: "",
+        errors: "census: Code Digit\n  0.87: the digit 8 is none of 0 to 7\n  ..",
+    },
+    Case {
+        words: &["compute", "STATE", "0.07", "2000", "--explain"],
+        status: 1,
+        output: "",
+        errors: "census: Compute TooMany\n  COUNT must be 1 to 1024, and is 2000\n  census extend..",
+    },
+    Case {
+        words: &["merge", "STATE", "-", "--explain"],
+        status: 1,
+        output: "",
+        errors: "census: Merge Version\n  standard input does not begin as a delta does\n  ..",
+    },
+    Case {
+        words: &["digest", "STATE"],
+        status: 0,
+        output: DAWSON_DIGEST,
+        errors: "",
+    },
+    Case {
+        words: &["digest", "JSON"],
+        status: 1,
+        output: "",
+        errors: "census: Merge Version\n",
+    },
+    Case {
+        words: &["init", "STATE", "--draw"],
+        status: 3,
+        output: "",
+        errors: "census: Exists\n",
+    },
+    Case {
+        words: &["init", "STATE", "8", "--draw"],
+        status: 2,
+        output: "",
+        errors: "error: ..",
+    },
+    Case {
+        words: &["renumber", "STATE", "7"],
+        status: 1,
+        output: "",
+        errors: "census: Held\n",
+    },
+    Case {
+        words: &["renumber", "STATE", "8"],
+        status: 0,
+        output: "author 7 renumbered 8\n",
+        errors: "",
+    },
+    Case {
+        words: &["renumber", "STATE"],
+        status: 0,
+        output: "author 8 renumbered ..",
+        errors: "",
+    },
+    Case {
+        words: &["digest", "STATE"],
+        status: 0,
+        output: DAWSON_DIGEST,
+        errors: "",
+    },
+    Case {
+        words: &["note", "--quiet", "STATE", "dawson", "x"],
+        status: 0,
+        output: "",
+        errors: "",
+    },
+    Case {
+        words: &["renumber", "STATE", "9"],
+        status: 0,
+        output: "author ..",
+        errors: "",
+    },
+    Case {
+        words: &["period", "STATE", "0.07", "1", "1"],
+        status: 0,
+        output: "issued 9.1\n",
+        errors: "",
+    },
+    Case {
+        words: &["--explain", "period", "STATE", "0.07", "1", "1"],
+        status: 0,
+        output: "issued 9.2\n",
+        errors: "9.2: refuted at 1, which has the value 0, and 2 the value 1\n",
+    },
+    Case {
+        words: &["--explain", "import", "STATE", "JSON"],
+        status: 0,
+        output: "issued 9.3\n",
+        errors: "9.3: proved\n",
+    },
+    Case {
+        words: &["--explain", "import", "--quiet", "STATE", "JSON"],
+        status: 0,
+        output: "",
+        errors: "",
+    },
 ];
 
 // The words over these files.
@@ -125,7 +278,7 @@ fn does_commands_over_files(rt: HostRuntime) -> Result<(), Fail> {
     let json = format!(in rt.alloc(); "{folder}/block.json")?;
     fs::write(&rt, json.as_str(), BLOCK)?;
     for &case in ON_FILES {
-        let words = words_over(rt.alloc(), case.0, state.as_str(), json.as_str())?;
+        let words = words_over(rt.alloc(), case.words, state.as_str(), json.as_str())?;
         End::of(&rt, &words).is_right(&rt, case);
     }
     fs::remove_dir_all(&rt, folder.as_str())?;
@@ -147,45 +300,104 @@ end
 const DAWSON_DIGEST: &str = "e7632fc4dbf044be5e28784d37ebbd1ce31d56f16a2e3bcab00e5ca68e1e99b7  ..";
 
 const CASES: &[Case<'static>] = &[
-    (&["fold"], 0, "census 2\nend\n", "refused 1\n"),
-    (&["init", "none", "x"], 2, "", "census: Number\n"),
-    (&["bogus", "fold"], 2, "", "error: .."),
-    (&["fold", "more"], 2, "", "error: .."),
-    (&["show", "--bogus"], 2, "", "error: .."),
-    (&["--help"], 0, "One table of nim-sequences..", ""),
-    (&["--version"], 0, "census 1.0.0\n", ""),
+    Case {
+        words: &["fold"],
+        status: 0,
+        output: "census 2\nend\n",
+        errors: "refused 1\n",
+    },
+    Case {
+        words: &["init", "none", "x"],
+        status: 2,
+        output: "",
+        errors: "census: Number\n",
+    },
+    Case {
+        words: &["bogus", "fold"],
+        status: 2,
+        output: "",
+        errors: "error: ..",
+    },
+    Case {
+        words: &["fold", "more"],
+        status: 2,
+        output: "",
+        errors: "error: ..",
+    },
+    Case {
+        words: &["show", "--bogus"],
+        status: 2,
+        output: "",
+        errors: "error: ..",
+    },
+    Case {
+        words: &["--help"],
+        status: 0,
+        output: "One table of nim-sequences..",
+        errors: "",
+    },
+    Case {
+        words: &["--version"],
+        status: 0,
+        output: "census 1.1.0\n",
+        errors: "",
+    },
+    Case {
+        words: &["explain", "Bfile", "Form", "3"],
+        status: 0,
+        output: "Bfile Form, status 1\n  the b-file has, at this line,..",
+        errors: "",
+    },
+    Case {
+        words: &["explain", "Bfi"],
+        status: 2,
+        output: "",
+        errors: "census: Words\n",
+    },
+    Case {
+        words: &["completion", "bash"],
+        status: 0,
+        output: "# Completions of census..",
+        errors: "",
+    },
+    Case {
+        words: &["completion", "sh"],
+        status: 2,
+        output: "",
+        errors: "census: Words\n",
+    },
 ];
 
 #[test]
 fn folds_and_refuses_lines(rt: HostRuntime) {
     for &case in CASES {
-        End::of(&rt, case.0).is_right(&rt, case);
+        End::of(&rt, case.words).is_right(&rt, case);
     }
 }
 
 // Searches: the periods of the literature, by as many values as prove them and by one fewer; the values of heaps, of any
 // size, and those of a b-file; and each refusal.
 const SEARCHES: &[Case<'static>] = &[
-    (
-        &["search", "168", "0.77"],
-        0,
-        "0.77 period 12 from 71 needs 168 values 168\n",
-        "",
-    ),
-    (
-        &["search", "509622", "0.16"],
-        0,
-        "0.16 period 149459 from 105351 needs 509622 values 509622\n",
-        "",
-    ),
-    (
-        &["search", "167", "0.77", "0.6"],
-        0,
-        "0.77 no period in 167 values\n0.6 no period in 167 values\n",
-        "",
-    ),
-    (
-        &[
+    Case {
+        words: &["search", "168", "0.77"],
+        status: 0,
+        output: "0.77 period 12 from 71 needs 168 values 168\n",
+        errors: "",
+    },
+    Case {
+        words: &["search", "509622", "0.16"],
+        status: 0,
+        output: "0.16 period 149459 from 105351 needs 509622 values 509622\n",
+        errors: "",
+    },
+    Case {
+        words: &["search", "167", "0.77", "0.6"],
+        status: 0,
+        output: "0.77 no period in 167 values\n0.6 no period in 167 values\n",
+        errors: "",
+    },
+    Case {
+        words: &[
             "search",
             "168",
             "0.77",
@@ -194,73 +406,93 @@ const SEARCHES: &[Case<'static>] = &[
             "--at",
             "11",
         ],
-        0,
-        "0.77 period 12 from 71 needs 168 values 168\n0.77 at 1000000000000 value 1\n0.77 at 11 value 6\n",
-        "",
-    ),
-    (
-        &["search", "12", "0.77", "--at", "11", "--at", "12"],
-        0,
-        "0.77 no period in 12 values\n0.77 at 11 value 6\n0.77 at 12 not known\n",
-        "",
-    ),
-    (
-        &["search", "168", "0.77", "--json"],
-        0,
-        "{\"code\":\"0.77\",\"period\":12,\"from\":71,\"needs\":168,\"values\":168}\n",
-        "",
-    ),
-    (
-        &["search", "12", "0.77", "--json", "--at", "11", "--at", "12"],
-        0,
-        "{\"code\":\"0.77\",\"period\":null,\"values\":12,\"at\":[{\"heap\":11,\"value\":6},{\"heap\":12,\"value\":null}]}\n",
-        "",
-    ),
-    (
-        &["search", "--bfile", "5", "0.77"],
-        0,
-        "0 0\n1 1\n2 2\n3 3\n4 1\n",
-        "",
-    ),
-    (
-        &["search", "--bfile", "0", "0.77", "0.6"],
-        2,
-        "",
-        "census: Words\n",
-    ),
-    (
-        &["search", "--bfile", "5", "0.77", "--at", "5"],
-        2,
-        "",
-        "census: Words\n",
-    ),
-    (
-        &["search", "--bfile", "5", "0.77", "--json"],
-        2,
-        "",
-        "census: Words\n",
-    ),
-    (&["search", "0", "0.8"], 2, "", "census: Number\n"),
-    (&["search", "4294967297", "0.6"], 2, "", "census: Number\n"),
-    (&["search", "x", "0.6"], 2, "", "census: Number\n"),
-    (
-        &["search", "1000", "0.77", "5.7", "0.8"],
-        1,
-        "",
-        "census: Code Head\n",
-    ),
-    (
-        &["search", "9", "0.8", "--at", "18446744073709551616"],
-        2,
-        "",
-        "census: Number\n",
-    ),
-    (&["search", "1000"], 2, "", "error: .."),
+        status: 0,
+        output: "0.77 period 12 from 71 needs 168 values 168\n0.77 at 1000000000000 value 1\n0.77 at 11 value 6\n",
+        errors: "",
+    },
+    Case {
+        words: &["search", "12", "0.77", "--at", "11", "--at", "12"],
+        status: 0,
+        output: "0.77 no period in 12 values\n0.77 at 11 value 6\n0.77 at 12 not known\n",
+        errors: "",
+    },
+    Case {
+        words: &["search", "168", "0.77", "--json"],
+        status: 0,
+        output: "{\"code\":\"0.77\",\"period\":12,\"from\":71,\"needs\":168,\"values\":168}\n",
+        errors: "",
+    },
+    Case {
+        words: &["search", "12", "0.77", "--json", "--at", "11", "--at", "12"],
+        status: 0,
+        output: "{\"code\":\"0.77\",\"period\":null,\"values\":12,\"at\":[{\"heap\":11,\"value\":6},{\"heap\":12,\"value\":null}]}\n",
+        errors: "",
+    },
+    Case {
+        words: &["search", "--bfile", "5", "0.77"],
+        status: 0,
+        output: "0 0\n1 1\n2 2\n3 3\n4 1\n",
+        errors: "",
+    },
+    Case {
+        words: &["search", "--bfile", "0", "0.77", "0.6"],
+        status: 2,
+        output: "",
+        errors: "census: Words\n",
+    },
+    Case {
+        words: &["search", "--bfile", "5", "0.77", "--at", "5"],
+        status: 2,
+        output: "",
+        errors: "census: Words\n",
+    },
+    Case {
+        words: &["search", "--bfile", "5", "0.77", "--json"],
+        status: 2,
+        output: "",
+        errors: "census: Words\n",
+    },
+    Case {
+        words: &["search", "0", "0.8"],
+        status: 2,
+        output: "",
+        errors: "census: Number\n",
+    },
+    Case {
+        words: &["search", "4294967297", "0.6"],
+        status: 2,
+        output: "",
+        errors: "census: Number\n",
+    },
+    Case {
+        words: &["search", "x", "0.6"],
+        status: 2,
+        output: "",
+        errors: "census: Number\n",
+    },
+    Case {
+        words: &["search", "1000", "0.77", "5.7", "0.8"],
+        status: 1,
+        output: "",
+        errors: "census: Code Head\n",
+    },
+    Case {
+        words: &["search", "9", "0.8", "--at", "18446744073709551616"],
+        status: 2,
+        output: "",
+        errors: "census: Number\n",
+    },
+    Case {
+        words: &["search", "1000"],
+        status: 2,
+        output: "",
+        errors: "error: ..",
+    },
 ];
 
 #[test]
 fn searches_name_periods(rt: HostRuntime) {
     for &case in SEARCHES {
-        End::of(&rt, case.0).is_right(&rt, case);
+        End::of(&rt, case.words).is_right(&rt, case);
     }
 }

@@ -11,7 +11,7 @@ use crate::texts::{
 };
 use metered::Metered;
 use oct_replica::Replica;
-use oct_sync::{MAX_READS, Progress, Role, Session, SyncError, converse, drive};
+use oct_sync::{MAX_READS, Role, Session, Stage, SyncError, converse, drive};
 use std::alloc::{Allocator, Global};
 use std::process::Abort;
 
@@ -226,10 +226,10 @@ fn session_of<A: Allocator + Copy>(
 }
 
 // The name of what a session answers.
-fn answer_name(answer: Result<Progress, SyncError>) -> Result<&'static str, SyncError> {
+fn answer_name(answer: Result<Stage, SyncError>) -> Result<&'static str, SyncError> {
     match answer {
-        Ok(Progress::More) => Ok("more"),
-        Ok(Progress::Done) => Ok("done"),
+        Ok(Stage::More) => Ok("more"),
+        Ok(Stage::Done) => Ok("done"),
         Err(fault) => Err(fault),
     }
 }
@@ -241,8 +241,8 @@ fn feed_pieces<A: Allocator + Copy>(
     bytes: &[u8],
     size: usize,
     out: &mut Vec<u8, A>,
-) -> Result<Progress, SyncError> {
-    let mut answer = Ok(Progress::More);
+) -> Result<Stage, SyncError> {
+    let mut answer = Ok(Stage::More);
     for piece in bytes.chunks(size.max(1)) {
         if answer.is_ok() {
             answer = session.feed(replica, piece, out);
@@ -347,35 +347,62 @@ fn sides_exchange_what_they_lack(rt: HostRuntime) {
     }
 }
 
-// Frames that their receiver refuses, as hexadecimal text, and with which fault.
-const FAULTY: &[(Role, &str, SyncError)] = &[
-    (Role::Server, "00000000", SyncError::Frame),
-    (Role::Server, "00100001 01", SyncError::Frame),
-    (Role::Server, "00000002 04", SyncError::Frame),
-    (Role::Server, "00000002 03", SyncError::Frame),
-    (Role::Server, "00000001 03", SyncError::Order),
+/// Frames that their receiver refuses, as hexadecimal text, and with which fault.
+#[derive(Clone, Copy)]
+struct Faulty {
+    role: Role,
+    text: &'static str,
+    fault: SyncError,
+}
+
+const FAULTY: &[Faulty] = &[
+    Faulty {
+        role: Role::Server,
+        text: "00000000",
+        fault: SyncError::Frame,
+    },
+    Faulty {
+        role: Role::Server,
+        text: "00100001 01",
+        fault: SyncError::Frame,
+    },
+    Faulty {
+        role: Role::Server,
+        text: "00000002 04",
+        fault: SyncError::Frame,
+    },
+    Faulty {
+        role: Role::Server,
+        text: "00000002 03",
+        fault: SyncError::Frame,
+    },
+    Faulty {
+        role: Role::Server,
+        text: "00000001 03",
+        fault: SyncError::Order,
+    },
     // A second clock, and a byte past the end.
-    (
-        Role::Client,
-        "00000005 01 00000000 00000005 01",
-        SyncError::Order,
-    ),
-    (
-        Role::Client,
-        "00000005 01 00000000 00000001 03 00000001 03 00",
-        SyncError::Order,
-    ),
+    Faulty {
+        role: Role::Client,
+        text: "00000005 01 00000000 00000005 01",
+        fault: SyncError::Order,
+    },
+    Faulty {
+        role: Role::Client,
+        text: "00000005 01 00000000 00000001 03 00000001 03 00",
+        fault: SyncError::Order,
+    },
     // The clock of author 0, and a delta of a third format.
-    (
-        Role::Server,
-        "0000000d 01 00000001 00000000 00000001",
-        SyncError::Clock,
-    ),
-    (
-        Role::Client,
-        "00000005 01 00000000 00000009 02 4f474433 00000000",
-        SyncError::Delta,
-    ),
+    Faulty {
+        role: Role::Server,
+        text: "0000000d 01 00000001 00000000 00000001",
+        fault: SyncError::Clock,
+    },
+    Faulty {
+        role: Role::Client,
+        text: "00000005 01 00000000 00000009 02 4f474433 00000000",
+        fault: SyncError::Delta,
+    },
 ];
 
 // The side refuses the bytes so, and what comes then as `Failed`.
@@ -403,7 +430,7 @@ fn refuses<A: Allocator + Copy>(
 #[test]
 fn faulty_frames_are_refused(rt: HostRuntime) {
     let heap = Metered::new(rt.alloc());
-    for &(role, text, fault) in FAULTY {
+    for &Faulty { role, text, fault } in FAULTY {
         refuses(&rt, &heap, &heap, &Side::of(&rt, role), text, fault);
     }
 }

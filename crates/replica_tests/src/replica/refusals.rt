@@ -231,41 +231,87 @@ enum Step<'a> {
 }
 
 /// The author of a replica, what it holds, the changes that it makes, and what it then prints.
-type Case<'a> = (u32, &'a [&'a str], &'a [Step<'a>], &'a str);
+#[derive(Clone, Copy)]
+struct Case<'a> {
+    author: u32,
+    held: &'a [&'a str],
+    made: &'a [Step<'a>],
+    shown: &'a str,
+}
 
 const CASES: &[Case<'static>] = &[
-    (1, &[], &[Step::Take(FIRST), Step::Take(NEXT)], BOTH_SHOWN),
-    (1, &[], &[Step::Take(NEXT), Step::Take(FIRST)], BOTH_SHOWN),
-    (
-        1,
-        &[],
-        &[Step::TakeList(NEXT), Step::TakeList(FIRST)],
-        BOTH_SHOWN,
-    ),
-    (
-        1,
-        &[],
-        &[Step::Take(FIRST), Step::Take(SECOND), Step::Take(THIRD)],
-        THREE_SHOWN,
-    ),
-    (1, &[], &[Step::Take(TURNS)], TURNS_SHOWN),
-    (
-        1,
-        &[],
-        &[Step::Take(REMOVAL), Step::Take(EARLY), Step::Take(LATER)],
-        LATER_SHOWN,
-    ),
-    (1, &[], &[Step::Take(UNTOLD)], UNTOLD_SHOWN),
-    (1, &[], &[Step::Make(Change::Join)], BOTH_SHOWN),
-    (1, &[FIRST], &[Step::Make(Change::Join)], BOTH_SHOWN),
-    (7, &[], &[Step::Make(Change::Compute)], COMPUTED),
-    (5, &[UNTOLD], &[Step::Make(Change::Issue)], ISSUED),
-    (
-        3,
-        &[EARLY, LATER, REMOVAL],
-        &[Step::Make(Change::Remove)],
-        REMOVED,
-    ),
+    Case {
+        author: 1,
+        held: &[],
+        made: &[Step::Take(FIRST), Step::Take(NEXT)],
+        shown: BOTH_SHOWN,
+    },
+    Case {
+        author: 1,
+        held: &[],
+        made: &[Step::Take(NEXT), Step::Take(FIRST)],
+        shown: BOTH_SHOWN,
+    },
+    Case {
+        author: 1,
+        held: &[],
+        made: &[Step::TakeList(NEXT), Step::TakeList(FIRST)],
+        shown: BOTH_SHOWN,
+    },
+    Case {
+        author: 1,
+        held: &[],
+        made: &[Step::Take(FIRST), Step::Take(SECOND), Step::Take(THIRD)],
+        shown: THREE_SHOWN,
+    },
+    Case {
+        author: 1,
+        held: &[],
+        made: &[Step::Take(TURNS)],
+        shown: TURNS_SHOWN,
+    },
+    Case {
+        author: 1,
+        held: &[],
+        made: &[Step::Take(REMOVAL), Step::Take(EARLY), Step::Take(LATER)],
+        shown: LATER_SHOWN,
+    },
+    Case {
+        author: 1,
+        held: &[],
+        made: &[Step::Take(UNTOLD)],
+        shown: UNTOLD_SHOWN,
+    },
+    Case {
+        author: 1,
+        held: &[],
+        made: &[Step::Make(Change::Join)],
+        shown: BOTH_SHOWN,
+    },
+    Case {
+        author: 1,
+        held: &[FIRST],
+        made: &[Step::Make(Change::Join)],
+        shown: BOTH_SHOWN,
+    },
+    Case {
+        author: 7,
+        held: &[],
+        made: &[Step::Make(Change::Compute)],
+        shown: COMPUTED,
+    },
+    Case {
+        author: 5,
+        held: &[UNTOLD],
+        made: &[Step::Make(Change::Issue)],
+        shown: ISSUED,
+    },
+    Case {
+        author: 3,
+        held: &[EARLY, LATER, REMOVAL],
+        made: &[Step::Make(Change::Remove)],
+        shown: REMOVED,
+    },
 ];
 
 // The step is made in spite of refusals.
@@ -311,7 +357,12 @@ fn makes<A: Allocator + Copy>(
     alloc: A,
     case: Case,
 ) {
-    let (author, held, made, wanted) = case;
+    let Case {
+        author,
+        held,
+        made,
+        shown,
+    } = case;
     let mut other = new_replica(rt, alloc, 1);
     takes(rt, &mut other, &[FIRST, NEXT], 1);
     let mut replica = new_replica(rt, alloc, author);
@@ -322,7 +373,7 @@ fn makes<A: Allocator + Copy>(
     for step in made {
         steps(rt, heap, alloc, &mut replica, *step, &other);
     }
-    prints_after_refusals(rt, heap, alloc, &replica, wanted);
+    prints_after_refusals(rt, heap, alloc, &replica, shown);
 }
 
 // That is so of the long block of Kayles with its claims.

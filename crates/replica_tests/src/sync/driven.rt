@@ -108,7 +108,11 @@ fn sink_of(side: &Side) -> Sink<'_> {
 }
 
 /// A source, a sink, and what a side is answered over them.
-type Case<'a> = (Source<'a>, Sink<'a>, Result<(), SyncError>);
+struct Case<'a> {
+    source: Source<'a>,
+    sink: Sink<'a>,
+    answer: Result<(), SyncError>,
+}
 
 // The case of this number: slow devices, reads and writes that fail or take no byte, and inputs that end early. A client
 // reads six heads and payloads and a server five, since an end has no payload; both write twice.
@@ -145,13 +149,21 @@ fn case_of(side: &Side, number: u32) -> Case<'_> {
             Err(SyncError::Cut)
         }
     };
-    (source, sink, answer)
+    Case {
+        source,
+        sink,
+        answer,
+    }
 }
 
 // The side is answered as it should be over the case, and all that it wrote was flushed before the next read. Where it is
 // done, it shows what it should and all is read and written.
 fn is_answered(rt: &(impl Abort + AllocGlobal), side: &Side, number: u32) {
-    let (mut source, mut sink, wanted) = case_of(side, number);
+    let Case {
+        mut source,
+        mut sink,
+        answer: wanted,
+    } = case_of(side, number);
     let (answer, replica) = drives(rt, side, &mut source, &mut sink);
     assert_eq!(rt; answer, wanted, "{} in case {number}", side.name);
     assert!(rt;

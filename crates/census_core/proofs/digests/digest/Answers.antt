@@ -1,8 +1,6 @@
-use Rattle.std.proofs.Common.{ap, ◌∙◌}
-use Rattle.std.proofs.lemmas.Result.{err_from_is_err_and}
-use Rattle.hex.specs.Hex.{encode_lower}
-use Rattle.census_core.specs.Digests.{digits_of}
-use Rattle.census_core.proofs.Digested.{digested, no_text, not_read}
+use Rattle.std.proofs.lemmas.Result.{IfErr-weaker, IfOk-weaker, err_from_is_err_and}
+use Rattle.std.specs.Prelude.{Ok, Err}
+use Rattle.census_core.proofs.Digested.{as_its_set, not_read}
 use Rattle.census_core.proofs.digests.digest.Goals as goal
 
 pub returns-in_err-held-clause-err : goal.returns-in_err-held-clause-err
@@ -10,11 +8,8 @@ returns-in_err-held-clause-err c =
     let p = err_from_is_err_and c.from_residual.result c.from_residual.ensures.1 in
     rw (p.1, p.2) (λ other. not_read c.args.file.now _ (c.in_err-held.ensures.err other))
 
-pub returns-in_err-text-clause-err : goal.returns-in_err-text-clause-err
-returns-in_err-text-clause-err c =
-    let p = err_from_is_err_and c.from_residual-in_err-text.result c.from_residual-in_err-text.ensures.1 in
-    rw (p.1, p.2) (λ other. no_text c.args.file.now c.in_ok-held.held.ops _ c.in_ok-held.ensures.ok (c.in_err-text.ensures.err other))
-
 pub returns-clause-ok : goal.returns-clause-ok
-returns-clause-ok c =
-    digested c.args.file.now c.in_ok-held.held.ops c.in_ok-text.text.items _ c.in_ok-held.ensures.ok c.in_ok-text.ensures.ok (ap (λ digits. digits.items) c.into_bytes.ensures.value ∙ c.in_ok-digits.ensures ∙ ap encode_lower c.digest.ensures ∙ ap digits_of c.as_slice.ensures.value)
+returns-clause-ok c = IfOk-weaker c.record_digest.result _ _ (λ digits done. as_its_set c.args.file.now c.in_ok-held.held.ops (Ok digits.items) c.in_ok-held.ensures.ok done) c.record_digest.ensures.ok
+
+pub returns-clause-err : goal.returns-clause-err
+returns-clause-err c = IfErr-weaker c.record_digest.result _ _ (λ e done other. as_its_set c.args.file.now c.in_ok-held.held.ops (Err e) c.in_ok-held.ensures.ok (done other)) c.record_digest.ensures.err

@@ -3,7 +3,7 @@ use Rattle.std.specs.Io.KnownBytes.{Appends}
 use Rattle.oct_delta.specs.Text.{Bytes}
 use Rattle.oct_ops.specs.Operations.{Operations, listed}
 use Rattle.oct_pages.specs.Catalogue.{catalogue}
-use Rattle.oct_sync.specs.Output.{AppendsPrefix}
+use Rattle.written.specs.Output.{AppendsPrefix}
 use Rattle.census_core.specs.Folded.{folded, taken}
 use Rattle.census_core.proofs.fold.fold_intake.Goals as goal
 

@@ -7,11 +7,11 @@ use Rattle.oct_search.specs.Found.{IsFound, IsLeastShown}
 use Rattle.oct_search.specs.Known.{Known}
 use Rattle.census_core.specs.SearchTexts.{search_text}
 use Rattle.census_core.specs.Searching.{IsSearched}
-use Rattle.census_core.specs.declared.search_text.SearchForm.{SearchForm}
+use Rattle.oct_views.specs.declared.overview.Form.{Form}
 use Rattle.census_core.proofs.searching.search.Goals as goal
 
 -- what is found among the nim-values, and the text that says so
-searched : (form : SearchForm) (c : Code) (count : ℕ) (heaps : List ℕ) (game : Known) (found : Option SeenPeriod) (text : Text) → game.code ≡ c → game.len ≤ count → (found ≡ None → game.len ≡ count)
+searched : (form : Form) (c : Code) (count : ℕ) (heaps : List ℕ) (game : Known) (found : Option SeenPeriod) (text : Text) → game.code ≡ c → game.len ≤ count → (found ≡ None → game.len ≡ count)
     → IsFound game.code game.len found → text ≡ search_text form game.code found game.len heaps → IsSearched form c count heaps text
 searched form c count heaps game None text same few all none says =
     inr (record {

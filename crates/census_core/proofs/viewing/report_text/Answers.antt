@@ -5,4 +5,4 @@ use Rattle.oct_views.specs.Sheet.{sheet}
 use Rattle.census_core.proofs.viewing.report_text.Goals as goal
 
 pub returns : goal.returns
-returns c = c.in_ok-write_report.ensures.ok ∙ ap (λ front. front ++ report (sheet (listed c.args.held.now.ops))) c.new-text.ensures.items
+returns c = c.in_ok-write_report.ensures.ok ∙ ap (λ front. front ++ report c.args.how (sheet (listed c.args.held.now.ops))) c.new-text.ensures.items

@@ -1,4 +1,4 @@
-use Rattle.std.proofs.Common.{◌≡◌, true, false, [], Result, Ok, Err, OnOk, OnErr, IsErrOf, sym, ◌∙◌, arith, refl}
+use Rattle.std.proofs.Common.{◌≡◌, true, false, [], Ok, Err, IsErrOf, sym, ◌∙◌, arith, refl}
 use Rattle.std.specs.Result.{is_err}
 use Rattle.oct_join.specs.Clock.{Clock}
 use Rattle.oct_join.specs.Entries.{Entries}
@@ -7,15 +7,8 @@ use Rattle.oct_delta.specs.Bytes.{IsBytes}
 use Rattle.oct_delta.specs.Text.{Bytes}
 use Rattle.oct_delta.specs.Clocks.{IsClockText, entries_at}
 use Rattle.oct_delta.proofs.ClockTexts.{no_clock, text_of_entries, clock_is_read, some_clock}
+use Rattle.oct_delta.proofs.Decoded.{on_err, on_ok}
 use Rattle.oct_delta.proofs.clock.decode_clock.Goals as goal
-
-on_err : {T E : Type 0} {P : Type 0} (r : Result T E) → is_err r ≡ true → OnErr r P → P
-on_err (Ok x) e h = absurd cc
-on_err (Err x) e h = h
-
-on_ok : {T E : Type 0} {P : Type 0} (r : Result T E) → is_err r ≡ false → OnOk r P → P
-on_ok (Ok x) e h = h
-on_ok (Err x) e h = absurd cc
 
 no_error : {T E : Type 0} (x : T) (e : E) → IsErrOf (Ok x) e → ⊥
 no_error x e h = cc

@@ -30,7 +30,7 @@ returns-in_ok-extend_from_slice-in-Reading-clause-failed g c = told_unfailed _ c
 
 pub returns-in_ok-extend_from_slice-in-Reading-clause-tells : goal.returns-in_ok-extend_from_slice-in-Reading-clause-tells
 returns-in_ok-extend_from_slice-in-Reading-clause-tells g c =
-    let p = c.in-Reading.progress in
+    let p = c.in-Reading.arrived in
     told _ c.args.state _ _ _ (ap fed c.in-Reading.is) (begun_more p.edition p.count p.ops.items _ _ _ c.in_ok-extend_from_slice-in-Reading.ensures.items) c.read_on.ensures
 
 pub returns-in-Failed-clause-failed : goal.returns-in-Failed-clause-failed

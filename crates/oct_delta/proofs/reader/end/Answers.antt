@@ -17,14 +17,14 @@ returns-else-len-lt4 g c =
 
 pub returns-then-len-count : goal.returns-then-len-count
 returns-then-len-count g c =
-    let lt : length c.in-Reading.progress.ops.items < c.in-Reading.progress.count = omega (arith, c.if-len-count.true, c.len-in-Reading.ensures, c.in-Reading.progress.ops.ok) in
-    let t = within_list c.args.state _ (ap fed c.in-Reading.is) (unfinished_here c.args.state c.in-Reading.progress c.in-Reading.is c.requires lt) in
+    let lt : length c.in-Reading.arrived.ops.items < c.in-Reading.arrived.count = omega (arith, c.if-len-count.true, c.len-in-Reading.ensures, c.in-Reading.arrived.ops.ok) in
+    let t = within_list c.args.state _ (ap fed c.in-Reading.is) (unfinished_here c.args.state c.in-Reading.arrived c.in-Reading.is c.requires lt) in
     record { ok = t.ok; version = t.version; refused = t.refused; failed = t.failed; memory = t.memory }
 
 pub returns-else-len-count : goal.returns-else-len-count
 returns-else-len-count g c =
-    let le : c.in-Reading.progress.count ≤ length c.in-Reading.progress.ops.items = omega (arith, c.if-len-count.false, c.len-in-Reading.ensures, c.in-Reading.progress.ops.ok) in
-    let t = after_list c.args.state _ c.of_rising.result (ap fed c.in-Reading.is) (finished_here c.args.state c.in-Reading.progress c.of_rising.result c.in-Reading.is c.requires le c.of_rising.ensures) in
+    let le : c.in-Reading.arrived.count ≤ length c.in-Reading.arrived.ops.items = omega (arith, c.if-len-count.false, c.len-in-Reading.ensures, c.in-Reading.arrived.ops.ok) in
+    let t = after_list c.args.state _ c.of_rising.result (ap fed c.in-Reading.is) (finished_here c.args.state c.in-Reading.arrived c.of_rising.result c.in-Reading.is c.requires le c.of_rising.ensures) in
     record { ok = t.ok; version = t.version; refused = t.refused; failed = t.failed; memory = t.memory }
 
 pub returns-in-Failed : goal.returns-in-Failed

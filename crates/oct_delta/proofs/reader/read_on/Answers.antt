@@ -9,7 +9,7 @@ use Rattle.oct_delta.proofs.reader.read_on.Goals.{else-len-count-via-then-len-co
 
 pub returns-in-Err-Fault : goal.returns-in-Err-Fault
 returns-in-Err-Fault g c =
-    let p = c.args.progress in
+    let p = c.args.arrived in
     let read = λ (limit : ℕ). with_front p.ops.items (whole_at limit (last_of p.ops.items) (p.count - length p.ops.items) c.new-input.result) in (
       has_tag p.edition _,
       reads_on_refused p.edition p.count p.ops.items p.rest.items c.new-input.result c.in-Err-Fault.field-0-0 c.requires (c.new-input.ensures.value ∙ c.deref.ensures.value) c.new-input.ensures.bytes
@@ -18,7 +18,7 @@ returns-in-Err-Fault g c =
 
 pub returns-then-not-is_empty : goal.returns-then-not-is_empty
 returns-then-not-is_empty g c =
-    let p = c.args.progress in
+    let p = c.args.arrived in
     let read = λ (limit : ℕ). with_front p.ops.items (whole_at limit (last_of p.ops.items) (p.count - length p.ops.items) c.new-input.result) in
     let full : length c.whole_ops.new.ops.items ≡ p.count = omega (arith, c.len.ensures, c.if-len-count.true, c.whole_ops.new.ops.ok) in (
       has_tag p.edition _,
@@ -28,7 +28,7 @@ returns-then-not-is_empty g c =
 
 pub overflow_sub-taken : goal.overflow_sub-taken
 overflow_sub-taken g c =
-    let p = c.args.progress in
+    let p = c.args.arrived in
     let read = λ (limit : ℕ). with_front p.ops.items (whole_at limit (last_of p.ops.items) (p.count - length p.ops.items) c.new-input.result) in
     let left = left_at_end p.edition p.count p.ops.items p.rest.items c.new-input.result c.whole_ops.new.ops.items c.whole_ops.new.self (c.new-input.ensures.value ∙ c.deref.ensures.value) c.new-input.ensures.bytes (sym (ap read c.limit.ensures.value) ∙ c.in-Ok.ensures) in
     let within : length c.rest.result.now ≤ length p.rest.items = left_within left.0 c.whole_ops.new.self p.rest.items c.rest.result.now left.1 c.rest.ensures.rest in
@@ -36,7 +36,7 @@ overflow_sub-taken g c =
 
 pub returns : goal.returns
 returns g c =
-    let p = c.args.progress in
+    let p = c.args.arrived in
     let read = λ (limit : ℕ). with_front p.ops.items (whole_at limit (last_of p.ops.items) (p.count - length p.ops.items) c.new-input.result) in
     let same = sym (ap read c.limit.ensures.value) ∙ c.in-Ok.ensures in
     let left = left_at_end p.edition p.count p.ops.items p.rest.items c.new-input.result c.whole_ops.new.ops.items c.whole_ops.new.self (c.new-input.ensures.value ∙ c.deref.ensures.value) c.new-input.ensures.bytes same in

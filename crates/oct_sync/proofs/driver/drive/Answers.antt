@@ -1,7 +1,7 @@
 use Rattle.std.proofs.Common.{subst}
 use Rattle.std.specs.Io.KnownBytes.{Appends}
 use Rattle.std.proofs.lemmas.Result.{err_from_is_err_and}
-use Rattle.oct_sync.specs.Output.{AppendsPrefix}
+use Rattle.written.specs.Output.{AppendsPrefix}
 use Rattle.oct_sync.proofs.Running.{completed, Breaks-at_last}
 use Rattle.oct_sync.proofs.driver.drive.Goals as goal
 

@@ -12,12 +12,12 @@ use Rattle.oct_views.specs.declared.points.Point.{Point}
 use Rattle.oct_views.proofs.laws.a_plot_shows_what_is_known.Goals as goal
 
 point_cmp_total : IsTotalOrder point_cmp
-point_cmp_total = then_total (on_total (λ p. p.column) nat_cmp_total) (on_total (λ p. p.row) nat_cmp_total)
+point_cmp_total = then_total (on_total (λ p. p.row) nat_cmp_total) (on_total (λ p. p.column) nat_cmp_total)
 
 point_cmp_exact : IsAntisymmetric point_cmp
 point_cmp_exact p q tie =
-    let parts = both_tie (nat_cmp p.column q.column) _ tie in
-    λ i. record { column = nat_cmp-IsAntisymmetric p.column q.column parts.0 i; row = nat_cmp-IsAntisymmetric p.row q.row parts.1 i }
+    let parts = both_tie (nat_cmp p.row q.row) _ tie in
+    λ i. record { row = nat_cmp-IsAntisymmetric p.row q.row parts.0 i; column = nat_cmp-IsAntisymmetric p.column q.column parts.1 i }
 
 -- the points of the heaps, not yet in order
 abbrev fallen : List ℕ → List Point

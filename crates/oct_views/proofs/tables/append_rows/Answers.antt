@@ -3,7 +3,7 @@ use Rattle.oct_views.proofs.tables.append_rows.Goals as goal
 
 pub loop-row-preserved : goal.loop-row-preserved
 loop-row-preserved g c =
-    grown_each g.S.Rows.text c.args.rows.now c.loop-row.row-index _ c.row-item.result c.args.out.now.items c.loop-row.out.items c.append_row.new.out.items
+    grown_each (g.S.Rows.text c.args.way.now) c.args.rows.now c.loop-row.row-index _ c.row-item.result c.args.out.now.items c.loop-row.out.items c.append_row.new.out.items
     c.loop-row-test.true c.row-item.is c.loop-row.invariant c.in_ok-append_row.ensures.ok
 
 pub returns-in_err-append_row-clause-grown : goal.returns-in_err-append_row-clause-grown

@@ -1,0 +1,57 @@
+-- What is told of a game or a position as one line of JSON.
+use Rattle.std.specs.Prelude.{ℕ, ◌==◌, ◌++◌, [], codes, Option, Some, None, if◌then◌else◌}
+use Rattle.oct_code.specs.Code.{Code}
+use Rattle.oct_code.specs.CodeText.{code_text}
+use Rattle.oct_ops.specs.Operation.{Period}
+use Rattle.oct_pages.specs.Catalogue.{Text, labelled}
+use Rattle.oct_period.specs.Periods.{needs}
+use Rattle.oct_period.specs.declared.moving.Move.{Move}
+use Rattle.oct_period.specs.declared.winner.Outcome.{Outcome}
+use Rattle.oct_period.specs.declared.winner.Outcome.TheVariants.{NextLoses, NextWins, Unknown}
+
+-- the beginning of an object, up to the end of the code
+abbrev pub code_member : Code → Text
+code_member c = codes "{\"code\":\"" ++ code_text c
+
+-- the end of the code, and the period, the heap from which on it holds, and how many nim-values prove it; null where none is found
+abbrev pub period_members : Option Period → Text
+period_members (Some p) = labelled (codes "\",\"period\":") p.period ++ labelled (codes ",\"from\":") p.start ++ labelled (codes ",\"needs\":") (needs p)
+period_members None = codes "\",\"period\":null"
+
+-- how many nim-values are known, and the end of the object
+abbrev pub known_member : ℕ → Text
+known_member known = labelled (codes ",\"known\":") known ++ codes "}\n"
+
+-- the period that is found of a game, and how many of its nim-values are known
+abbrev pub found_object : Code → Option Period → ℕ → Text
+found_object c found known = code_member c ++ period_members found ++ known_member known
+
+abbrev pub outcome_member : Outcome → Text
+outcome_member NextWins = codes ",\"next_player\":\"wins\""
+outcome_member NextLoses = codes ",\"next_player\":\"loses\""
+outcome_member (Unknown index) = []
+
+-- the value of a position, and who wins it
+abbrev pub value_object : ℕ → Outcome → Text
+value_object value outcome = labelled (codes "{\"value\":") value ++ outcome_member outcome ++ codes "}\n"
+
+-- the place of the first heap whose nim-value is not known
+abbrev pub unknown_object : ℕ → Text
+unknown_object index = labelled (codes "{\"unknown\":") index ++ codes "}\n"
+
+-- the heaps that are left: none, one, or two, the smaller one first
+abbrev pub left_member : ℕ → ℕ → Text
+left_member less more =
+    if more == 0 then codes ",\"leave\":["
+    else (if less == 0 then labelled (codes ",\"leave\":[") more
+    else labelled (codes ",\"leave\":[") less ++ labelled (codes ",") more)
+
+-- a move in a heap of so many beans
+abbrev pub move_object : Move → ℕ → Text
+move_object m beans =
+    labelled (codes "{\"heap\":") m.index ++ labelled (codes ",\"of\":") beans ++ labelled (codes ",\"remove\":") m.removed
+    ++ left_member m.left.0 m.left.1 ++ codes "]}\n"
+
+-- no move wins
+abbrev pub lost_object : Text
+lost_object = codes "{\"heap\":null,\"next_player\":\"loses\"}\n"

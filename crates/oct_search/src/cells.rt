@@ -1,0 +1,166 @@
+//! The nim-values of a game in cells of 8 bits until one exceeds 255, and then of 16.
+
+ghost use Rattle.std.specs.Prelude.{◌≡◌, ◌+◌, ◌^◌, ◌<◌, ◌≤◌, if◌then◌else◌, false, vec_len, IfErr, IfOk, OnErr, OnOk};
+ghost use Rattle.oct_code.specs.Code as octal;
+ghost use Rattle.oct_mex.specs.NimValues.{nim_value};
+ghost use Rattle.oct_mex.specs.Row.{IsRow};
+ghost use Rattle.oct_search.specs.Cells.{IsKnown, bound_of, len_of};
+ghost use Rattle.oct_search.specs.Found.{IsFound};
+ghost use Rattle.oct_search.specs.declared.error.SearchError.TheVariants.{PastValue};
+
+use crate::error::SearchError;
+use crate::search::MOST;
+use oct_code::Code;
+use oct_mex::{Cell, Rare, Row, SeenPeriod, expected_need, find_shown};
+use std::alloc::{AllocError, Allocator};
+
+// The room for values grows by one in so many, and some more.
+const SHARE: usize = 16;
+
+const SPARE: usize = 1_024;
+
+/// The nim-values of the heaps 0, 1, .. of a game.
+#[derive(Drop)]
+pub(crate) enum Cells<A: Allocator> {
+    Narrow(Row<u8, A>),
+    Wide(Row<u16, A>),
+}
+
+impl<A: Allocator + Copy> Cells<A> {
+    /// No value. Takes no memory.
+    pub(crate) fn new(alloc: A) -> Cells<A>
+        ensures known { (c : octal.Code) → IsKnown c result }
+        ensures len { len_of result ≡ 0 }
+    {
+        Cells::Narrow(Row::new(alloc))
+    }
+
+    /// How many values there are.
+    pub(crate) fn len(&self) -> usize
+        ensures { result ≡ len_of self.now }
+    {
+        match self {
+            Cells::Narrow(row) => row.values.len(),
+            Cells::Wide(row) => row.values.len(),
+        }
+    }
+
+    /// The value of a heap.
+    pub(crate) fn value(&self, heap: usize) -> u16
+        requires { heap < len_of self.now }
+        ensures { (c : octal.Code) → IsKnown c self.now → result ≡ nim_value c heap }
+    {
+        match self {
+            Cells::Narrow(row) => u16::from(row.values[heap]),
+            Cells::Wide(row) => row.values[heap],
+        }
+    }
+
+    /// The least period that the values show, if they show one.
+    pub(crate) fn find_period(&self, code: &Code) -> Option<SeenPeriod>
+        requires { IsKnown code.now self.now }
+        ensures { IsFound code.now (len_of self.now) result }
+    {
+        match self {
+            Cells::Narrow(row) => find_shown(code, &row.values),
+            Cells::Wide(row) => find_shown(code, &row.values),
+        }
+    }
+
+    /// How many values are expected to show a period, or 0.
+    pub(crate) fn expected_need(&self, code: &Code) -> usize
+        requires { len_of self.now ≤ MOST }
+    {
+        match self {
+            Cells::Narrow(row) => expected_need(code, &row.values),
+            Cells::Wide(row) => expected_need(code, &row.values),
+        }
+    }
+
+    /// Adds the next value. Without memory, or where it is above 65,535, the values stay.
+    pub(crate) fn push_next(
+        &mut self,
+        alloc: A,
+        code: &Code,
+        marks: &mut Vec<bool, A>,
+    ) -> Result<(), SearchError>
+        requires known { IsKnown code.now self.old }
+        requires limited { len_of self.old < MOST }
+        ensures known { IsKnown code.now self.new }
+        ensures ok { OnOk result (len_of self.new ≡ len_of self.old + 1) }
+        ensures err { OnErr result (len_of self.new ≡ len_of self.old) }
+        ensures past { IfErr result (λ fault. fault ≡ PastValue → 2 ^ 16 ≤ nim_value code.now (len_of self.old)) }
+    {
+        if self.push_fitting(code, marks)? {
+            return Ok(());
+        }
+        if let Cells::Narrow(row) = self {
+            let wide = widened(alloc, row)?;
+            *self = Cells::Wide(wide);
+            if self.push_fitting(code, marks)? {
+                return Ok(());
+            }
+        }
+        Err(SearchError::PastValue)
+    }
+
+    // Adds the next value, and says whether its cell holds it: else the values stay.
+    fn push_fitting(&mut self, code: &Code, marks: &mut Vec<bool, A>) -> Result<bool, AllocError>
+        requires known { IsKnown code.now self.old }
+        requires limited { len_of self.old < MOST }
+        ensures known { IsKnown code.now self.new }
+        ensures len { IfOk result (λ fits. len_of self.new ≡ (if fits then len_of self.old + 1 else len_of self.old)) }
+        ensures err { OnErr result (len_of self.new ≡ len_of self.old) }
+        ensures past { IfOk result (λ fits. fits ≡ false → bound_of self.old ≤ nim_value code.now (len_of self.old)) }
+        ensures bound { bound_of self.new ≡ bound_of self.old }
+    {
+        match self {
+            Cells::Narrow(row) => push_in(row, code, marks),
+            Cells::Wide(row) => push_in(row, code, marks),
+        }
+    }
+}
+
+// Adds the next value, and says whether its cell holds it: else the values stay.
+fn push_in<T: Cell, A: Allocator + Copy>(
+    row: &mut Row<T, A>,
+    code: &Code,
+    marks: &mut Vec<bool, A>,
+) -> Result<bool, AllocError>
+    requires row { IsRow T.number code.now row.old }
+    requires limited { vec_len row.old.values < MOST }
+    ensures row { IsRow T.number code.now row.new }
+    ensures len { IfOk result (λ fits. vec_len row.new.values ≡ (if fits then vec_len row.old.values + 1 else vec_len row.old.values)) }
+    ensures err { OnErr result (vec_len row.new.values ≡ vec_len row.old.values) }
+    ensures past { IfOk result (λ fits. fits ≡ false → T.bound ≤ nim_value code.now (vec_len row.old.values)) }
+{
+    let len = row.values.len();
+    if len == row.values.capacity() {
+        row.room_to(MOST.min(len + len / SHARE + SPARE))?;
+    }
+    if marks.len() < row.used {
+        marks.resize(row.used, false)?;
+    }
+    Ok(row.push_next(code, marks))
+}
+
+// The same values in wider cells.
+fn widened<A: Allocator + Copy>(alloc: A, row: &Row<u8, A>) -> Result<Row<u16, A>, AllocError>
+    requires { vec_len row.now.values < MOST }
+    ensures row { IfOk result (λ wide. (c : octal.Code) → IsRow (λ x. x) c row.now → IsRow (λ x. x) c wide) }
+    ensures len { IfOk result (λ wide. vec_len wide.values ≡ vec_len row.now.values) }
+{
+    let len = row.values.len();
+    let room = MOST.min(len + len / SHARE + SPARE);
+    let mut values = Vec::with_capacity(alloc, room)?;
+    for value in row.values.as_slice() {
+        values.push_reserved(u16::from(*value));
+    }
+    let mut wide = Row {
+        values,
+        used: row.used,
+        rare: Rare::new(alloc),
+    };
+    wide.room_to(room)?;
+    Ok(wide)
+}

@@ -1,0 +1,7 @@
+use Rattle.oct_views.proofs.Joined.{joined_five}
+use Rattle.oct_views.proofs.game_tables.append_game_tables.Goals as goal
+
+pub returns-clause-ok : goal.returns-clause-ok
+returns-clause-ok g c =
+    joined_five c.append_table-2.result _ _ _ _ _ _ _ _ _ _ _
+    c.in_ok-append_told.ensures.ok c.in_ok-append_values_tables.ensures.ok c.in_ok-append_refuted.ensures.ok (rw c.deref.ensures.value at c.in_ok-append_table.ensures.ok) (rw c.deref-2.ensures.value at c.append_table-2.ensures.ok)

@@ -1,0 +1,112 @@
+//! What the one page and the site have in common: a page begins and ends, and shows all games and what belongs to none.
+#![tactic(auto, using(oct_pages::proofs::Growing::extends_trans))]
+
+ghost use Rattle.std.specs.Prelude.{◌≡◌, ◌++◌, IfOk, OnOk};
+ghost use Rattle.oct_ops.specs.Operations.{listed};
+ghost use Rattle.oct_pages.specs.Growth.{Extends};
+ghost use Rattle.oct_views.specs.Report.{page_end, page_head, records_part, style_inside};
+ghost use Rattle.oct_views.specs.Sheet.{sheet};
+
+use crate::names::{naming_among, with_names};
+use crate::pieces::Piece::Text;
+use crate::pieces::append_pieces;
+use crate::records::{Authors, Forks, Notes};
+use crate::styles::{PAGE_STYLE, PLOT_STYLE};
+use crate::tables::append_table;
+use oct_record::Record;
+use std::alloc::{AllocError, Allocator};
+
+/// What stands before the title of a page.
+pub(crate) const HEAD_BEGIN: &[u8] =
+    b"<!DOCTYPE html>\n<html xmlns=\"http://www.w3.org/1999/xhtml\" lang=\"en\">\n<head>\n<meta charset=\"utf-8\"/>\n<meta name=\"viewport\" content=\"width=device-width, initial-scale=1\"/>\n<title>";
+
+/// What stands below the picture of a game.
+pub(crate) const FIGURE_END: &[u8] =
+    b"<figcaption>Each point is the nim-value of a heap. Where a period is proved, its first two runs are shaded.</figcaption>\n</figure>\n";
+
+/// A link to the style sheet of a site.
+pub(crate) const STYLE_LINK: &[u8] = b"<link rel=\"stylesheet\" href=\"style.css\"/>";
+
+/// Appends what stands before the tables of a page of all games, with its style inside or with that of a site.
+pub(crate) fn append_head<A: Allocator>(
+    out: &mut Vec<u8, A>,
+    style: &[u8],
+) -> Result<(), AllocError>
+    ensures ok { OnOk result (out.new.items ≡ out.old.items ++ page_head style.now) }
+    ensures grown { Extends out.old.items out.new.items }
+{
+    append_pieces(
+        out,
+        &[
+            Text(HEAD_BEGIN),
+            Text(b"Census of nim-sequences</title>\n"),
+            Text(style),
+            Text(
+                b"\n</head>\n<body>\n<header>\n<h1>Census of nim-sequences</h1>\n</header>\n<nav><a href=\"#games\">Games</a> <a href=\"#periods\">Periods</a> <a href=\"#records\">Notes and authors</a></nav>\n<main>\n<div id=\"games\">\n",
+            ),
+        ],
+    )
+}
+
+/// The style of a page that has it inside.
+pub(crate) fn style_inside<A: Allocator>(alloc: A) -> Result<Vec<u8, A>, AllocError>
+    ensures { IfOk result (λ style. style.items ≡ style_inside) }
+{
+    let mut style = Vec::new(alloc);
+    append_pieces(
+        &mut style,
+        &[
+            Text(b"<style>"),
+            Text(PAGE_STYLE),
+            Text(PLOT_STYLE),
+            Text(b"</style>"),
+        ],
+    )?;
+    Ok(style)
+}
+
+/// Appends the tables of notes, forks and authors.
+pub(crate) fn append_records<A: Allocator + Copy>(
+    out: &mut Vec<u8, A>,
+    said: &Record<A>,
+) -> Result<(), AllocError>
+    ensures ok { OnOk result (out.new.items ≡ out.old.items ++ records_part (sheet (listed said.now.ops))) }
+    ensures grown { Extends out.old.items out.new.items }
+{
+    append_pieces(out, &[Text(b"</div>\n<div id=\"records\">\n")])?;
+    let notes = said.notes().live_refs()?;
+    let names = naming_among(said.allocator(), &notes)?;
+    append_table(
+        out,
+        &Notes(&names),
+        b"Notes",
+        &[b"name", b"note", b"text"],
+        &notes,
+    )?;
+    let forks = said.store().forks()?;
+    append_table(
+        out,
+        &Forks(&names),
+        b"Forks",
+        &[b"dot", b"contents"],
+        &forks,
+    )?;
+    let authors = said.store().authors()?;
+    let authors = with_names(said.allocator(), &notes, &authors)?;
+    append_table(
+        out,
+        &Authors,
+        b"Authors",
+        &[b"author", b"name", b"through", b"last"],
+        &authors,
+    )?;
+    append_pieces(out, &[Text(b"</div>\n")])
+}
+
+/// Appends the end of a page.
+pub(crate) fn append_page_end<A: Allocator>(out: &mut Vec<u8, A>) -> Result<(), AllocError>
+    ensures ok { OnOk result (out.new.items ≡ out.old.items ++ page_end) }
+    ensures grown { Extends out.old.items out.new.items }
+{
+    append_pieces(out, &[Text(b"</main>\n</body>\n</html>\n")])
+}

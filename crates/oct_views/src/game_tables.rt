@@ -1,0 +1,102 @@
+//! What a page shows of one game, below its picture.
+#![tactic(auto, using(oct_pages::proofs::Growing::extends_trans))]
+
+ghost use Rattle.std.specs.Prelude.{◌≡◌, ◌++◌, OnOk, map};
+ghost use Rattle.oct_pages.specs.Growth.{Extends};
+ghost use Rattle.oct_pages.specs.Contents.{game_content};
+ghost use Rattle.oct_views.specs.Game.{game_tables, refuted_head, refuted_part, told};
+
+use crate::blocks_tables::{Blocks, Refutations};
+use crate::periods_table::{Broken, Periods};
+use crate::pieces::Piece::{Code as CodeText, Text};
+use crate::pieces::append_pieces;
+use crate::sentence::append_sentence;
+use crate::shown::Shown;
+use crate::tables::append_table;
+use crate::values_table::append_values_tables;
+use oct_code::Code;
+use oct_ops::{Op, Period};
+use oct_pages::GameSheet;
+use std::alloc::{AllocError, Allocator};
+
+/// Appends what is proved of all heaps, the values, what is refuted, the blocks and the claims, with the names of authors
+/// by these notes.
+pub(crate) fn append_game_tables<A: Allocator + Copy, B: Allocator + Copy>(
+    out: &mut Vec<u8, A>,
+    names: &[&Op<B>],
+    how: Shown,
+    game: &GameSheet<'_, B>,
+) -> Result<(), AllocError>
+    ensures ok { OnOk result (out.new.items ≡ out.old.items ++ game_tables (map (λ op. op.now) names.now) how (game_content game.now)) }
+    ensures grown { Extends out.old.items out.new.items }
+{
+    append_told(out, game.values, &game.proved)?;
+    append_values_tables(out, how, game.values, &game.proved)?;
+    append_refuted(out, names, game)?;
+    append_table(
+        out,
+        &Blocks(names),
+        b"Blocks",
+        &[b"block", b"first heap", b"values", b"status"],
+        &game.blocks,
+    )?;
+    append_table(
+        out,
+        &Periods(names),
+        b"Period claims",
+        &[b"claim", b"start", b"period", b"status"],
+        &game.periods,
+    )
+}
+
+// Appends what is proved of all heaps.
+fn append_told<A: Allocator>(
+    out: &mut Vec<u8, A>,
+    values: &[u32],
+    proved: &Option<Period>,
+) -> Result<(), AllocError>
+    ensures ok { OnOk result (out.new.items ≡ out.old.items ++ told values.now proved.now) }
+    ensures grown { Extends out.old.items out.new.items }
+{
+    append_pieces(out, &[Text(b"<p>")])?;
+    append_sentence(out, values, proved)?;
+    append_pieces(out, &[Text(b"</p>\n")])
+}
+
+// Appends the tables of what is refuted, in a place that a table of games links to.
+fn append_refuted<A: Allocator + Copy, B: Allocator + Copy>(
+    out: &mut Vec<u8, A>,
+    names: &[&Op<B>],
+    game: &GameSheet<'_, B>,
+) -> Result<(), AllocError>
+    ensures ok { OnOk result (out.new.items ≡ out.old.items ++ refuted_part (map (λ op. op.now) names.now) (game_content game.now)) }
+    ensures grown { Extends out.old.items out.new.items }
+{
+    append_refuted_head(out, &game.code)?;
+    append_table(
+        out,
+        &Refutations(names),
+        b"Refuted blocks",
+        &[b"block", b"heap", b"claimed value", b"true value"],
+        &game.blocks,
+    )?;
+    append_table(
+        out,
+        &Broken(names),
+        b"Refuted period claims",
+        &[b"claim", b"start", b"period", b"status"],
+        &game.periods,
+    )?;
+    append_pieces(out, &[Text(b"</div>\n")])
+}
+
+// Appends the beginning of that place.
+fn append_refuted_head<A: Allocator>(out: &mut Vec<u8, A>, code: &Code) -> Result<(), AllocError>
+    ensures ok { OnOk result (out.new.items ≡ out.old.items ++ refuted_head code.now) }
+    ensures grown { Extends out.old.items out.new.items }
+{
+    append_pieces(
+        out,
+        &[Text(b"<div id=\"refuted-"), CodeText(*code), Text(b"\">\n")],
+    )
+}

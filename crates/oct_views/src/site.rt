@@ -1,0 +1,175 @@
+//! The files of a site: a page for each game, and one of all games.
+#![tactic(auto, using(oct_pages::proofs::Growing::extends_trans))]
+
+ghost use Rattle.std.specs.Prelude.{◌≡◌, ◌++◌, OnErr, OnOk, codes, map};
+ghost use Rattle.oct_ops.specs.Operations.{listed};
+ghost use Rattle.oct_pages.specs.Contents.{game_content};
+ghost use Rattle.oct_pages.specs.Growth.{Extends};
+ghost use Rattle.oct_views.specs.Report.{game_head, game_page, image, image_head, index_by, style_sheet};
+ghost use Rattle.oct_views.specs.Sheet.{sheet};
+
+use crate::common::{
+    FIGURE_END, HEAD_BEGIN, STYLE_LINK, append_head, append_page_end, append_records,
+};
+use crate::game_tables::append_game_tables;
+use crate::index::{Links, append_games};
+use crate::pieces::Piece::{Code as CodeText, Number, Text};
+use crate::pieces::append_pieces;
+use crate::plot::title_of;
+use crate::sentence::append_sentence;
+use crate::shown::Shown;
+use crate::styles::PAGE_STYLE;
+use crate::summary::Summary;
+use oct_code::Code;
+use oct_ops::{Op, Period};
+use oct_pages::GameSheet;
+use oct_record::Record;
+use std::alloc::{AllocError, Allocator};
+
+/// Appends the page of a game, a file of a site beside `index.html`, `style.css`, and the game's picture, b-file and JSON,
+/// which have the code for their names: what is proved of all heaps, its values in short, its blocks and its claims. Authors
+/// are called by these notes. The one error is that memory is refused, and then `out` stays as it is.
+pub fn write_game_page<A: Allocator + Copy, B: Allocator + Copy>(
+    names: &[&Op<B>],
+    game: &GameSheet<'_, B>,
+    out: &mut Vec<u8, A>,
+) -> Result<(), AllocError>
+    ensures ok { OnOk result (out.new.items ≡ out.old.items ++ game_page (map (λ op. op.now) names.now) (game_content game.now)) }
+    ensures err { OnErr result (out.new.items ≡ out.old.items) }
+{
+    let before = out.len();
+    let written = append_game_page(out, names, game);
+    if written.is_err() {
+        out.truncate(before);
+    }
+    written
+}
+
+/// Appends the page of all games of these summaries, and of the notes, forks and authors of a record, with links to the
+/// pages of the games. The one error is that memory is refused, and then `out` stays as it is.
+pub fn write_index<A: Allocator + Copy>(
+    said: &Record<A>,
+    rows: &[Summary],
+    out: &mut Vec<u8, A>,
+) -> Result<(), AllocError>
+    ensures ok { OnOk result (out.new.items ≡ out.old.items ++ index_by rows.now (sheet (listed said.now.ops))) }
+    ensures err { OnErr result (out.new.items ≡ out.old.items) }
+{
+    let before = out.len();
+    let written = append_index(out, said, rows);
+    if written.is_err() {
+        out.truncate(before);
+    }
+    written
+}
+
+/// Appends the style sheet of a site. The one error is that memory is refused, and then `out` stays as it is.
+pub fn write_style<A: Allocator>(out: &mut Vec<u8, A>) -> Result<(), AllocError>
+    ensures ok { OnOk result (out.new.items ≡ out.old.items ++ style_sheet) }
+    ensures err { OnErr result (out.new.items ≡ out.old.items) }
+{
+    let before = out.len();
+    let written = append_pieces(out, &[Text(PAGE_STYLE), Text(b"\n")]);
+    if written.is_err() {
+        out.truncate(before);
+    }
+    written
+}
+
+// Appends the page of a game.
+fn append_game_page<A: Allocator + Copy, B: Allocator + Copy>(
+    out: &mut Vec<u8, A>,
+    names: &[&Op<B>],
+    game: &GameSheet<'_, B>,
+) -> Result<(), AllocError>
+    ensures ok { OnOk result (out.new.items ≡ out.old.items ++ game_page (map (λ op. op.now) names.now) (game_content game.now)) }
+    ensures grown { Extends out.old.items out.new.items }
+{
+    append_game_head(out, &game.code, game.values.len())?;
+    append_image(out, &game.code, game.values, &game.proved)?;
+    append_game_tables(out, names, Shown::Brief, game)?;
+    append_page_end(out)
+}
+
+// Appends what stands before the picture.
+fn append_game_head<A: Allocator>(
+    out: &mut Vec<u8, A>,
+    code: &Code,
+    known: usize,
+) -> Result<(), AllocError>
+    ensures ok { OnOk result (out.new.items ≡ out.old.items ++ game_head code.now known) }
+    ensures grown { Extends out.old.items out.new.items }
+{
+    append_pieces(
+        out,
+        &[
+            Text(HEAD_BEGIN),
+            CodeText(*code),
+            Text(b": census of nim-sequences</title>\n"),
+            Text(STYLE_LINK),
+            Text(
+                b"\n</head>\n<body>\n<nav><a href=\"index.html\">All games</a></nav>\n<main>\n<h1>",
+            ),
+            CodeText(*code),
+            Text(b"</h1>\n<p>"),
+            Number(known as u64),
+            Text(b" values known: all of them as a <a href=\""),
+            CodeText(*code),
+            Text(b".txt\">b-file</a> and as <a href=\""),
+            CodeText(*code),
+            Text(b".json\">JSON</a></p>\n"),
+        ],
+    )
+}
+
+// Appends the picture, which is a file of its own, and what it shows in words.
+fn append_image<A: Allocator + Copy>(
+    out: &mut Vec<u8, A>,
+    code: &Code,
+    values: &[u32],
+    proved: &Option<Period>,
+) -> Result<(), AllocError>
+    ensures ok { OnOk result (out.new.items ≡ out.old.items ++ image code.now values.now proved.now) }
+    ensures grown { Extends out.old.items out.new.items }
+{
+    let title = title_of(*out.allocator(), code, values.len(), proved)?;
+    append_image_head(out, code, &title)?;
+    append_sentence(out, values, proved)?;
+    append_pieces(out, &[Text(b"\"/>\n"), Text(FIGURE_END)])
+}
+
+// Appends what stands before those words.
+fn append_image_head<A: Allocator>(
+    out: &mut Vec<u8, A>,
+    code: &Code,
+    title: &[u8],
+) -> Result<(), AllocError>
+    ensures ok { OnOk result (out.new.items ≡ out.old.items ++ image_head code.now title.now) }
+    ensures grown { Extends out.old.items out.new.items }
+{
+    append_pieces(
+        out,
+        &[
+            Text(b"<figure>\n<img width=\"840\" height=\"430\" src=\""),
+            CodeText(*code),
+            Text(b".svg\" alt=\""),
+            Text(title),
+            Text(b". "),
+        ],
+    )
+}
+
+// Appends the page of all games.
+fn append_index<A: Allocator + Copy>(
+    out: &mut Vec<u8, A>,
+    said: &Record<A>,
+    rows: &[Summary],
+) -> Result<(), AllocError>
+    ensures ok { OnOk result (out.new.items ≡ out.old.items ++ index_by rows.now (sheet (listed said.now.ops))) }
+    ensures grown { Extends out.old.items out.new.items }
+{
+    append_head(out, STYLE_LINK)?;
+    append_games(out, Links::Files, rows)?;
+    append_records(out, said)?;
+    append_page_end(out)
+}

@@ -1,0 +1,300 @@
+#!/usr/bin/env python3
+"""Wrong inputs, and what the program says of them: the line of the fault alone where standard error is no terminal, and behind it
+what was wrong and what to do with --explain, with CENSUS_EXPLAIN=1 and on a terminal. Takes seconds; connections are on the
+loopback, on free ports.
+
+    faults.py [PROGRAM [WORD ..]]          the program is the one that ../census runs where none is named
+"""
+
+import os
+import pty
+import re
+import select
+import shutil
+import socket
+import subprocess
+import sys
+import tempfile
+import threading
+
+TOP = os.path.dirname(os.path.dirname(os.path.realpath(__file__)))
+PROGRAM = sys.argv[1:] or [subprocess.check_output([os.path.join(TOP, "dist", "program")], text=True).strip()]
+PROGRAM[0] = os.path.abspath(shutil.which(PROGRAM[0]) or PROGRAM[0])
+SECONDS = 20
+MOST = 300
+SILENT = {name: text for name, text in os.environ.items() if name != "CENSUS_EXPLAIN"}
+ASKING = dict(SILENT, CENSUS_EXPLAIN="1")
+FORM = '{"code":"0.77","start":0,"values":['
+
+# Words of the command line; the line of the fault, behind `census: `; its exit status; and what must stand behind it.
+CASES = [
+    # Files that are not there, or are something else.
+    ("show nofile", "File", 3, ["nofile: no such file", "census init --draw nofile"]),
+    ("show folder", "File", 3, ["folder: it is a folder"]),
+    ("show pipe", "File", 3, ["pipe", "no plain file"]),
+    ("show loop", "File", 3, ["loop: too many links in a row"]),
+    ("merge a.state nofile", "File", 3, ["nofile: no such file", "census delta STATE nofile"]),
+    ("import a.state nofile", "File", 3, ["nofile: no such file"]),
+    ("init folder/none/new 1", "File", 3, ["folder/none/new: the folder for it is not there"]),
+    ("init a.state 1", "Exists", 3, ["a.state stands there already"]),
+    ("delta a.state a.state", "Same", 3, ["a.state is the state file"]),
+    ("delta a.state b.txt", "Occupied", 3, ["b.txt holds something that is no delta", "--replace"]),
+    ("delta a.state a.state.lock", "Occupied", 3, ["a.state.lock would be the lock"]),
+    ("union b.txt a.delta", "Occupied", 3, ["b.txt is none of the files that are read", "--replace"]),
+    # Files of another kind, or damaged.
+    ("show a.delta", "Load Version", 1, ["a.delta is a delta, and no state", "census merge STATE a.delta"]),
+    ("show b.txt", "Load Version", 1, ["b.txt is no state", "b-file", "census claim STATE CODE b.txt"]),
+    ("show form.json", "Load Version", 1, ["form.json is no state", "JSON", "census import STATE form.json"]),
+    ("show empty", "Load Version", 1, ["empty has no bytes"]),
+    ("show hex", "Load Version", 1, ["hex is hexadecimal text", "census fold < hex"]),
+    ("show cut.state", "Load Refused", 1, ["cut.state is cut off", "the operation that begins at byte 16"]),
+    ("show bad.state", "Load Refused", 1, ["bad.state is damaged", "the operation that begins at byte 55"]),
+    ("show nobody.state", "Load Refused", 1, ["nobody.state is damaged", "bytes 4 to 7", "author"]),
+    ("merge a.state a.state", "Merge Version", 1, ["a.state is a state, and no delta", "census delta a.state a.delta"]),
+    ("merge a.state b.txt", "Merge Version", 1, ["b.txt is no delta", "census claim STATE CODE b.txt"]),
+    ("merge a.state cut.delta", "Merge Refused", 1, ["cut.delta is cut off", "byte 8"]),
+    ("digest bad.delta", "Merge Refused", 1, ["bad.delta is damaged", "the operation that begins at byte 47"]),
+    ("union new.delta a.delta a.state", "Union 2 Version", 1, ["a.state is a state, and no delta"]),
+    # Blocks and b-files.
+    ("import a.state open.json", "Json", 1, ["open.json", "line 2 column 11", FORM]),
+    ("import a.state short.json", "Import Shape", 1, ["short.json is no object with exactly", FORM]),
+    ("import a.state code.json", "Import Code", 1, ["code.json has a code that is no text", "0.77"]),
+    ("import a.state values.json", "Import Values", 1, ["values.json has values", "4294967296"]),
+    ("import a.state none.json", "Import Empty", 1, ["none.json has no value"]),
+    ("claim a.state 0.77 b.txt", "Bfile Form 3", 1, ["b.txt, line 3", "`2 x`", "0 0"]),
+    ("check 0.77 gap.txt", "Bfile Order 2", 1, ["gap.txt, line 2", "`2 2`"]),
+    ("check 0.77 empty", "Bfile Empty", 1, ["empty has no line with a number and a value"]),
+    # Words.
+    ("extend a.state 0.77 1000", "Number", 2, ["COUNT must be 1 to 65536, and is 0.77", "STATE COUNT CODE.."]),
+    ("compute a.state 10 0.77", "Number", 2, ["COUNT must be 1 to 1024, and is 0.77", "STATE CODE COUNT"]),
+    ("period a.state 0.77 x 12", "Number", 2, ["E must be 1 to 65536, and is x", "STATE CODE E P"]),
+    ("hub a.state 127.0.0.1:0 --sessions 2000", "Number", 2, ["--sessions must be 1 to 1024, and is 2000"]),
+    ("search 10 0.77 --at -", "Number", 2, ["HEAP must be 0 to 18446744073709551615, and is -"]),
+    ("search --bfile 10 0.77 0.07", "Words", 2, ["--bfile takes one CODE"]),
+    ("explain Lod", "Words", 2, ["no fault is called Lod", "census explain"]),
+    ("completion tcsh", "Words", 2, ["bash, zsh or fish", "tcsh"]),
+    ("find a.state 0.77 0.87", "Code Digit", 1, ["0.87: the digit 8 is none of 0 to 7"]),
+    ("find a.state 0.7\x1b", "Code Digit", 1, ["0.7\\x1b: the sign \\x1b is none"]),
+    ("find a.state 1.7", "Code Head", 1, ["1.7: the sign 1 before the point is neither 0 nor 4"]),
+    ("find a.state 077", "Code Form", 1, ["077: it has no point"]),
+    ("find a.state 0.", "Code Form", 1, ["0.: no digit after the point"]),
+    ("find a.state 0.11111111111111111", "Code Long", 1, ["over 16 digits"]),
+    ("compute a.state 0.77 2000", "Compute TooMany", 1, ["COUNT must be 1 to 1024, and is 2000", "census extend"]),
+    ("compute a.state 0.77 0", "Compute Zero", 1, ["COUNT must be 1 to 1024, and is 0"]),
+    ("period a.state 0.77 71 70000", "Period PastLimit", 1, ["P must be 1 to 65536, and is 70000"]),
+    ("note a.state Kayles x", "Note Name", 1, ["`Kayles` has a `K`", "a-z, 0-9 and -"]),
+    ("note a.state kayles \x07", "Note Text", 1, ["byte 1", "\\x07", "printable ASCII"]),
+    ("unnote a.state kayles", "Removal NoNote", 1, ["kayles is that of no note", "census show STATE"]),
+    ("page a.state 99", "NoPage", 1, ["no page 99", "census page STATE 0"]),
+    ("init new.state 0", "Zero", 1, ["0 is no author's number", "census init --draw STATE"]),
+    ("renumber a.state 1", "Held", 1, ["a.state holds operations by this number", "census renumber STATE"]),
+    # The network. PORT is one on which nobody listens, TAKEN one in use, STRANGE and SHUT ones of peers that are no census.
+    ("sync a.state 127.0.0.1:PORT", "Net", 3, ["cannot connect to 127.0.0.1:PORT: connection refused", "is a hub running there?", "census hub STATE 127.0.0.1:PORT"]),
+    ("sync a.state 127.0.0.1", "Net", 3, ["127.0.0.1 has no port"]),
+    ("sync a.state no_such_host!:4000", "Net", 3, ["cannot find the host of no_such_host!:4000"]),
+    ("serve a.state 127.0.0.1:TAKEN", "Net", 3, ["cannot listen at 127.0.0.1:TAKEN: another program listens there"]),
+    ("sync a.state 127.0.0.1:STRANGE", "Sync Frame", 1, ["127.0.0.1:STRANGE sends something that is no frame"]),
+    ("sync a.state 127.0.0.1:SHUT", "Sync Cut", 3, ["127.0.0.1:SHUT closed the connection before the session was done"]),
+    ("sync a.state 127.0.0.1:MUTE --patience 1", "Sync Read", 3, ["127.0.0.1:MUTE: the other side was silent for too long", "--patience"]),
+]
+
+failures = []
+
+
+def need(holds, what):
+    if not holds:
+        failures.append(what)
+        print(f"faults: {what}", file=sys.stderr)
+
+
+def run(words, env=SILENT, given=b""):
+    """The status, the output and the errors of the words, with no terminal."""
+    ran = subprocess.run(PROGRAM + words, input=given, capture_output=True, env=env, timeout=SECONDS)
+    return ran.returncode, ran.stdout, ran.stderr
+
+
+def watched(words):
+    """The status and the errors of the words, where standard error is a terminal."""
+    master, slave = pty.openpty()
+    program = subprocess.Popen(PROGRAM + words, stdin=subprocess.DEVNULL, stdout=subprocess.DEVNULL, stderr=slave, env=SILENT)
+    os.close(slave)
+    said = b""
+    while select.select([master], [], [], SECONDS)[0]:
+        try:
+            piece = os.read(master, 65536)
+        except OSError:  # the other end is closed
+            break
+        said += piece
+    os.close(master)
+    status = program.wait(SECONDS)
+    # What shows how far a command is takes its line away again.
+    said = re.sub(rb"\r[^\r\n]*\x1b\[K", b"", said.replace(b"\r\n", b"\n"))
+    return status, said
+
+
+def explained(what, line, texts, said, status, wanted):
+    """The errors are the line of the fault, and behind it one to three lines with these texts."""
+    need(status == wanted, f"{what}: the status is {status}, and not {wanted}")
+    front = f"census: {line}\n".encode()
+    need(said.startswith(front), f"{what}: {said!r} does not begin with {front!r}")
+    lines = said[len(front):].decode().splitlines()
+    need(1 <= len(lines) <= 3 and all(line.startswith("  ") for line in lines), f"{what}: {lines}")
+    need(len(said) - len(front) <= MOST, f"{what}: {len(said) - len(front)} bytes")
+    need(not re.search(rb"[\x00-\x09\x0b-\x1f\x7f]", said), f"{what}: control characters in {said!r}")
+    for text in texts:
+        need(text in " ".join(lines), f"{what}: `{text}` is not in {lines}")
+
+
+def peer(answer):
+    """A port of the loopback at which each connection has this answer; none is one that waits, and b"" closes it."""
+    listener = socket.create_server(("127.0.0.1", 0))
+
+    def serve():
+        kept = []
+        while True:
+            taken, _ = listener.accept()
+            if answer is None:
+                kept.append(taken)
+                continue
+            taken.recv(65536)
+            taken.sendall(answer)
+            taken.close()
+
+    threading.Thread(target=serve, daemon=True).start()
+    return str(listener.getsockname()[1])
+
+
+def free_port():
+    with socket.create_server(("127.0.0.1", 0)) as listener:
+        return str(listener.getsockname()[1])
+
+
+def write(name, given):
+    with open(name, "wb") as file:
+        file.write(given)
+
+
+def make_files():
+    """The files that the table names."""
+    for words in ("init a.state 1", "compute a.state 0.77 5", "note a.state early x", "unnote a.state early", "delta a.state a.delta"):
+        status, _, errors = run(words.split())
+        need(status == 0, f"{words}: {errors!r}")
+    with open("a.state", "rb") as file:
+        state = file.read()
+    with open("a.delta", "rb") as file:
+        delta = file.read()
+    os.mkdir("folder")
+    os.mkfifo("pipe")
+    os.symlink("loop", "loop")
+    write("empty", b"")
+    write("hex", delta.hex().encode() + b"\n")
+    write("cut.state", state[:40])
+    write("cut.delta", delta[:12])
+    # The block is 39 bytes long; then the kind of the note is one that no operation has.
+    write("bad.delta", delta[:55] + b"\x09" + delta[56:])
+    write("bad.state", state[:63] + b"\x09" + state[64:])
+    write("nobody.state", state[:4] + b"\0\0\0\0" + state[8:])
+    write("b.txt", b"0 0\n1 1\n2 x\n")
+    write("gap.txt", b"0 0\n2 2\n")
+    write("form.json", FORM.encode() + b"0,1]}\n")
+    write("open.json", b'{"code":"0.77",\n"start":0,,')
+    write("short.json", b'{"code":"0.77","start":0}')
+    write("code.json", b'{"code":"7","start":0,"values":[0]}')
+    write("values.json", FORM.encode() + b"-1]}")
+    write("none.json", FORM.encode() + b"]}")
+
+
+def try_table():
+    """Each case of the table: with no terminal, with the option, with the variable, and on a terminal."""
+    taken = socket.create_server(("127.0.0.1", 0))
+    ports = {
+        "TAKEN": str(taken.getsockname()[1]),
+        "STRANGE": peer(b"HTTP/1.1 400 Bad Request\r\n\r\n"),
+        "SHUT": peer(b""),
+        "MUTE": peer(None),
+        "PORT": free_port(),
+    }
+
+    def named(text):
+        for name, port in ports.items():
+            text = text.replace(name, port)
+        return text
+
+    for case, line, wanted, texts in CASES:
+        if line is None:
+            continue
+        words, texts = named(case).split(" "), [named(text) for text in texts]
+        status, _, said = run(words)
+        if words[0] == "hub":
+            explained(case, line, texts, said, status, wanted)
+        else:
+            need((status, said) == (wanted, f"census: {line}\n".encode()), f"{case}: {status}, {said!r}")
+        status, output, said = run(["--explain", *words])
+        explained(f"--explain {case}", line, texts, said, status, wanted)
+        if words[0] != "sync":
+            status, _, again = run(words, ASKING)
+            need((status, again) == (wanted, said), f"CENSUS_EXPLAIN=1 {case}: {again!r}, and not {said!r}")
+        status, seen = watched(words)
+        explained(f"on a terminal {case}", line, texts, seen, status, wanted)
+
+
+def try_streams():
+    """Standard input and output in place of files, and a reader that closes its end."""
+    with open("a.delta", "rb") as file:
+        delta = file.read()
+    need(run(["delta", "a.state", "-"]) == (0, delta, b""), "delta to standard output")
+    need(run(["union", "-", "-", "a.delta"], given=delta) == (0, delta, b""), "union of standard input to standard output")
+    need(run(["init", "b.state", "2"])[0] == 0, "init")
+    need(run(["merge", "b.state", "-"], given=delta) == (0, b"new 3\n", b""), "merge of standard input")
+    need(run(["check", "0.77", "-"], given=b"0 0\n1 1\n") == (0, b"2 values, all right\n", b""), "check of standard input")
+    need(run(["claim", "b.state", "0.77", "-"], given=b"0 0\n1 1\n") == (0, b"issued 2.1\n", b""), "claim of standard input")
+    need(run(["import", "--quiet", "b.state", "-"], given=FORM.encode() + b"0]}") == (0, b"", b""), "import of standard input, quiet")
+    need(not os.path.exists("-"), "a file was made that is called -")
+    need(run(["delta", "a.state", "./-"])[:2] == (0, b"operations 3\n") and os.path.exists("-"), "delta to ./-")
+    status, _, said = run(["--explain", "merge", "b.state", "-"], given=b"OGS1")
+    explained("merge of a state from standard input", "Merge Version", ["standard input is a state"], said, status, 1)
+    # Much output into a pipe that nobody reads: on a terminal nothing stands behind the line.
+    need(run("extend b.state 60000 0.77".split())[0] == 0, "extend")
+    master, slave = pty.openpty()
+    reads, writes = os.pipe()
+    os.close(reads)
+    program = subprocess.Popen(PROGRAM + ["show", "b.state"], stdout=writes, stderr=slave, env=SILENT)
+    os.close(writes)
+    os.close(slave)
+    need(program.wait(SECONDS) == 3, "show into a closed pipe has another status than 3")
+    need(os.read(master, 65536) == b"census: Write\r\n", "show into a closed pipe says something else")
+    os.close(master)
+
+
+def try_list():
+    """`census explain` and the manual have each fault of the documents."""
+    with open(os.path.join(TOP, "docs", "FORMATS.md")) as file:
+        rows = re.findall(r"^\| `([A-Za-z]+)` \| (.*) \| ([1-4]) \|$", file.read().split("## Faults")[1], re.M)
+    need(len(rows) > 30, f"docs/FORMATS.md has {len(rows)} faults")
+    listed = run(["explain"])[1].decode()
+    page = run(["manual"])[1].decode()
+    for name, causes, status in rows:
+        for cause in re.findall(r"`([A-Z][A-Za-z]+)(?: L)?`", causes) or [""]:
+            called = f"{name} {cause}".strip()
+            need(f"{called}, status {status}\n  " in listed, f"census explain does not list {called}, status {status}")
+            need(f'"{called}" " (status {status})"' in page, f"the manual does not list {called}")
+            said = run(["explain", *called.split()])
+            need(said[0] == 0 and said[1].decode().startswith(f"{called}, status {status}\n"), f"explain {called}: {said}")
+    for entry in re.split(r"(?m)^(?=\S)", listed)[1:]:
+        need(len(entry.split("\n", 1)[1]) <= MOST, f"over {MOST} bytes: {entry}")
+
+
+def main():
+    with tempfile.TemporaryDirectory() as room:
+        os.chdir(room)
+        make_files()
+        try_table()
+        try_streams()
+        try_list()
+        os.chdir("/")
+    if failures:
+        sys.exit(f"faults: {len(failures)} failed")
+    print(f"faults: each of {len(CASES)} wrong inputs is explained where it should be, and only there")
+
+
+main()
