@@ -24,7 +24,7 @@ rare_again : (mask : Mask) (n period v : ℕ) → (mask.parity ≡ true → peri
 rare_again mask n period v even = ap (λ r. eqb r 0) (again mask.parity mask.turn n period (count_ones (bit_and mask.bits v)) even)
 
 -- two common heaps give no common value
-common_pair : (c : Code) (mask : Mask) (n w : ℕ) → IsFit c mask → (o : IsOptionValue c (nim_value c) n w) → 1 ≤ o.a
+pub common_pair : (c : Code) (mask : Mask) (n w : ℕ) → IsFit c mask → (o : IsOptionValue c (nim_value c) n w) → 1 ≤ o.a
     → is_rare mask o.a (nim_value c o.a) ≡ false → is_rare mask o.b (nim_value c o.b) ≡ false → is_rare mask n w ≡ true
 common_pair c mask n w fit o first not_a not_b =
     let g = nim_value c in

@@ -1,6 +1,8 @@
 -- A period that one run of settled heaps between two equal windows shows.
-use Rattle.std.specs.Prelude.{◌≡◌, ℕ, ◌+◌, ◌-◌, ◌%◌, ◌<◌, ◌≤◌, true, false}
+use Rattle.std.specs.Prelude.{◌≡◌, ℕ, ◌+◌, ◌-◌, ◌%◌, ◌<◌, ◌≤◌, ◌⊎◌, true, false, List, length, slice_index}
+use Rattle.std.specs.List.{Contains}
 use Rattle.oct_code.specs.Code.{Code, len}
+use Rattle.oct_mex.specs.Marks.{IsRareBy}
 use Rattle.oct_mex.specs.NimValues.{nim_value, IsOptionValue}
 use Rattle.oct_mex.specs.Periods.{IsPeriodicWithin}
 use Rattle.oct_mex.specs.Rare.{is_rare, IsFit}
@@ -30,3 +32,22 @@ pub record IsRun (c : Code) (mask : Mask) (reach start period : ℕ) : Type 0 wh
   pub settled : (n : ℕ) → start ≤ n → n < start + period → IsSettled c mask reach n
   -- the window before it is the window before its end
   pub windows : IsPeriodicWithin c (start - window c reach) period start
+
+-- ---- in a list of the values of the small heaps and of the last ones
+
+-- some move leaves two heaps whose values under g have this exclusive or, the smaller one no larger than `reach`, or one of them in the list
+pub record IsNear (c : Code) (g : ℕ → ℕ) (n : ℕ) (heaps : List ℕ) (reach value : ℕ) : Type 0 where
+  pub option : IsOptionValue c g n value
+  pub near : (option.a ≤ reach) ⊎ (Contains heaps option.a ⊎ Contains heaps option.b)
+
+-- each smaller number comes of such a move, and the number itself, if it is below the size, of none that leaves at most one heap or a heap of the list
+pub record Settles (c : Code) (g : ℕ → ℕ) (n : ℕ) (heaps : List ℕ) (reach size value : ℕ) : Type 0 where
+  pub reached : (u : ℕ) → u < value → IsNear c g n heaps reach u
+  pub unlisted : value < size → (r : ℕ) → IsRareBy c g n heaps r value → ⊥
+
+-- the list has the nim-values of the heaps up to `reach`, and behind them those of a window before the heap n
+pub record IsHeld (c : Code) (reach n : ℕ) (held : List ℕ) : Type 0 where
+  pub room : reach + window c reach < length held
+  pub few : length held ≤ n
+  pub small : (h : ℕ) → h ≤ reach → slice_index held h ≡ nim_value c h
+  pub last : (h : ℕ) → h < n → n ≤ h + window c reach → slice_index held (h + length held - n) ≡ nim_value c h

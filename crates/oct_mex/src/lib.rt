@@ -15,6 +15,7 @@
 //!   those that are left, many pairs at a time: `next`, `marks`, `pairs`.
 //! - A `Cell` holds a nim-value in 8, 16 or 32 bits, and a `Row` the values of a game in cells: the functions over
 //!   them are the same for each width, with clauses over the numbers in the cells.
+//! - Where no large heap is rare, the next value is settled by those of the small heaps and of the last ones: `settled`.
 //! - Once they show a period that holds for ever, the further values are copied.
 //! - `find_period` looks for the least period that first nim-values show, and for the least heap from which on they do.
 //! - `first_difference` compares two lists of claimed and true values.
@@ -31,6 +32,7 @@ mod pairs;
 mod period;
 mod rare;
 mod row;
+mod settled;
 mod values;
 
 pub use cell::Cell;
@@ -39,4 +41,5 @@ pub use mask::{Mask, NO_MASK};
 pub use period::{SeenPeriod, expected_need, find_period, find_shown};
 pub use rare::Rare;
 pub use row::Row;
+pub use settled::settled_value;
 pub use values::Values;

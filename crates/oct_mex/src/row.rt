@@ -102,7 +102,7 @@ impl<T: Cell, A: Allocator + Copy> Row<T, A> {
     }
 
     /// Adds the value of the heap one period before, for which there is room. Takes no memory.
-    pub(crate) fn push_again(&mut self, code: &Code, period: usize)
+    pub fn push_again(&mut self, code: &Code, period: usize)
         requires row { IsRow T.number code.now self.old }
         requires limited { vec_len self.old.values < 2 ^ 32 }
         requires room { vec_len self.old.values < vec_capacity self.old.values }

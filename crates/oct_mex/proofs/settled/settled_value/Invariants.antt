@@ -1,0 +1,17 @@
+use Rattle.std.proofs.Common.{◌+◌, ◌-◌, ◌<◌, ◌≤◌, ◌≡◌, ℕ, map, length, slice_index}
+use Rattle.oct_mex.specs.Marks.{IsMarked}
+use Rattle.oct_mex.proofs.Settling.{HasReached}
+use Rattle.oct_mex.proofs.settled.settled_value.Given as goal
+
+abbrev pub invariant-loop-end : goal.invariant-loop-end
+invariant-loop-end g l = record {
+  some : 1 ≤ l.end;
+  size : length l.marks ≡ length l.fn.marks;
+  has : HasReached l.code (slice_index (map g.T.Cell.number l.values)) (length l.values) l.rare.heaps.items l.reach l.marks;
+  within : l.least ≤ length l.marks;
+  marked : (v : ℕ) → v < l.least → IsMarked l.marks v;
+  unmarked : l.least < length l.marks → IsMarked l.marks l.least → ⊥;
+}
+
+abbrev pub decreases-loop-end : goal.decreases-loop-end
+decreases-loop-end g l = l.reach + 1 - l.end
