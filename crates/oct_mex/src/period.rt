@@ -69,26 +69,36 @@ pub fn find_shown<T: Cell>(code: &Code, values: &[T]) -> Option<SeenPeriod>
     None
 }
 
-/// How many values it takes to show the least period that an eighth of the values, the last ones, let expect; 0 where they
-/// let expect none. This says when to look again, and nothing else, so that no clause speaks of it.
-pub fn expected_need<T: Cell>(code: &Code, values: &[T]) -> usize
+/// The least period that an eighth of the values, the last ones, let expect, and the least heap, from 1 on, from which on
+/// all values come again by it; none where they let expect none. It need not hold: this says when to look again, and
+/// what to look at.
+pub fn expected_period<T: Cell>(values: &[T]) -> Option<SeenPeriod>
     requires { length values.now ≤ 2 ^ 32 }
+    ensures first { IfSome result (λ seen. 1 ≤ seen.start) }
+    ensures some { IfSome result (λ seen. 1 ≤ seen.period) }
+    ensures within { IfSome result (λ seen. seen.start + seen.period ≤ length values.now) }
+    ensures again { IfSome result (λ seen. ComesAgain (map T.number values.now) seen.start seen.period) }
 {
-    let digits = code.len();
     let tail = values.len() / 8 + TAIL;
     let mut failed = 0;
     let mut later = 0;
     for period in 1..values.len().saturating_sub(tail) {
         let last = values.len() - tail - period;
         match break_by(values, last, period, failed, later) {
-            None => return 2 * (first_start(values, last, period) + period) + digits,
+            None => {
+                let first = first_start(values, last, period);
+                return Some(SeenPeriod {
+                    start: first,
+                    period,
+                });
+            }
             Some(heap) => {
                 failed = heap;
                 later = heap + period;
             }
         }
     }
-    0
+    None
 }
 
 // A heap from `start` on whose value does not come again one period later. The two heaps are tried first.
