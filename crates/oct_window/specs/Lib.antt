@@ -1,0 +1,3 @@
+pub use Rattle.oct_code.specs.Code
+pub mod Windows
+pub mod Repeats

@@ -1,0 +1,139 @@
+//! A window of nim-values that goes on in the memory that it begins with.
+
+ghost use Rattle.std.specs.Prelude.{◌≡◌, ℕ, ◌+◌, ◌-◌, ◌*◌, ◌^◌, ◌<◌, ◌≤◌, true, false, if◌then◌else◌, length, slice_index, vec_len, vec_capacity, IfOk, IfSome};
+ghost use Rattle.oct_mex.specs.NimValues.{nim_value};
+ghost use Rattle.oct_mex.specs.Rare.{is_rare};
+ghost use Rattle.oct_mex.specs.Row.{IsRow};
+ghost use Rattle.oct_mex.specs.Windows.{IsSettled, window};
+ghost use Rattle.oct_window.specs.Windows.{IsKnown, IsSameGame, IsShaped};
+
+use crate::ends::keep_ends;
+use oct_code::Code;
+use oct_mex::{Rare, Row, settled_value};
+use std::alloc::{AllocError, Allocator};
+
+/// How many nim-values have a mark: those below it fit into a window.
+pub const MARKS: usize = 65_536;
+
+/// How far a window can go: it has no heap of this size.
+pub const FARTHEST: usize = 1 << 62;
+
+// The reach of a window is at least so much.
+const NEAR: usize = 1_024;
+
+/// The values of the heaps up to a reach, with the rare ones among them, and the values of the last heaps before `count`.
+#[derive(Drop)]
+pub struct Window<A: Allocator> {
+    pub code: Code,
+    pub rare: Rare<u16, A>,
+    /// No rare heap is larger.
+    pub reach: usize,
+    /// The values up to the reach, and behind them the last ones.
+    pub held: Vec<u16, A>,
+    /// How many values went before: the next heap.
+    pub count: usize,
+    /// The part of the marks that is used: a power of two above each value.
+    pub used: usize,
+}
+
+impl<A: Allocator + Copy> Window<A> {
+    /// The last value that the window has: that of the heap before the next one.
+    pub fn last(&self) -> u16
+        requires { IsShaped self.now }
+        ensures { IsKnown self.now → result ≡ nim_value self.now.code (self.now.count - 1) }
+    {
+        self.held[self.held.len() - 1]
+    }
+
+    /// Adds the next value, by a table of marks, and says whether the window tells it: else nothing changes. Takes no memory.
+    pub fn push_next(&mut self, marks: &mut [bool]) -> bool
+        requires shaped { IsShaped self.old }
+        requires limited { self.old.count < FARTHEST }
+        requires marks { MARKS ≤ length marks.old }
+        ensures shaped { IsShaped self.new }
+        ensures same { IsSameGame self.old self.new }
+        ensures count { self.new.count ≡ (if result then self.old.count + 1 else self.old.count) }
+        ensures marks { length marks.new ≡ length marks.old }
+        ensures known { IsKnown self.old → IsKnown self.new }
+        ensures settled { IsKnown self.old → result ≡ true → IsSettled self.old.code self.old.rare.mask self.old.reach self.old.count }
+    {
+        let Some(cell) = self.next_cell(marks) else {
+            return false;
+        };
+        self.make_room();
+        self.push(cell);
+        true
+    }
+
+    // The next value, if the window tells it.
+    fn next_cell(&self, marks: &mut [bool]) -> Option<u16>
+        requires shaped { IsShaped self.now }
+        requires marks { MARKS ≤ length marks.old }
+        ensures marks { length marks.new ≡ length marks.old }
+        ensures within { IfSome result (λ cell. cell ≤ self.now.used) }
+        ensures fits { IfSome result (λ cell. cell < MARKS) }
+        ensures value { IsKnown self.now → IfSome result (λ cell. cell ≡ nim_value self.now.code self.now.count) }
+        ensures settled { IsKnown self.now → IfSome result (λ cell. IsSettled self.now.code self.now.rare.mask self.now.reach self.now.count) }
+    {
+        let value = settled_value(
+            &self.code,
+            &self.held,
+            &self.rare,
+            self.count,
+            self.reach,
+            &mut marks[..self.used],
+        )?;
+        if value < MARKS {
+            Some(value as u16)
+        } else {
+            None
+        }
+    }
+
+    // Makes room for a value where there is none: those between the small heaps and the last ones are forgotten.
+    fn make_room(&mut self)
+        requires { IsShaped self.old }
+        ensures shaped { IsShaped self.new }
+        ensures room { vec_len self.new.held < vec_capacity self.new.held }
+        ensures same { IsSameGame self.old self.new }
+        ensures count { self.new.count ≡ self.old.count }
+        ensures used { self.new.used ≡ self.old.used }
+        ensures known { IsKnown self.old → IsKnown self.new }
+    {
+        if self.held.len() == self.held.capacity() {
+            self.forget();
+        }
+    }
+
+    // Forgets the values between those of the small heaps and the last ones.
+    fn forget(&mut self)
+        requires { IsShaped self.old }
+        ensures shaped { IsShaped self.new }
+        ensures room { vec_len self.new.held < vec_capacity self.new.held }
+        ensures same { IsSameGame self.old self.new }
+        ensures count { self.new.count ≡ self.old.count }
+        ensures used { self.new.used ≡ self.old.used }
+        ensures known { IsKnown self.old → IsKnown self.new }
+    {
+        let last = self.reach + self.code.len();
+        keep_ends(&mut self.held, self.reach + 1, last);
+    }
+
+    // Adds the next value, for which there is room.
+    fn push(&mut self, cell: u16)
+        requires shaped { IsShaped self.old }
+        requires limited { self.old.count < FARTHEST }
+        requires room { vec_len self.old.held < vec_capacity self.old.held }
+        requires within { cell ≤ self.old.used }
+        ensures shaped { IsShaped self.new }
+        ensures same { IsSameGame self.old self.new }
+        ensures count { self.new.count ≡ self.old.count + 1 }
+        ensures known { IsKnown self.old → cell ≡ nim_value self.old.code self.old.count → is_rare self.old.rare.mask self.old.count cell ≡ false → IsKnown self.new }
+    {
+        self.held.push_reserved(cell);
+        self.count += 1;
+        if usize::from(cell) == self.used {
+            self.used *= 2;
+        }
+    }
+}
