@@ -1,8 +1,12 @@
 -- The values that a window has, with a further one, and without those in the middle.
-use Rattle.std.proofs.Common.{◌≡◌, ℕ, ◌+◌, ◌-◌, ◌<◌, ◌≤◌, ◌++◌, ◌∷◌, ◌*◌, ◌^◌, [], suc, Bool, false, List, length, map, take, slice_index, sym, subst, ap, ◌∙◌, inl, inr, arith, length-append, pow_mono}
+use Rattle.std.proofs.Common.{◌≡◌, ℕ, ◌+◌, ◌-◌, ◌<◌, ◌≤◌, ◌++◌, ◌∷◌, ◌*◌, ◌^◌, [], suc, Bool, false, List, length, map, take, drop, eqb, IsTrue, ◌↔◌, slice_index, sym, subst, ap, ◌∙◌, inl, inr, arith, length-append, length-drop, pow_mono}
+use Rattle.std.specs.Bool.{Decides}
+use Rattle.std.specs.Cmp.Lexicographic.{pointwise}
+use Rattle.std.proofs.lemmas.Bool.Decides.{Decides-eqb}
+use Rattle.std.proofs.lemmas.Slice.Eq.{slice_eq-Decides}
 use Rattle.std.proofs.Math.Nat.{pow-suc}
 use Rattle.std.proofs.lemmas.Bool.{cases_eq, cases_lt}
-use Rattle.std.proofs.lemmas.List.{get_or_default, length-take-le, map-id}
+use Rattle.std.proofs.lemmas.List.{ext_get_or, get_or-drop, get_or_default, length-take-le, map-id}
 use Rattle.std.proofs.lemmas.List.Elements.{Contains-get_or}
 use Rattle.std.specs.List.{Contains}
 use Rattle.oct_code.specs.Code.{Code}
@@ -115,3 +119,29 @@ told c mask reach n used v cells held heaps marks are few_used is_held fit some 
     let plain = subst (λ xs. Settles c (slice_index xs) (length cells) heaps reach used v) all sized in
     held_value c mask reach n used v held heaps is_held fit some rare few table common not_rare
     (subst (λ xs. Settles c (slice_index xs) (length xs) heaps reach used v) are plain)
+
+-- ---- the last values
+
+-- a list ends with the values exactly where each of them is the one of its place
+pub ends : (held values : List ℕ) (r : Bool) → length values ≤ length held → r ≡ pointwise eqb values (drop (length held - length values) held)
+    → Decides r ((i : ℕ) → i < length values → slice_index values i ≡ slice_index held (length held - length values + i))
+ends held values r fits is =
+    let at = length held - length values in
+    let same = slice_eq-Decides Decides-eqb values (drop at held) r is in
+    let size : length (drop at held) ≡ length values = omega (arith, length-drop at held) in (
+      (λ yes i low. ap (λ xs. slice_index xs i) (same.0 yes) ∙ get_or-drop at held i 0),
+      (λ each. same.1 (ext_get_or 0 values (drop at held) (sym size) (λ i low. each i low ∙ sym (get_or-drop at held i 0)))),
+    )
+
+-- so exactly where they are the nim-values of the last heaps
+pub ends_known : (c : Code) (reach n : ℕ) (held values : List ℕ) (r : Bool) → IsHeld c reach n held → length values ≡ window c reach → r ≡ pointwise eqb values (drop (length held - length values) held)
+    → IsTrue r ↔ ((i : ℕ) → i < window c reach → slice_index values i ≡ nim_value c (n - window c reach + i))
+ends_known c reach n held values r is_held size is =
+    let room = is_held.room in
+    let fits = is_held.few in
+    let told = ends held values r (omega arith) is in
+    let value : (i : ℕ) → i < length values → slice_index held (length held - length values + i) ≡ nim_value c (n - window c reach + i) = λ i low.
+        ap (slice_index held) (let at : length held - length values + i ≡ n - window c reach + i + length held - n = omega arith in at) ∙ is_held.last (n - window c reach + i) (omega arith) (omega arith) in (
+      (λ yes i low. told.0 yes i (omega arith) ∙ value i (omega arith)),
+      (λ each. told.1 (λ i low. each i (omega arith) ∙ sym (value i low))),
+    )

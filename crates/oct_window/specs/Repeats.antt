@@ -1,5 +1,5 @@
 -- Periods that a window shows.
-use Rattle.std.specs.Prelude.{◌≡◌, ℕ, ◌<◌, ◌≤◌}
+use Rattle.std.specs.Prelude.{ℕ, ◌<◌, ◌≤◌}
 use Rattle.oct_code.specs.Code.{Code}
 use Rattle.oct_mex.specs.Periods.{IsPeriodicFrom}
 use Rattle.oct_mex.specs.declared.period.SeenPeriod.{SeenPeriod}

@@ -11,6 +11,10 @@
 #![tactic(auto)]
 
 mod ends;
+mod first;
+mod watch;
 mod window;
 
-pub use window::Window;
+pub use first::extend;
+pub use watch::{Step, Watch};
+pub use window::{FARTHEST, MARKS, Window};

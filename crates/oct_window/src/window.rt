@@ -1,11 +1,12 @@
 //! A window of nim-values that goes on in the memory that it begins with.
 
-ghost use Rattle.std.specs.Prelude.{◌≡◌, ℕ, ◌+◌, ◌-◌, ◌*◌, ◌^◌, ◌<◌, ◌≤◌, true, false, if◌then◌else◌, length, slice_index, vec_len, vec_capacity, IfOk, IfSome};
+ghost use Rattle.std.specs.Prelude.{◌≡◌, ℕ, ◌+◌, ◌-◌, ◌*◌, ◌^◌, ◌<◌, ◌≤◌, ◌↔◌, IsTrue, true, false, if◌then◌else◌, length, slice_index, vec_len, vec_capacity, IfOk, IfSome};
+ghost use Rattle.std.specs.List.{Contains};
 ghost use Rattle.oct_mex.specs.NimValues.{nim_value};
 ghost use Rattle.oct_mex.specs.Rare.{is_rare};
 ghost use Rattle.oct_mex.specs.Row.{IsRow};
 ghost use Rattle.oct_mex.specs.Windows.{IsSettled, window};
-ghost use Rattle.oct_window.specs.Windows.{IsKnown, IsSameGame, IsShaped};
+ghost use Rattle.oct_window.specs.Windows.{IsBegun, IsKnown, IsSameGame, IsShaped};
 
 use crate::ends::keep_ends;
 use oct_code::Code;
@@ -37,12 +38,54 @@ pub struct Window<A: Allocator> {
 }
 
 impl<A: Allocator + Copy> Window<A> {
+    /// The window behind the first values of a game; none where no mask serves, or where a rare heap is not below half of
+    /// them.
+    pub fn of(alloc: A, code: Code, row: &Row<u16, A>) -> Result<Option<Window<A>>, AllocError>
+        requires { IsRow (λ x. x) code row.now }
+        ensures { IfOk result (λ made. IfSome made (IsBegun code (vec_len row.now.values))) }
+    {
+        let count = row.values.len();
+        let reach = NEAR.max(greatest(&row.rare.heaps));
+        if row.rare.mask.bits == 0 || row.used > MARKS || 2 * reach + code.len() + 1 >= count {
+            return Ok(None);
+        }
+        Ok(Some(Window {
+            code,
+            rare: copy_of(alloc, &row.rare)?,
+            reach,
+            held: Vec::from_slice(alloc, &row.values)?,
+            count,
+            used: row.used,
+        }))
+    }
+
     /// The last value that the window has: that of the heap before the next one.
     pub fn last(&self) -> u16
         requires { IsShaped self.now }
         ensures { IsKnown self.now → result ≡ nim_value self.now.code (self.now.count - 1) }
     {
         self.held[self.held.len() - 1]
+    }
+
+    /// The last values, as many as tell the next one.
+    pub(crate) fn copy_last(&self, alloc: A) -> Result<Vec<u16, A>, AllocError>
+        requires { IsShaped self.now }
+        ensures len { IfOk result (λ last. vec_len last ≡ window self.now.code self.now.reach) }
+        ensures values { IsKnown self.now → IfOk result (λ last. (i : ℕ) → i < window self.now.code self.now.reach → slice_index last.items i ≡ nim_value self.now.code (self.now.count - window self.now.code self.now.reach + i)) }
+    {
+        Vec::from_slice(
+            alloc,
+            &self.held[self.held.len() - self.reach - self.code.len()..],
+        )
+    }
+
+    /// Whether the last values are these.
+    pub(crate) fn ends_with(&self, values: &[u16]) -> bool
+        requires shaped { IsShaped self.now }
+        requires size { length values.now ≡ window self.now.code self.now.reach }
+        ensures { IsKnown self.now → IsTrue result ↔ ((i : ℕ) → i < window self.now.code self.now.reach → slice_index values.now i ≡ nim_value self.now.code (self.now.count - window self.now.code self.now.reach + i)) }
+    {
+        self.held.ends_with(values)
     }
 
     /// Adds the next value, by a table of marks, and says whether the window tells it: else nothing changes. Takes no memory.
@@ -54,6 +97,7 @@ impl<A: Allocator + Copy> Window<A> {
         ensures same { IsSameGame self.old self.new }
         ensures count { self.new.count ≡ (if result then self.old.count + 1 else self.old.count) }
         ensures marks { length marks.new ≡ length marks.old }
+        ensures lost { result ≡ false → self.new ≡ self.old }
         ensures known { IsKnown self.old → IsKnown self.new }
         ensures settled { IsKnown self.old → result ≡ true → IsSettled self.old.code self.old.rare.mask self.old.reach self.old.count }
     {
@@ -136,4 +180,29 @@ impl<A: Allocator + Copy> Window<A> {
             self.used *= 2;
         }
     }
+}
+
+// A copy of the lists of the rare heaps.
+fn copy_of<A: Allocator + Copy>(alloc: A, rare: &Rare<u16, A>) -> Result<Rare<u16, A>, AllocError>
+    ensures mask { IfOk result (λ copy. copy.mask ≡ rare.now.mask) }
+    ensures heaps { IfOk result (λ copy. copy.heaps.items ≡ rare.now.heaps.items) }
+    ensures values { IfOk result (λ copy. copy.values.items ≡ rare.now.values.items) }
+{
+    let mut copy = Rare::new(alloc);
+    copy.mask = rare.mask;
+    copy.heaps = Vec::from_slice(alloc, &rare.heaps)?;
+    copy.values = Vec::from_slice(alloc, &rare.values)?;
+    Ok(copy)
+}
+
+// The greatest heap of a list, or 0.
+fn greatest(heaps: &[u32]) -> usize
+    ensures within { result < 2 ^ 32 }
+    ensures most { (h : ℕ) → Contains heaps.now h → h ≤ result }
+{
+    let mut most = 0;
+    for heap in heaps {
+        most = most.max(*heap as usize);
+    }
+    most
 }

@@ -1,0 +1,8 @@
+use Rattle.std.proofs.Common.{ℕ, ◌^◌, ◌<◌, ◌≤◌, slice_index}
+use Rattle.oct_window.proofs.window.greatest.Given as goal
+
+abbrev pub invariant-loop-heap : goal.invariant-loop-heap
+invariant-loop-heap l = record {
+  within : l.most < 2 ^ 32;
+  most : (i : ℕ) → i < l.heap-index → slice_index l.heaps i ≤ l.most;
+}

@@ -1,0 +1,112 @@
+//! A window that is watched until its values come again.
+
+ghost use Rattle.std.specs.Prelude.{◌≡◌, ◌+◌, ◌<◌, ◌≤◌, length, IfOk, OnErr};
+ghost use Rattle.oct_window.specs.Watched.{count_after, IsStepped, IsWatchable, IsWatched, seen_of};
+ghost use Rattle.oct_mex.specs.Windows.{window as width};
+ghost use Rattle.oct_window.specs.Windows.{IsKnown, IsSameGame, IsShaped};
+
+use crate::window::{FARTHEST, MARKS, Window};
+use oct_mex::SeenPeriod;
+use std::alloc::{AllocError, Allocator};
+
+/// A window, and the values that it had as last ones before the heap `at`. They are marked anew where it has gone as far
+/// again (Brent 1980), so that each period is seen.
+#[derive(Drop)]
+pub struct Watch<A: Allocator> {
+    pub window: Window<A>,
+    pub mark: Vec<u16, A>,
+    pub at: usize,
+}
+
+/// What a step of a watch gives.
+#[derive(Clone, Copy)]
+pub enum Step {
+    /// One value more.
+    On,
+    /// One value more, with which the values that were marked come again.
+    Again,
+    /// The window does not tell the next value.
+    Lost,
+}
+
+impl<A: Allocator + Copy> Watch<A> {
+    /// Watches a window from where it is. Memory is taken for the values that are marked.
+    pub fn new(alloc: A, window: Window<A>) -> Result<Watch<A>, AllocError>
+        requires shaped { IsShaped window }
+        requires behind { window.reach + width window.code window.reach < window.count }
+        ensures watchable { IfOk result IsWatchable }
+        ensures watched { IsKnown window → IfOk result IsWatched }
+        ensures window { IfOk result (λ watch. watch.window ≡ window) }
+        ensures at { IfOk result (λ watch. watch.at ≡ window.count) }
+    {
+        let mark = window.copy_last(alloc)?;
+        let at = window.count;
+        Ok(Watch { window, mark, at })
+    }
+
+    /// The period with which the marked values have come again, and the heap from which on they show it.
+    pub fn seen(&self) -> SeenPeriod
+        requires { IsWatchable self.now }
+        ensures { result ≡ seen_of self.now }
+    {
+        SeenPeriod {
+            start: self.at - (self.window.reach + self.window.code.len()),
+            period: self.window.count - self.at,
+        }
+    }
+
+    /// Adds the next value, by a table of marks, and says whether the marked values come again with it: then `seen` holds for
+    /// every heap, and no shorter period does from any heap on. Memory is taken where they are marked anew, and where it is
+    /// refused nothing changes.
+    pub fn step(&mut self, alloc: A, marks: &mut [bool]) -> Result<Step, AllocError>
+        requires watchable { IsWatchable self.old }
+        requires limited { self.old.window.count < FARTHEST }
+        requires marks { MARKS ≤ length marks.old }
+        ensures watchable { IsWatchable self.new }
+        ensures same { IsSameGame self.old.window self.new.window }
+        ensures count { self.old.window.count ≤ self.new.window.count }
+        ensures next { IfOk result (λ step. self.new.window.count ≡ count_after step self.old.window.count) }
+        ensures marks { length marks.new ≡ length marks.old }
+        ensures err { OnErr result (self.new ≡ self.old) }
+        ensures stepped { IsWatched self.old → IfOk result (IsStepped self.new) }
+    {
+        self.mark_if_due(alloc)?;
+        Ok(self.push_next(marks))
+    }
+
+    // Marks the last values anew where the window has gone as far again.
+    fn mark_if_due(&mut self, alloc: A) -> Result<(), AllocError>
+        requires { IsWatchable self.old }
+        ensures watchable { IsWatchable self.new }
+        ensures window { self.new.window ≡ self.old.window }
+        ensures err { OnErr result (self.new ≡ self.old) }
+        ensures watched { IsWatched self.old → IsWatched self.new }
+    {
+        if self.window.count / 2 >= self.at {
+            self.mark = self.window.copy_last(alloc)?;
+            self.at = self.window.count;
+        }
+        Ok(())
+    }
+
+    // Adds the next value, and says whether the marked values come again with it.
+    fn push_next(&mut self, marks: &mut [bool]) -> Step
+        requires watchable { IsWatchable self.old }
+        requires limited { self.old.window.count < FARTHEST }
+        requires marks { MARKS ≤ length marks.old }
+        ensures watchable { IsWatchable self.new }
+        ensures same { IsSameGame self.old.window self.new.window }
+        ensures next { self.new.window.count ≡ count_after result self.old.window.count }
+        ensures marks { length marks.new ≡ length marks.old }
+        ensures stepped { IsWatched self.old → IsStepped self.new result }
+    {
+        if !self.window.push_next(marks) {
+            return Step::Lost;
+        }
+        if self.window.ends_with(&self.mark) {
+            Step::Again
+        } else {
+            Step::On
+        }
+    }
+}
