@@ -1,7 +1,8 @@
 //! A window that is watched until its values come again.
 
-ghost use Rattle.std.specs.Prelude.{◌≡◌, ◌+◌, ◌<◌, ◌≤◌, length, IfOk, OnErr};
+ghost use Rattle.std.specs.Prelude.{◌≡◌, ◌+◌, ◌<◌, ◌≤◌, length, max, IfOk, OnErr};
 ghost use Rattle.oct_window.specs.Watched.{count_after, IsStepped, IsWatchable, IsWatched, seen_of};
+ghost use Rattle.oct_window.specs.declared.watch.Step.TheVariants.{On};
 ghost use Rattle.oct_mex.specs.Windows.{window as width};
 ghost use Rattle.oct_window.specs.Windows.{IsKnown, IsSameGame, IsShaped};
 
@@ -72,6 +73,28 @@ impl<A: Allocator + Copy> Watch<A> {
     {
         self.mark_if_due(alloc)?;
         Ok(self.push_next(marks))
+    }
+
+    /// Steps on until the window is at the heap `end`, the marked values come again, or the window is lost. Where memory is
+    /// refused, some steps may have been made.
+    pub fn go_to(&mut self, alloc: A, end: usize, marks: &mut [bool]) -> Result<Step, AllocError>
+        requires watchable { IsWatchable self.old }
+        requires limited { end ≤ FARTHEST }
+        requires marks { MARKS ≤ length marks.old }
+        ensures watchable { IsWatchable self.new }
+        ensures same { IsSameGame self.old.window self.new.window }
+        ensures most { self.new.window.count ≤ max end self.old.window.count }
+        ensures reached { IfOk result (λ step. step ≡ On → self.new.window.count ≡ max end self.old.window.count) }
+        ensures marks { length marks.new ≡ length marks.old }
+        ensures stepped { IsWatched self.old → IfOk result (IsStepped self.new) }
+    {
+        while self.window.count < end {
+            let step = self.step(alloc, marks)?;
+            if !matches!(step, Step::On) {
+                return Ok(step);
+            }
+        }
+        Ok(Step::On)
     }
 
     // Marks the last values anew where the window has gone as far again.

@@ -17,7 +17,7 @@ use std::alloc::{AllocError, Allocator};
 pub const MARKS: usize = 65_536;
 
 /// How far a window can go: it has no heap of this size.
-pub const FARTHEST: usize = 1 << 62;
+pub const FARTHEST: usize = 1 << 60;
 
 // The reach of a window is at least so much.
 const NEAR: usize = 1_024;

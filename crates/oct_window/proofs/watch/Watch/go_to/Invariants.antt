@@ -1,0 +1,17 @@
+use Rattle.std.proofs.Common.{◌≡◌, ◌-◌, ◌≤◌, length, max}
+use Rattle.oct_window.specs.Watched.{IsWatchable, IsWatched}
+use Rattle.oct_window.specs.Windows.{IsSameGame}
+use Rattle.oct_window.proofs.watch.Watch.go_to.Given as goal
+
+abbrev pub invariant-loop-self : goal.invariant-loop-self
+invariant-loop-self g l = record {
+  watchable : IsWatchable l.self;
+  same : IsSameGame l.fn.self.window l.self.window;
+  most : l.self.window.count ≤ max l.end l.fn.self.window.count;
+  marks : length l.marks ≡ length l.fn.marks;
+  watched : IsWatched l.fn.self → IsWatched l.self;
+  least : l.fn.self.window.count ≤ l.self.window.count;
+}
+
+abbrev pub decreases-loop-self : goal.decreases-loop-self
+decreases-loop-self g l = l.end - l.self.window.count
