@@ -141,7 +141,7 @@ ends_known c reach n held values r is_held size is =
     let fits = is_held.few in
     let told = ends held values r (omega arith) is in
     let value : (i : ℕ) → i < length values → slice_index held (length held - length values + i) ≡ nim_value c (n - window c reach + i) = λ i low.
-        ap (slice_index held) (let at : length held - length values + i ≡ n - window c reach + i + length held - n = omega arith in at) ∙ is_held.last (n - window c reach + i) (omega arith) (omega arith) in (
+    ap (slice_index held) (let at : length held - length values + i ≡ n - window c reach + i + length held - n = omega arith in at) ∙ is_held.last (n - window c reach + i) (omega arith) (omega arith) in (
       (λ yes i low. told.0 yes i (omega arith) ∙ value i (omega arith)),
       (λ each. told.1 (λ i low. each i (omega arith) ∙ sym (value i low))),
     )

@@ -121,11 +121,11 @@ module _ (c d : Code) (mask other : Mask) (reach far at n count : ℕ) (mark : L
   pub goes_on : (((i : ℕ) → i < window d far → slice_index mark i ≡ nim_value d (count - window d far + i)) → ⊥) → AreMarked d other far at count mark
   goes_on not_again = subst (λ k. AreMarked d other far at k mark) (sym next)
       (marked_more d other far at n mark behind_here passed some_here marked_here settled_here
-          (λ again. not_again (subst (λ k. (i : ℕ) → i < window d far → slice_index mark i ≡ nim_value d (k - window d far + i)) (sym next) again)))
+      (λ again. not_again (subst (λ k. (i : ℕ) → i < window d far → slice_index mark i ≡ nim_value d (k - window d far + i)) (sym next) again)))
 
   -- or they do
   pub comes_again : IsFit d other → ((h : ℕ) → far < h → h < count → is_rare other h (nim_value d h) ≡ false)
       → ((i : ℕ) → i < window d far → slice_index mark i ≡ nim_value d (count - window d far + i)) → IsRepeat d (record { start = at - window d far; period = count - at })
   comes_again fit common again = subst (λ k. IsRepeat d (record { start = at - window d far; period = k - at })) (sym next)
       (repeats d other far at n mark behind_here passed some_here marked_here settled_here fit (λ h high low. common h high (omega arith))
-          (subst (λ k. (i : ℕ) → i < window d far → slice_index mark i ≡ nim_value d (k - window d far + i)) next again))
+      (subst (λ k. (i : ℕ) → i < window d far → slice_index mark i ≡ nim_value d (k - window d far + i)) next again))

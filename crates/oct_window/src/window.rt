@@ -19,9 +19,6 @@ pub const MARKS: usize = 65_536;
 /// How far a window can go: it has no heap of this size.
 pub const FARTHEST: usize = 1 << 60;
 
-// The reach of a window is at least so much.
-const NEAR: usize = 1_024;
-
 /// The values of the heaps up to a reach, with the rare ones among them, and the values of the last heaps before `count`.
 #[derive(Drop)]
 pub struct Window<A: Allocator> {
@@ -38,22 +35,26 @@ pub struct Window<A: Allocator> {
 }
 
 impl<A: Allocator + Copy> Window<A> {
-    /// The window behind the first values of a game; none where no mask serves, or where a rare heap is not below half of
-    /// them.
+    /// The window behind the first values of a game, whose reach is the first half of them; none where no mask serves, or
+    /// where a rare heap lies in the second half. It has memory for twice as many values.
     pub fn of(alloc: A, code: Code, row: &Row<u16, A>) -> Result<Option<Window<A>>, AllocError>
         requires { IsRow (λ x. x) code row.now }
         ensures { IfOk result (λ made. IfSome made (IsBegun code (vec_len row.now.values))) }
     {
         let count = row.values.len();
-        let reach = NEAR.max(greatest(&row.rare.heaps));
-        if row.rare.mask.bits == 0 || row.used > MARKS || 2 * reach + code.len() + 1 >= count {
+        let reach = count.saturating_sub(code.len() + 2) / 2;
+        if row.rare.mask.bits == 0
+            || row.used > MARKS
+            || reach == 0
+            || reach < greatest(&row.rare.heaps)
+        {
             return Ok(None);
         }
         Ok(Some(Window {
             code,
             rare: copy_of(alloc, &row.rare)?,
             reach,
-            held: Vec::from_slice(alloc, &row.values)?,
+            held: with_room(alloc, &row.values)?,
             count,
             used: row.used,
         }))
@@ -180,6 +181,17 @@ impl<A: Allocator + Copy> Window<A> {
             self.used *= 2;
         }
     }
+}
+
+// A copy of a list with room for twice as many values.
+fn with_room<A: Allocator + Copy>(alloc: A, values: &[u16]) -> Result<Vec<u16, A>, AllocError>
+    requires { length values.now ≤ 2 ^ 32 }
+    ensures items { IfOk result (λ copy. copy.items ≡ values.now) }
+    ensures room { IfOk result (λ copy. 2 * length values.now ≤ vec_capacity copy) }
+{
+    let mut copy = Vec::with_capacity(alloc, 2 * values.len())?;
+    copy.extend_from_slice(values)?;
+    Ok(copy)
 }
 
 // A copy of the lists of the rare heaps.

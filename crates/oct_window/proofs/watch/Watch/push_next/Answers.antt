@@ -33,6 +33,6 @@ returns-then-ends_with-clause-stepped g c watched =
     let known = c.push_next.ensures.known watched.known in
     let next : w.count ≡ v.count + 1 = subst (λ b. w.count ≡ (if b then v.count + 1 else v.count)) yes c.push_next.ensures.count in
     let again = subst (λ (xs : List ℕ). (i : ℕ) → i < window w.code w.reach → slice_index xs i ≡ nim_value w.code (w.count - window w.code w.reach + i)) c.deref.ensures.value
-        ((c.ends_with.ensures known).0 c.if-ends_with.true) in
+    ((c.ends_with.ensures known).0 c.if-ends_with.true) in
     comes_again v.code w.code v.rare.mask w.rare.mask v.reach w.reach old.at v.count w.count old.mark.items same.code same.mask same.reach next fits.behind fits.passed fits.shaped.near
     watched.marked (c.push_next.ensures.settled watched.known yes) known.fit known.common again
