@@ -1,3 +1,4 @@
 pub mod Begun
 pub mod Held
+pub mod Shown
 pub mod Watching

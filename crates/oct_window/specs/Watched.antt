@@ -1,5 +1,5 @@
 -- A watch over a window.
-use Rattle.std.specs.Prelude.{◌≡◌, ℕ, ◌+◌, ◌-◌, ◌<◌, ◌≤◌, List, slice_index}
+use Rattle.std.specs.Prelude.{◌≡◌, ℕ, ◌+◌, ◌-◌, ◌*◌, ◌<◌, ◌≤◌, List, slice_index}
 use Rattle.std.specs.Vec.{vec_len}
 use Rattle.oct_code.specs.Code.{Code}
 use Rattle.oct_mex.specs.NimValues.{nim_value}
@@ -23,6 +23,7 @@ pub record IsWatchable {A : Type 0} (w : Watch A) : Type 0 where
   pub size : vec_len w.mark ≡ width w
   pub behind : w.window.reach + width w < w.at
   pub passed : w.at ≤ w.window.count
+  pub fresh : w.window.count ≤ 2 * w.at
 
 -- the marked values are those before `at`; each heap from there on is settled, and behind none of them do the marked values come again
 pub record AreMarked (c : Code) (mask : Mask) (reach at count : ℕ) (mark : List ℕ) : Type 0 where

@@ -22,6 +22,7 @@ pub fn extend<A: Allocator + Copy>(
     ensures len { IfOk result (λ all. all ≡ true → vec_len row.new.values ≡ max count (vec_len row.old.values)) }
     ensures past { IfOk result (λ all. all ≡ false → 2 ^ 16 ≤ nim_value code.now (vec_len row.new.values)) }
     ensures most { vec_len row.new.values ≤ max count (vec_len row.old.values) }
+    ensures marks { vec_len marks.old ≤ vec_len marks.new }
 {
     row.room_to(count)?;
     for _ in row.values.len()..count {
@@ -46,6 +47,7 @@ fn push_next<A: Allocator + Copy>(
     ensures len { IfOk result (λ fits. vec_len row.new.values ≡ (if fits then vec_len row.old.values + 1 else vec_len row.old.values)) }
     ensures err { OnErr result (vec_len row.new.values ≡ vec_len row.old.values) }
     ensures past { IfOk result (λ fits. fits ≡ false → 2 ^ 16 ≤ nim_value code.now (vec_len row.old.values)) }
+    ensures marks { vec_len marks.old ≤ vec_len marks.new }
 {
     if marks.len() < row.used {
         marks.resize(row.used, false)?;

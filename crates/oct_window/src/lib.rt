@@ -12,6 +12,7 @@
 
 mod ends;
 mod first;
+pub mod laws;
 mod watch;
 mod window;
 

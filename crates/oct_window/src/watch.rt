@@ -1,6 +1,6 @@
 //! A window that is watched until its values come again.
 
-ghost use Rattle.std.specs.Prelude.{◌≡◌, ◌+◌, ◌<◌, ◌≤◌, length, max, IfOk, OnErr};
+ghost use Rattle.std.specs.Prelude.{◌≡◌, ◌+◌, ◌*◌, ◌<◌, ◌≤◌, length, max, IfOk, OnErr, OnOk};
 ghost use Rattle.oct_window.specs.Watched.{count_after, IsStepped, IsWatchable, IsWatched, seen_of};
 ghost use Rattle.oct_window.specs.declared.watch.Step.TheVariants.{On};
 ghost use Rattle.oct_mex.specs.Windows.{window as width};
@@ -102,6 +102,7 @@ impl<A: Allocator + Copy> Watch<A> {
         requires { IsWatchable self.old }
         ensures watchable { IsWatchable self.new }
         ensures window { self.new.window ≡ self.old.window }
+        ensures fresh { OnOk result (self.new.window.count < 2 * self.new.at) }
         ensures err { OnErr result (self.new ≡ self.old) }
         ensures watched { IsWatched self.old → IsWatched self.new }
     {
@@ -115,6 +116,7 @@ impl<A: Allocator + Copy> Watch<A> {
     // Adds the next value, and says whether the marked values come again with it.
     fn push_next(&mut self, marks: &mut [bool]) -> Step
         requires watchable { IsWatchable self.old }
+        requires fresh { self.old.window.count < 2 * self.old.at }
         requires limited { self.old.window.count < FARTHEST }
         requires marks { MARKS ≤ length marks.old }
         ensures watchable { IsWatchable self.new }

@@ -7,5 +7,6 @@ invariant-loop g l = record {
   row : IsRow (λ x. x) l.code l.row;
   len : vec_len l.row.values ≡ l.counter;
   room : l.count ≤ vec_capacity l.row.values;
+  marks : vec_len l.fn.marks ≤ vec_len l.marks;
   most : l.counter ≤ max l.count (vec_len l.fn.row.values);
 }

@@ -1,0 +1,9 @@
+//! What holds of the periods of every game. A caller gets each law from the contract of its function.
+
+ghost use Rattle.oct_window.specs.Repeats.{ShownPeriodsAreLeast};
+
+/// The least period that first nim-values show, from the least heap, is the least period of the game, and holds from no
+/// earlier heap on.
+pub fn shown_periods_are_least()
+    ensures { ShownPeriodsAreLeast }
+{}
