@@ -1,4 +1,6 @@
 pub use Rattle.oct_code.specs.Code
-pub mod Windows
+pub mod Comparisons
 pub mod Repeats
+pub mod Seeking
 pub mod Watched
+pub mod Windows

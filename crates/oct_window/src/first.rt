@@ -21,6 +21,8 @@ pub fn extend<A: Allocator + Copy>(
     ensures row { IsRow (λ x. x) code.now row.new }
     ensures len { IfOk result (λ all. all ≡ true → vec_len row.new.values ≡ max count (vec_len row.old.values)) }
     ensures past { IfOk result (λ all. all ≡ false → 2 ^ 16 ≤ nim_value code.now (vec_len row.new.values)) }
+    ensures short { IfOk result (λ all. all ≡ false → vec_len row.new.values < count) }
+    ensures more { vec_len row.old.values ≤ vec_len row.new.values }
     ensures most { vec_len row.new.values ≤ max count (vec_len row.old.values) }
     ensures marks { vec_len marks.old ≤ vec_len marks.new }
 {

@@ -10,12 +10,21 @@
 //! Where a window of values comes again, all that follows does (`oct_mex::laws::settled_runs_hold`).
 #![tactic(auto)]
 
+mod comparison;
 mod ends;
 mod first;
 pub mod laws;
+mod progress;
+mod reader;
+mod seeking;
+mod sought;
 mod watch;
 mod window;
 
+pub use comparison::Comparison;
 pub use first::extend;
+pub use progress::Progress;
+pub use seeking::{SeekError, seek};
+pub use sought::Sought;
 pub use watch::{Step, Watch};
 pub use window::{FARTHEST, MARKS, Window};

@@ -8,5 +8,6 @@ invariant-loop g l = record {
   len : vec_len l.row.values ≡ l.counter;
   room : l.count ≤ vec_capacity l.row.values;
   marks : vec_len l.fn.marks ≤ vec_len l.marks;
+  more : vec_len l.fn.row.values ≤ l.counter;
   most : l.counter ≤ max l.count (vec_len l.fn.row.values);
 }

@@ -1,0 +1,15 @@
+use Rattle.std.proofs.Common.{arith}
+use Rattle.std.proofs.lemmas.Grind.{common_steps}
+use Rattle.oct_window.proofs.reader.Reader.go_to.Goals as goal
+
+pub returns-then-is_none-clause-right : goal.returns-then-is_none-clause-right
+returns-then-is_none-clause-right g c code right = c.next.ensures.right code (c.loop.invariant.right code right)
+
+pub loop-preserved : goal.loop-preserved
+loop-preserved g c = record {
+  step = c.next.ensures.step;
+  heap = grind (arith, common_steps);
+  more = omega arith;
+  most = omega arith;
+  right = λ code right. c.next.ensures.right code (c.loop.invariant.right code right);
+}

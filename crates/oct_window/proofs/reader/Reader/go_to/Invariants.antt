@@ -1,0 +1,13 @@
+use Rattle.std.proofs.Common.{◌≡◌, ◌≤◌, max, vec_len}
+use Rattle.oct_code.specs.Code as octal
+use Rattle.oct_window.specs.Comparisons.{IsInStep, IsRight}
+use Rattle.oct_window.proofs.reader.Reader.go_to.Given as goal
+
+abbrev pub invariant-loop : goal.invariant-loop
+invariant-loop g l = record {
+  step : IsInStep (vec_len l.row.values) l.self;
+  heap : l.self.heap ≡ l.counter;
+  more : l.initial.self.heap ≤ l.counter;
+  most : l.counter ≤ max l.end l.initial.self.heap;
+  right : (c : octal.Code) → IsRight c l.initial.self → IsRight c l.self;
+}

@@ -1,0 +1,17 @@
+use Rattle.std.proofs.Common.{◌-◌, ◌≤◌, vec_len}
+use Rattle.oct_mex.specs.Row.{IsRow}
+use Rattle.oct_window.specs.declared.seeking.TheConstants.{MOST_LISTED}
+use Rattle.oct_window.specs.declared.window.TheConstants.{MARKS}
+use Rattle.oct_window.proofs.seeking.seek.Given as goal
+
+abbrev pub invariant-loop-marks : goal.invariant-loop-marks
+invariant-loop-marks g l = record {
+  row : IsRow (λ x. x) l.code l.row;
+  few : vec_len l.row.values ≤ l.count;
+  some : 1 ≤ l.size;
+  most : l.size ≤ MOST_LISTED;
+  marks : MARKS ≤ vec_len l.marks;
+}
+
+abbrev pub decreases-loop-marks : goal.decreases-loop-marks
+decreases-loop-marks g l = MOST_LISTED - l.size

@@ -1,0 +1,50 @@
+-- What a search for a period in windows comes to.
+use Rattle.std.specs.Prelude.{◌≡◌, ℕ, ◌+◌, ◌-◌, ◌*◌, ◌^◌, ◌<◌, ◌≤◌}
+use Rattle.oct_code.specs.Code.{Code}
+use Rattle.oct_mex.specs.NimValues.{nim_value}
+use Rattle.oct_mex.specs.Periods.{IsPeriodicWithin, NoneIsShown}
+use Rattle.oct_mex.specs.Windows.{window}
+use Rattle.oct_window.specs.Repeats.{IsLeastPeriod}
+use Rattle.oct_window.specs.declared.seeking.SeekError.{SeekError}
+use Rattle.oct_window.specs.declared.seeking.SeekError.TheVariants.{OutOfMemory, PastValue}
+use Rattle.oct_mex.specs.declared.period.SeenPeriod.{SeenPeriod}
+use Rattle.oct_window.specs.declared.seeking.TheConstants.{MOST_LISTED}
+use Rattle.oct_window.specs.declared.seeking.Tried.{Tried}
+use Rattle.oct_window.specs.declared.seeking.Tried.TheVariants.{Done, Lost}
+use Rattle.oct_window.specs.declared.sought.Sought.{Sought}
+use Rattle.oct_window.specs.declared.sought.Sought.TheVariants.{Least, Unshown, Unseen}
+
+-- the values before some heap, which is at least half of `count`, do not come again before `count`
+pub record NoneIsSeen (c : Code) (count : ℕ) : Type 0 where
+  pub reach : ℕ
+  pub at : ℕ
+  pub late : count ≤ 2 * at
+  pub none : (n : ℕ) → at < n → n ≤ count → IsPeriodicWithin c (at - window c reach) (n - at) at → ⊥
+
+-- the least period of the game, from its least heap on, which so many nim-values show
+pub record IsLeastOf (c : Code) (count : ℕ) (seen : SeenPeriod) (values : ℕ) : Type 0 where
+  pub least : IsLeastPeriod c seen
+  pub within : seen.start + seen.period ≤ values
+  pub few : values ≤ count
+
+-- at most `count` nim-values show the game's least period; or so many prove none; or in all of them the last marked window does not come again
+abbrev pub IsSought : Code → ℕ → Sought → Type 0
+IsSought c count (Least seen values) = IsLeastOf c count seen values
+IsSought c count (Unshown values) = (values ≤ count) × NoneIsShown c values values
+IsSought c count (Unseen values) = (values ≡ count) × NoneIsSeen c count
+
+-- the nim-value of some heap below `count` is above 65,535
+pub record IsPast (c : Code) (count : ℕ) : Type 0 where
+  pub heap : ℕ
+  pub within : heap < count
+  pub great : 2 ^ 16 ≤ nim_value c heap
+
+-- where memory is refused there is nothing to say of the game
+abbrev pub IsSeekError : Code → ℕ → SeekError → Type 0
+IsSeekError c count OutOfMemory = Unit {0}
+IsSeekError c count PastValue = IsPast c count
+
+-- what so many listed values, and a window behind them, come to
+abbrev pub IsTried : Code → ℕ → ℕ → Tried → Type 0
+IsTried c listed count (Done sought) = IsSought c count sought
+IsTried c listed count (Lost heap) = (listed < count) × (listed < MOST_LISTED) × (heap ≤ count)

@@ -1,0 +1,137 @@
+//! The least heap from which on a period holds.
+
+ghost use Rattle.std.specs.Prelude.{◌≡◌, ℕ, ◌+◌, ◌<◌, ◌≤◌, true, false, length, max, vec_len};
+ghost use Rattle.oct_code.specs.Code as octal;
+ghost use Rattle.oct_mex.specs.Row.{IsRow};
+ghost use Rattle.oct_window.specs.Comparisons.{IsCompared, IsInStep, IsPaired, IsRight};
+ghost use Rattle.oct_window.specs.Windows.{IsBegun, IsShaped};
+
+use crate::reader::Reader;
+use crate::window::{FARTHEST, MARKS, Window};
+use oct_mex::Row;
+use std::alloc::Allocator;
+
+/// Finds the least heap, from 1 on, from which on a period holds. Two readers of the nim-values go on from heap 0, the
+/// second one a period ahead of the first. Behind the last heap at which they differ the period holds.
+#[derive(Drop)]
+pub struct Comparison<A: Allocator> {
+    /// The heaps before its own are compared.
+    pub first: Reader<A>,
+    /// It reads the values a period later.
+    pub second: Reader<A>,
+    pub period: usize,
+    /// The least heap, from 1 on, from which on the period holds, as far as the heaps are compared.
+    pub start: usize,
+}
+
+impl<A: Allocator + Copy> Comparison<A> {
+    /// Nothing is compared. Both windows begin behind the same row.
+    pub fn new(first: Window<A>, second: Window<A>, period: usize) -> Comparison<A>
+        requires first { IsShaped first }
+        requires second { IsShaped second }
+        requires same { second.count ≡ first.count }
+        ensures paired { IsPaired first.count result }
+        ensures heap { result.first.heap ≡ 0 }
+        ensures ahead { result.second.heap ≡ 0 }
+        ensures period { result.period ≡ period }
+        ensures compared { (c : octal.Code) (values : ℕ) → IsBegun c values first → IsBegun c values second → IsCompared c result }
+    {
+        Comparison {
+            first: Reader::new(first),
+            second: Reader::new(second),
+            period,
+            start: 1,
+        }
+    }
+
+    /// How many heaps are compared.
+    pub fn heap(&self) -> usize
+        ensures { result ≡ self.now.first.heap }
+    {
+        self.first.heap
+    }
+
+    /// The heap that the second reader reads next.
+    pub fn ahead(&self) -> usize
+        ensures { result ≡ self.now.second.heap }
+    {
+        self.second.heap
+    }
+
+    /// The least heap, from 1 on, from which on the period holds, as far as the heaps are compared.
+    pub fn start(&self) -> usize
+        ensures { result ≡ self.now.start }
+    {
+        self.start
+    }
+
+    /// Moves the second reader on to the heap `end`, and says whether its window tells the values before it: else the reader
+    /// stays at the first that it does not tell. Heaps can be compared once it is at the period. Takes no memory.
+    pub fn go_ahead(&mut self, row: &Row<u16, A>, end: usize, marks: &mut [bool]) -> bool
+        requires paired { IsPaired (vec_len row.now.values) self.old }
+        requires limited { end ≤ FARTHEST }
+        requires marks { MARKS ≤ length marks.old }
+        ensures paired { IsPaired (vec_len row.now.values) self.new }
+        ensures by_row { end ≤ vec_len row.now.values → result ≡ true }
+        ensures ahead { result ≡ true → self.new.second.heap ≡ max end self.old.second.heap }
+        ensures short { result ≡ false → self.new.second.heap < end }
+        ensures more { self.old.second.heap ≤ self.new.second.heap }
+        ensures same { self.new ≡ record self.old { second = self.new.second } }
+        ensures marks { length marks.new ≡ length marks.old }
+        ensures compared { (c : octal.Code) → IsCompared c self.old → IsCompared c self.new }
+    {
+        self.second.go_to(row, end, marks)
+    }
+
+    /// Compares on until each heap below `end` is compared, and says whether the windows tell the values that this takes:
+    /// else it stays at the first heap for which they do not, and cannot go on. Takes no memory.
+    pub fn compare(&mut self, row: &Row<u16, A>, end: usize, marks: &mut [bool]) -> bool
+        requires paired { IsPaired (vec_len row.now.values) self.old }
+        requires ahead { self.old.second.heap ≡ self.old.first.heap + self.old.period }
+        requires limited { end + self.old.period ≤ FARTHEST }
+        requires marks { MARKS ≤ length marks.old }
+        ensures paired { IsPaired (vec_len row.now.values) self.new }
+        ensures by_row { end + self.old.period ≤ vec_len row.now.values → result ≡ true }
+        ensures ahead { result ≡ true → self.new.second.heap ≡ self.new.first.heap + self.new.period }
+        ensures heap { result ≡ true → self.new.first.heap ≡ max end self.old.first.heap }
+        ensures short { result ≡ false → self.new.first.heap < end }
+        ensures more { self.old.first.heap ≤ self.new.first.heap }
+        ensures period { self.new.period ≡ self.old.period }
+        ensures marks { length marks.new ≡ length marks.old }
+        ensures compared { (c : octal.Code) → IsRow (λ x. x) c row.now → IsCompared c self.old → IsCompared c self.new }
+    {
+        for _ in self.first.heap..end {
+            if !self.compare_next(row, marks) {
+                return false;
+            }
+        }
+        true
+    }
+
+    // Compares the next heap, if the windows tell its value and the one a period later.
+    fn compare_next(&mut self, row: &Row<u16, A>, marks: &mut [bool]) -> bool
+        requires paired { IsPaired (vec_len row.now.values) self.old }
+        requires ahead { self.old.second.heap ≡ self.old.first.heap + self.old.period }
+        requires limited { self.old.second.heap < FARTHEST }
+        requires marks { MARKS ≤ length marks.old }
+        ensures paired { IsPaired (vec_len row.now.values) self.new }
+        ensures by_row { self.old.second.heap < vec_len row.now.values → result ≡ true }
+        ensures ahead { result ≡ true → self.new.second.heap ≡ self.new.first.heap + self.new.period }
+        ensures heap { result ≡ true → self.new.first.heap ≡ self.old.first.heap + 1 }
+        ensures short { result ≡ false → self.new.first.heap ≡ self.old.first.heap }
+        ensures period { self.new.period ≡ self.old.period }
+        ensures marks { length marks.new ≡ length marks.old }
+        ensures compared { (c : octal.Code) → IsRow (λ x. x) c row.now → IsCompared c self.old → IsCompared c self.new }
+    {
+        let Some(later) = self.second.next(row, marks) else {
+            return false;
+        };
+        let Some(value) = self.first.next(row, marks) else {
+            return false;
+        };
+        if value != later {
+            self.start = self.first.heap;
+        }
+        true
+    }
+}
