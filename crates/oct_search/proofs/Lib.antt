@@ -1,1 +1,2 @@
 pub mod CellReads
+pub mod Certificates

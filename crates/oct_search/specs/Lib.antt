@@ -1,5 +1,6 @@
 pub use Rattle.oct_code.specs.Code
 pub mod Cells
+pub mod Certain
 pub mod Fields
 pub mod Found
 pub mod Known

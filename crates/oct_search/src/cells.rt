@@ -1,17 +1,20 @@
 //! The nim-values of a game in cells of 8 bits until one exceeds 255, and then of 16.
 
-ghost use Rattle.std.specs.Prelude.{◌≡◌, ◌+◌, ◌^◌, ◌<◌, ◌≤◌, if◌then◌else◌, false, vec_len, IfErr, IfOk, OnErr, OnOk};
+ghost use Rattle.std.specs.Prelude.{◌≡◌, ◌+◌, ◌^◌, ◌<◌, ◌≤◌, if◌then◌else◌, false, vec_capacity, vec_len, IfErr, IfOk, IfSome, OnErr, OnOk};
 ghost use Rattle.oct_code.specs.Code as octal;
 ghost use Rattle.oct_mex.specs.NimValues.{nim_value};
+ghost use Rattle.oct_mex.specs.Periods.{GoesOn};
 ghost use Rattle.oct_mex.specs.Row.{IsRow};
 ghost use Rattle.oct_search.specs.Cells.{IsKnown, bound_of, len_of};
+ghost use Rattle.oct_search.specs.Certain.{IsCertain};
 ghost use Rattle.oct_search.specs.Found.{IsFound};
 ghost use Rattle.oct_search.specs.declared.error.SearchError.TheVariants.{PastValue};
 
+use crate::certificate::certain_period;
 use crate::error::SearchError;
 use crate::search::MOST;
 use oct_code::Code;
-use oct_mex::{Cell, Rare, Row, SeenPeriod, expected_need, find_shown};
+use oct_mex::{Cell, Rare, Row, SeenPeriod, expected_period, find_shown};
 use std::alloc::{AllocError, Allocator};
 
 // The room for values grows by one in so many, and some more.
@@ -67,13 +70,51 @@ impl<A: Allocator + Copy> Cells<A> {
         }
     }
 
-    /// How many values are expected to show a period, or 0.
-    pub(crate) fn expected_need(&self, code: &Code) -> usize
+    /// The least period that the last values let expect, seen from some heap on, if they let expect one.
+    pub(crate) fn expected_period(&self) -> Option<SeenPeriod>
         requires { len_of self.now ≤ MOST }
+        ensures { IfSome result (λ seen. seen.start + seen.period ≤ len_of self.now) }
     {
         match self {
-            Cells::Narrow(row) => expected_need(code, &row.values),
-            Cells::Wide(row) => expected_need(code, &row.values),
+            Cells::Narrow(row) => expected_period(&row.values),
+            Cells::Wide(row) => expected_period(&row.values),
+        }
+    }
+
+    /// The least period that the last values let expect, if they are known to go on with it. It may need memory for marks.
+    pub(crate) fn certain_period(
+        &self,
+        code: &Code,
+        marks: &mut Vec<bool, A>,
+    ) -> Result<Option<SeenPeriod>, AllocError>
+        requires { IsKnown code.now self.now }
+        ensures { IfOk result (λ found. IfSome found (IsCertain code.now (len_of self.now))) }
+    {
+        match self {
+            Cells::Narrow(row) => {
+                lengthen(marks, row.used)?;
+                Ok(certain_period(row, code, marks))
+            }
+            Cells::Wide(row) => {
+                lengthen(marks, row.used)?;
+                Ok(certain_period(row, code, marks))
+            }
+        }
+    }
+
+    /// Adds the value of the heap one period before. Without memory the values stay.
+    pub(crate) fn push_again(&mut self, code: &Code, period: usize) -> Result<(), AllocError>
+        requires known { IsKnown code.now self.old }
+        requires limited { len_of self.old < MOST }
+        requires some { 1 ≤ period }
+        requires on { GoesOn code.now (len_of self.old) period }
+        ensures known { IsKnown code.now self.new }
+        ensures ok { OnOk result (len_of self.new ≡ len_of self.old + 1) }
+        ensures err { OnErr result (len_of self.new ≡ len_of self.old) }
+    {
+        match self {
+            Cells::Narrow(row) => push_again_in(row, code, period),
+            Cells::Wide(row) => push_again_in(row, code, period),
         }
     }
 
@@ -134,14 +175,52 @@ fn push_in<T: Cell, A: Allocator + Copy>(
     ensures err { OnErr result (vec_len row.new.values ≡ vec_len row.old.values) }
     ensures past { IfOk result (λ fits. fits ≡ false → T.bound ≤ nim_value code.now (vec_len row.old.values)) }
 {
+    make_room(row)?;
+    lengthen(marks, row.used)?;
+    Ok(row.push_next(code, marks))
+}
+
+// Adds the value of the heap one period before. Without memory the values stay.
+fn push_again_in<T: Cell, A: Allocator + Copy>(
+    row: &mut Row<T, A>,
+    code: &Code,
+    period: usize,
+) -> Result<(), AllocError>
+    requires row { IsRow T.number code.now row.old }
+    requires limited { vec_len row.old.values < MOST }
+    requires some { 1 ≤ period }
+    requires on { GoesOn code.now (vec_len row.old.values) period }
+    ensures row { IsRow T.number code.now row.new }
+    ensures ok { OnOk result (vec_len row.new.values ≡ vec_len row.old.values + 1) }
+    ensures err { OnErr result (vec_len row.new.values ≡ vec_len row.old.values) }
+{
+    make_room(row)?;
+    row.push_again(code, period);
+    Ok(())
+}
+
+// Makes room for one more value. Without memory nothing changes but the room.
+fn make_room<T: Cell, A: Allocator + Copy>(row: &mut Row<T, A>) -> Result<(), AllocError>
+    requires { vec_len row.old.values < MOST }
+    ensures row { (c : octal.Code) → IsRow T.number c row.old → IsRow T.number c row.new }
+    ensures len { vec_len row.new.values ≡ vec_len row.old.values }
+    ensures room { OnOk result (vec_len row.new.values < vec_capacity row.new.values) }
+{
     let len = row.values.len();
     if len == row.values.capacity() {
         row.room_to(MOST.min(len + len / SHARE + SPARE))?;
     }
-    if marks.len() < row.used {
-        marks.resize(row.used, false)?;
+    Ok(())
+}
+
+// Makes a table of marks at least so long.
+fn lengthen<A: Allocator>(marks: &mut Vec<bool, A>, len: usize) -> Result<(), AllocError>
+    ensures { OnOk result (len ≤ vec_len marks.new) }
+{
+    if marks.len() < len {
+        marks.resize(len, false)?;
     }
-    Ok(row.push_next(code, marks))
+    Ok(())
 }
 
 // The same values in wider cells.

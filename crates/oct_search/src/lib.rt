@@ -13,12 +13,14 @@
 //! sixteenth: a list of some 400 million values takes as many bytes. How the next one is found, by a mask that parts
 //! the heaps and by a table of marks, is that of `oct_mex`, whose functions are the same for each width.
 //!
-//! A period is looked for at lengths that grow by a quarter, mostly at two heaps for each.
+//! A period is looked for at lengths that grow by a quarter, mostly at two heaps for each. Often one run of it proves that
+//! the values go on with it long before they show it (`certificate`). Then the values that it takes are copied.
 //!
 //! What nim-values, periods and what proves them are is defined in `oct_mex`.
 #![tactic(auto)]
 
 mod cells;
+mod certificate;
 mod error;
 mod search;
 #[cfg(test)]

@@ -7,10 +7,11 @@ ghost use Rattle.oct_search.specs.Found.{IsFound};
 ghost use Rattle.oct_search.specs.declared.error.SearchError.TheVariants.{PastValue};
 
 use crate::cells::Cells;
+use crate::certificate::need_of;
 use crate::error::SearchError;
 use oct_code::Code;
 use oct_mex::SeenPeriod;
-use std::alloc::Allocator;
+use std::alloc::{AllocError, Allocator};
 use std::marker::Model;
 
 /// The most nim-values that are computed: those of the heaps 0 to `MOST - 1`.
@@ -19,6 +20,9 @@ pub const MOST: usize = 4_294_967_296;
 // Fewer values are not searched for a period.
 const FIRST_LOOK: usize = 64;
 
+// Fewer are not tried for one with which they go on.
+const FIRST_TRY: usize = 4_096;
+
 /// The nim-values of the heaps 0, 1, .. of a game, as far as they are computed.
 #[derive(Drop)]
 pub struct Search<A: Allocator + Copy> {
@@ -26,6 +30,10 @@ pub struct Search<A: Allocator + Copy> {
     cells: Cells<A>,
     marks: Vec<bool, A>,
     alloc: A,
+    // A period with which the values go on, once one is known.
+    certain: Option<SeenPeriod>,
+    // How many values there are when one is tried next.
+    due: usize,
 }
 
 impl<A: Allocator + Copy> Model for Search<A> {
@@ -49,6 +57,8 @@ impl<A: Allocator + Copy> Search<A> {
             cells: Cells::new(alloc),
             marks: Vec::new(alloc),
             alloc,
+            certain: None,
+            due: FIRST_TRY,
         }
     }
 
@@ -101,8 +111,8 @@ impl<A: Allocator + Copy> Search<A> {
         }
     }
 
-    /// Computes the nim-values of `count` heaps. Where memory is refused, or the next nim-value is above 65,535, those
-    /// before it stand.
+    /// Computes the nim-values of `count` heaps, or copies them once they are known to go on with a period. Where memory is
+    /// refused, or the next nim-value is above 65,535, those before it stand.
     pub fn extend(&mut self, count: usize) -> Result<(), SearchError>
         requires { count ≤ MOST }
         ensures code { self.new.code ≡ self.old.code }
@@ -112,20 +122,38 @@ impl<A: Allocator + Copy> Search<A> {
         ensures past { IfErr result (λ fault. fault ≡ PastValue → 2 ^ 16 ≤ nim_value self.new.code self.new.len) }
     {
         for _ in self.cells.len()..count {
+            self.look_ahead()?;
             self.push_next()?;
         }
         Ok(())
     }
 
-    // Adds the next value. A refusal leaves the values as they are.
+    // Tries for a period with which the values go on, at lengths that grow by a quarter, until one is known.
+    fn look_ahead(&mut self) -> Result<(), AllocError>
+        ensures { self.new ≡ self.old }
+    {
+        let len = self.len();
+        if self.certain.is_none() && len >= self.due {
+            self.due = len + len / 4;
+            self.certain = self.cells.certain_period(&self.code, &mut self.marks)?;
+        }
+        Ok(())
+    }
+
+    // Adds the next value: the one a period before, or else the mex. A refusal leaves the values as they are.
     fn push_next(&mut self) -> Result<(), SearchError>
         requires { self.old.len < MOST }
         ensures ok { OnOk result (self.new ≡ record self.old { len = self.old.len + 1 }) }
         ensures err { OnErr result (self.new ≡ self.old) }
         ensures past { IfErr result (λ fault. fault ≡ PastValue → 2 ^ 16 ≤ nim_value self.new.code self.new.len) }
     {
-        self.cells
-            .push_next(self.alloc, &self.code, &mut self.marks)
+        if let Some(seen) = self.certain {
+            self.cells.push_again(&self.code, seen.period)?;
+            Ok(())
+        } else {
+            self.cells
+                .push_next(self.alloc, &self.code, &mut self.marks)
+        }
     }
 
     /// The least period that the values show so far that it holds for ever: twice the heap from which on it is seen, twice
@@ -137,19 +165,32 @@ impl<A: Allocator + Copy> Search<A> {
         self.cells.find_period(&self.code)
     }
 
-    /// How many values there should be when a period is looked for next, more than there are now: a quarter more, or as many
-    /// as the period takes that they let expect, where that is not much more. It may be more than `MOST`.
+    /// How many values there should be when a period is looked for next, more than there are now: as many as show the one
+    /// with which they are known to go on; or else a quarter more, or as many as the period takes that they let expect,
+    /// where that is not much more. It may be more than `MOST`.
     pub fn next_look(&self) -> usize
         ensures { self.now.len < result }
     {
         let len = self.cells.len();
         let next = FIRST_LOOK.max(len + len / 4);
-        let need = self.cells.expected_need(&self.code);
-        if len < need && need < next + len / 2 {
-            need
-        } else {
-            next
+        if let Some(seen) = self.certain {
+            return self.look_by(seen, next, MOST + 1);
         }
+        if let Some(seen) = self.cells.expected_period() {
+            return self.look_by(seen, next, next + len / 2);
+        }
+        next
+    }
+
+    // As many values as show a period, where there are fewer and it is below `end`, and else `next`.
+    fn look_by(&self, seen: SeenPeriod, next: usize, end: usize) -> usize
+        requires within { seen.start + seen.period ≤ self.now.len }
+        requires more { self.now.len < next }
+        ensures { self.now.len < result }
+    {
+        let len = self.len();
+        let need = need_of(&self.code, seen);
+        if len < need && need < end { need } else { next }
     }
 
     /// Computes nim-values until they show a period, as `find_period` says, or those of `count` heaps are known. A period is

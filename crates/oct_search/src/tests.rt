@@ -1,5 +1,6 @@
 //! Periods of the literature, far beyond the limit of the games.
 
+use crate::cells::Cells;
 use crate::search::Search;
 use oct_code::Code;
 use oct_mex::SeenPeriod;
@@ -80,4 +81,20 @@ fn values_above_255_are_held(rt: HostRuntime) {
     assert_eq!(&rt; search.value(235), Some(256), "of heap 235");
     assert_eq!(&rt; search.value(1_499), Some(128), "of heap 1,499");
     assert_eq!(&rt; search.known(235), 256, "of heap 235");
+}
+
+// The period 349 from heap 3,479 on takes 7,659 values to show itself.
+#[test]
+fn one_settled_period_is_enough(rt: HostRuntime) {
+    let code = Code::parse(b"0.156").ok().expect(&rt, "a code");
+    let mut cells = Cells::new(rt.alloc());
+    let mut marks = Vec::new(rt.alloc());
+    for _ in 0..5_120usize {
+        let pushed = cells.push_next(rt.alloc(), &code, &mut marks);
+        assert!(&rt; pushed.is_ok(), "memory");
+    }
+    let found = cells.certain_period(&code, &mut marks);
+    let seen = found.ok().expect(&rt, "memory").expect(&rt, "a period");
+    assert_eq!(&rt; seen.period, 349, "the period");
+    assert_eq!(&rt; seen.start, 3_479, "the heap from which it is seen");
 }

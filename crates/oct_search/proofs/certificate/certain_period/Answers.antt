@@ -1,0 +1,20 @@
+use Rattle.std.proofs.Common.{map, sym, subst, ◌∙◌, arith, vec_len}
+use Rattle.std.proofs.lemmas.Bool.{ltb-true}
+use Rattle.oct_mex.specs.Periods.{ComesAgain, GoesOn}
+use Rattle.oct_search.proofs.Certificates.{goes_on_if_shown}
+use Rattle.oct_search.proofs.certificate.certain_period.Goals.{then-spared-eq0, else-spared-eq0+then-seen-spared, else-spared-eq0+else-seen-spared}
+use Rattle.oct_search.proofs.certificate.certain_period.Goals as goal
+
+pub returns-then-goes_on : goal.returns-then-goes_on
+returns-then-goes_on g c =
+    let code = c.args.code.now in
+    let row = c.args.row.now in
+    let seen = c.in_ok-seen.seen in
+    let number = g.T.Cell.number in
+    let again : ComesAgain (map number row.values.items) seen.start seen.period = subst (λ xs. ComesAgain (map number xs) seen.start seen.period) c.deref.ensures.value c.in_ok-seen.ensures.again in
+    let on : GoesOn code (vec_len row.values) seen.period = elim c.if-spared-eq0.branch [
+      | then-spared-eq0 w ↦ goes_on_if_shown number code row seen.start seen.period c.requires.row c.in_ok-seen.ensures.first (omega arith) again
+      | else-spared-eq0+then-seen-spared w ↦ w.goes_on.ensures.goes_on (sym w.value-is ∙ c.if-goes_on.true)
+      | else-spared-eq0+else-seen-spared w ↦ absurd (omega (arith, ltb-true seen.period c.saturating_sub-spared.result (sym w.value-is ∙ c.if-goes_on.true)))
+    ] in
+    record { some = c.in_ok-seen.ensures.some; within = omega (arith, c.in_ok-seen.ensures.within, c.deref.ensures.len); on = on }

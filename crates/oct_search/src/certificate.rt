@@ -1,0 +1,117 @@
+//! A period that one run of it proves.
+//!
+//! By themselves the values show a period only once there are twice as many as the heaps before it and in it. Where no heap
+//! above a reach is rare, fewer are enough: if the heaps up to the reach settle the value of each heap of the last period,
+//! and a window of values before these heaps comes again one period later, then the same moves settle each further heap as
+//! the one a period before, and the values go on with the period for ever. The reach is as large as the values allow.
+
+ghost use Rattle.std.specs.Prelude.{◌≡◌, ℕ, ◌+◌, ◌*◌, ◌%◌, ◌^◌, ◌<◌, ◌≤◌, IfSome, IsTrue, length, map, true, vec_len};
+ghost use Rattle.std.specs.List.{Contains};
+ghost use Rattle.oct_code.specs.Code as octal;
+ghost use Rattle.oct_mex.specs.Periods.{ComesAgain, GoesOn};
+ghost use Rattle.oct_mex.specs.Row.{IsRow};
+ghost use Rattle.oct_mex.specs.Windows.{IsSettled, window};
+ghost use Rattle.oct_search.specs.Certain.{IsCertain};
+
+use oct_code::Code;
+use oct_mex::{Cell, Mask, Row, SeenPeriod, expected_period, settled_value};
+use std::alloc::Allocator;
+
+/// The least period that the last values let expect, if they are known to go on with it: they show it by themselves, or one
+/// run of settled heaps does. These are looked at only where they are fewer than the values that it spares.
+pub(crate) fn certain_period<T: Cell, A: Allocator + Copy>(
+    row: &Row<T, A>,
+    code: &Code,
+    marks: &mut [bool],
+) -> Option<SeenPeriod>
+    requires row { IsRow T.number code.now row.now }
+    requires marks { row.now.used ≤ length marks.old }
+    ensures { IfSome result (IsCertain code.now (vec_len row.now.values)) }
+{
+    let seen = expected_period(&row.values)?;
+    let spared = need_of(code, seen).saturating_sub(row.values.len());
+    if spared == 0 || seen.period < spared && goes_on(row, code, seen, marks) {
+        Some(seen)
+    } else {
+        None
+    }
+}
+
+/// How many values show a period by themselves (Guy and Smith 1956).
+pub(crate) fn need_of(code: &Code, seen: SeenPeriod) -> usize
+    requires { seen.start + seen.period ≤ 2 ^ 32 }
+    ensures { result ≡ 2 * seen.start + 2 * seen.period + octal.len code.now }
+{
+    2 * seen.start + 2 * seen.period + code.len()
+}
+
+// Whether one run of settled heaps proves a period that is seen from some heap on. The window before it lies within the
+// values that come again.
+fn goes_on<T: Cell, A: Allocator + Copy>(
+    row: &Row<T, A>,
+    code: &Code,
+    seen: SeenPeriod,
+    marks: &mut [bool],
+) -> bool
+    requires row { IsRow T.number code.now row.now }
+    requires marks { row.now.used ≤ length marks.old }
+    requires some { 1 ≤ seen.period }
+    requires within { seen.start + seen.period ≤ vec_len row.now.values }
+    requires again { ComesAgain (map T.number row.now.values.items) seen.start seen.period }
+    ensures goes_on { IsTrue result → GoesOn code.now (vec_len row.now.values) seen.period }
+    ensures size { length marks.new ≡ length marks.old }
+{
+    let start = row.values.len() - seen.period;
+    let digits = code.len();
+    let back = seen.start + digits;
+    if !serves(row.rare.mask, seen.period) || start <= back {
+        return false;
+    }
+    let reach = (start - back).min((start - digits - 1) / 2);
+    greatest(&row.rare.heaps) <= reach
+        && are_settled(row, code, start, reach, &mut marks[..row.used])
+}
+
+// The greatest heap of a list, or 0.
+fn greatest(heaps: &[u32]) -> usize
+    ensures { (h : ℕ) → Contains heaps.now h → h ≤ result }
+{
+    let mut greatest = 0;
+    for heap in heaps {
+        greatest = greatest.max(*heap as usize);
+    }
+    greatest
+}
+
+// Whether a mask tells heaps apart, and heaps one period later in the same way.
+fn serves(mask: Mask, period: usize) -> bool
+    ensures some { IsTrue result → 0 < mask.bits }
+    ensures even { IsTrue result → mask.parity ≡ true → period % 2 ≡ 0 }
+{
+    mask.bits > 0 && (!mask.parity || period % 2 == 0)
+}
+
+// Whether the heaps up to `reach`, none above it being rare, settle the value of each heap from `start` on.
+fn are_settled<T: Cell, A: Allocator + Copy>(
+    row: &Row<T, A>,
+    code: &Code,
+    start: usize,
+    reach: usize,
+    marks: &mut [bool],
+) -> bool
+    requires row { IsRow T.number code.now row.now }
+    requires some { 0 < row.now.rare.mask.bits }
+    requires few { (h : ℕ) → Contains row.now.rare.heaps.items h → h ≤ reach }
+    requires room { reach + window code.now reach < start }
+    requires limited { reach < 2 ^ 32 }
+    requires marks { length marks.old ≡ row.now.used }
+    ensures settled { IsTrue result → (n : ℕ) → start ≤ n → n < vec_len row.now.values → IsSettled code.now row.now.rare.mask reach n }
+    ensures size { length marks.new ≡ length marks.old }
+{
+    for heap in start..row.values.len() {
+        if settled_value(code, &row.values[..heap], &row.rare, heap, reach, marks).is_none() {
+            return false;
+        }
+    }
+    true
+}
