@@ -23,6 +23,7 @@ pub mod Replies
 pub mod SearchTexts
 pub mod Searching
 pub mod Site
+pub mod SoughtTexts
 pub mod States
 pub mod Statuses
 pub mod Steps
@@ -31,4 +32,5 @@ pub mod Turns
 pub mod Unions
 pub mod Verdicts
 pub mod Viewing
+pub mod Windowed
 pub mod Words

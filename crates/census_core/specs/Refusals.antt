@@ -15,6 +15,8 @@ use Rattle.oct_record.specs.declared.error.RenumberError.{RenumberError}
 use Rattle.oct_record.specs.declared.error.RenumberError.TheVariants as renumber
 use Rattle.oct_record.specs.declared.error.TakeError.{TakeError}
 use Rattle.oct_record.specs.declared.error.TakeError.TheVariants as take
+use Rattle.oct_window.specs.declared.seeking.SeekError.{SeekError}
+use Rattle.oct_window.specs.declared.seeking.SeekError.TheVariants as seek
 use Rattle.oct_search.specs.declared.error.SearchError.{SearchError}
 use Rattle.oct_search.specs.declared.error.SearchError.TheVariants as search
 use Rattle.oct_sync.specs.declared.error.SyncError.{SyncError}
@@ -69,6 +71,10 @@ encode_fault encode.TooMany = TooMany
 abbrev pub sync_fault : SyncError → Fault
 sync_fault sync.OutOfMemory = OutOfMemory
 sync_fault cause = Sync cause
+
+abbrev pub seek_fault : SeekError → Fault
+seek_fault seek.PastValue = PastValue
+seek_fault seek.OutOfMemory = OutOfMemory
 
 abbrev pub search_fault : SearchError → Fault
 search_fault search.PastValue = PastValue

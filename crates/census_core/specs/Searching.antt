@@ -6,6 +6,7 @@ use Rattle.oct_mex.specs.Periods.{NoneIsShown}
 use Rattle.oct_mex.specs.declared.period.SeenPeriod.{SeenPeriod}
 use Rattle.oct_pages.specs.Catalogue.{Text}
 use Rattle.oct_search.specs.Found.{IsLeastShown}
+use Rattle.oct_window.specs.Seeking.{IsPast}
 use Rattle.oct_search.specs.declared.error.SearchError.{SearchError}
 use Rattle.oct_search.specs.declared.error.SearchError.TheVariants as search
 use Rattle.census_core.specs.SearchTexts.{search_text}
@@ -35,12 +36,6 @@ abbrev pub IsSearched : Form → Code → ℕ → List ℕ → Text → Type 0
 IsSearched form c count heaps text = NamesPeriod form c count heaps text ⊎ NamesNone form c count heaps text
 
 -- ---- faults
-
--- the nim-value of some heap below `count` is above 65,535
-pub record IsPast (c : Code) (count : ℕ) : Type 0 where
-  pub heap : ℕ
-  pub within : heap < count
-  pub great : 2 ^ 16 ≤ nim_value c heap
 
 -- why a search of `count` nim-values ends before its line: where memory is refused there is nothing to say of the game
 abbrev pub IsPastFrom : Code → ℕ → SearchError → Type 0

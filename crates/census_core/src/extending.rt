@@ -50,7 +50,7 @@ pub(crate) fn extend_game<P: Progress>(
         if count <= known {
             return Ok(issued);
         }
-        progress.tell(code, known, count);
+        progress.tell(code, u64::from(known), u64::from(count));
         issue_values(said, game, code, (count - known).min(MAX_ITEMS as u32))?;
     }
     Ok(MOST_BLOCKS)

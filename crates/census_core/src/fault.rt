@@ -9,6 +9,7 @@ use oct_replica::{ComputeError, IssueError, LoadError, RemovalError, TakeError};
 use oct_search::SearchError;
 use oct_sync::SyncError;
 use oct_views::BfileError;
+use oct_window::SeekError;
 use std::alloc::AllocError;
 use written::Unwritten;
 
@@ -255,6 +256,20 @@ impl From<SearchError> for Fault {
         match cause {
             SearchError::PastValue => Fault::PastValue,
             SearchError::OutOfMemory => Fault::OutOfMemory,
+        }
+    }
+}
+
+impl From<SeekError> for Fault {
+    ghost use Rattle.std.specs.Prelude.{◌≡◌};
+    ghost use Rattle.census_core.specs.Refusals.{seek_fault};
+
+    ghost from_gives = { λ cause fault. fault ≡ seek_fault cause };
+
+    fn from(cause: SeekError) -> Fault {
+        match cause {
+            SeekError::PastValue => Fault::PastValue,
+            SeekError::OutOfMemory => Fault::OutOfMemory,
         }
     }
 }

@@ -4,7 +4,8 @@
 //! - `perform` does a `Request`, from the bytes of the state file and of another file to the `Reply` that is to be written;
 //!   `perform_watched` tells a `Progress` how far it is.
 //! - `search` says which period the nim-values of a game prove, computed until they prove one, and the nim-values of any heaps;
-//!   `first_values` computes as many as are asked for, and `write_values` writes them as a b-file.
+//!   `first_values` computes as many as are asked for, and `write_values` writes them as a b-file. `search_in_windows` keeps few
+//!   of them.
 //! - `check` compares a b-file with computed values.
 //! - `unite` makes one delta of several files, and `read_together` the catalogue of what several files hold.
 //! - `digest` names the set of operations of a file by 64 digits.
@@ -48,6 +49,7 @@ mod request;
 mod search_text;
 mod searching;
 mod site;
+mod sought_text;
 mod states;
 mod surveying;
 mod taken;
@@ -56,6 +58,7 @@ mod turning;
 mod unions;
 mod verdicts;
 mod viewing;
+mod windowed;
 mod words;
 
 pub use checking::{Checked, check};
@@ -82,4 +85,5 @@ pub use turning::Turns;
 pub use unions::unite;
 pub use verdicts::{Judged, Verdict, judge, tally};
 pub use viewing::View;
+pub use windowed::{WINDOW_LIMIT, search_in_windows};
 pub use words::number;

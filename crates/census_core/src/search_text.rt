@@ -1,8 +1,8 @@
 //! What a search prints of a game: as lines, or as one line of JSON.
 
-ghost use Rattle.std.specs.Prelude.{◌≡◌, ◌++◌, codes, IfOk, OnOk, Some};
+ghost use Rattle.std.specs.Prelude.{◌≡◌, ◌+◌, ◌^◌, ◌≤◌, ◌++◌, codes, IfOk, OnOk, Some};
 ghost use Rattle.std.specs.List.{flat_map};
-ghost use Rattle.oct_search.specs.Found.{IsFound, IsLeastShown};
+ghost use Rattle.oct_search.specs.Found.{IsFound};
 ghost use Rattle.oct_ops.specs.Operation.{repeating};
 ghost use Rattle.oct_period.specs.Periods.{needs};
 ghost use Rattle.census_core.specs.Finding.{found_text};
@@ -45,13 +45,11 @@ fn value_told(game: &Search<Global>, found: Option<SeenPeriod>, heap: u64) -> Op
 }
 
 // How many nim-values prove the period.
-fn needs(game: &Search<Global>, seen: SeenPeriod) -> usize
-    requires { IsLeastShown game.now.code game.now.len seen }
-    ensures { result ≡ needs (repeating game.now.code seen.start seen.period) }
+fn needs(code: Code, seen: SeenPeriod) -> usize
+    requires { seen.start + seen.period ≤ 2 ^ 60 }
+    ensures { result ≡ needs (repeating code seen.start seen.period) }
 {
-    // They are no more than are computed, and of these `len` says that there are not too many for the sum.
-    let _ = game.len();
-    2 * seen.start + 2 * seen.period + game.code().len()
+    2 * seen.start + 2 * seen.period + code.len()
 }
 
 // ---- lines
@@ -89,38 +87,35 @@ fn append_game_line(
     ensures { OnOk result (text.new.items ≡ text.old.items ++ game_line game.now.code found game.now.len) }
 {
     match found {
-        Some(seen) => append_period_line(text, game, seen),
+        Some(seen) => append_period_line(text, game.code(), seen, game.len()),
         None => append_vain_line(text, game.code(), game.len() as u64),
     }
 }
 
-// Appends the line of a period, and of how many nim-values are computed.
-fn append_period_line(
+/// Appends the line of a period, and of how many nim-values are computed.
+pub(crate) fn append_period_line(
     text: &mut Vec<u8>,
-    game: &Search<Global>,
+    code: Code,
     seen: SeenPeriod,
+    values: usize,
 ) -> Result<(), AllocError>
-    requires { IsLeastShown game.now.code game.now.len seen }
-    ensures { OnOk result (text.new.items ≡ text.old.items ++ period_line game.now.code seen game.now.len) }
+    requires { seen.start + seen.period ≤ 2 ^ 60 }
+    ensures { OnOk result (text.new.items ≡ text.old.items ++ period_line code seen values) }
 {
-    game.code().append_text(text)?;
-    append_period(text, game, seen)?;
-    append_labelled(text, b" values ", game.len())?;
+    code.append_text(text)?;
+    append_period(text, code, seen)?;
+    append_labelled(text, b" values ", values)?;
     append_text(text, b"\n")
 }
 
 // Appends a period, its start, and how many values prove it.
-fn append_period(
-    text: &mut Vec<u8>,
-    game: &Search<Global>,
-    seen: SeenPeriod,
-) -> Result<(), AllocError>
-    requires { IsLeastShown game.now.code game.now.len seen }
-    ensures { OnOk result (text.new.items ≡ text.old.items ++ found_text (repeating game.now.code seen.start seen.period)) }
+fn append_period(text: &mut Vec<u8>, code: Code, seen: SeenPeriod) -> Result<(), AllocError>
+    requires { seen.start + seen.period ≤ 2 ^ 60 }
+    ensures { OnOk result (text.new.items ≡ text.old.items ++ found_text (repeating code seen.start seen.period)) }
 {
     append_labelled(text, b" period ", seen.period)?;
     append_labelled(text, b" from ", seen.start)?;
-    append_labelled(text, b" needs ", needs(game, seen))
+    append_labelled(text, b" needs ", needs(code, seen))
 }
 
 // Appends the line of a heap and its nim-value, if that is known.
@@ -180,23 +175,27 @@ fn append_found_members(
     ensures { OnOk result (text.new.items ≡ text.old.items ++ found_members game.now.code found) }
 {
     match found {
-        Some(seen) => append_period_members(text, game, seen),
+        Some(seen) => {
+            // Of these `len` says that there are not too many for the sum.
+            let _ = game.len();
+            append_period_members(text, game.code(), seen)
+        }
         None => append_text(text, b"\",\"period\":null"),
     }
 }
 
-// Appends the end of the code, a period, its start, and how many values prove it.
-fn append_period_members(
+/// Appends the end of the code, a period, its start, and how many values prove it.
+pub(crate) fn append_period_members(
     text: &mut Vec<u8>,
-    game: &Search<Global>,
+    code: Code,
     seen: SeenPeriod,
 ) -> Result<(), AllocError>
-    requires { IsLeastShown game.now.code game.now.len seen }
-    ensures { OnOk result (text.new.items ≡ text.old.items ++ period_members game.now.code seen) }
+    requires { seen.start + seen.period ≤ 2 ^ 60 }
+    ensures { OnOk result (text.new.items ≡ text.old.items ++ period_members code seen) }
 {
     append_labelled(text, b"\",\"period\":", seen.period)?;
     append_labelled(text, b",\"from\":", seen.start)?;
-    append_labelled(text, b",\"needs\":", needs(game, seen))
+    append_labelled(text, b",\"needs\":", needs(code, seen))
 }
 
 // Appends the array of the heaps, if there are any.

@@ -111,18 +111,8 @@ fn extend_told<P: Progress>(
     ensures past { IfErr result (IsPastFrom game.old.code count) }
 {
     while game.len() < end {
-        tell(game, count, progress);
+        progress.tell(game.code(), game.len() as u64, count as u64);
         game.extend(end.min(game.len() + PART))?;
     }
     Ok(())
-}
-
-// Tells how many of `count` nim-values are known. Numbers that are too great are told as the greatest.
-fn tell<P: Progress>(game: &Search<Global>, count: usize, progress: &mut P) {
-    progress.tell(game.code(), told(game.len()), told(count));
-}
-
-// A number as it is told.
-fn told(number: usize) -> u32 {
-    u32::try_from(number).unwrap_or(u32::MAX)
 }

@@ -26,7 +26,7 @@ use crate::verdict_line::{Changed, say_what_became};
 use crate::words::EXPLAIN;
 use census_core::{
     Fault, Progress, Reply, Request, check, first_values, fold_intake, perform, perform_watched,
-    read_together, search, unite, write_values,
+    read_together, search, search_in_windows, unite, write_values,
 };
 use clap::ArgMatches;
 use clap::error::ErrorKind;
@@ -328,9 +328,14 @@ where
         heaps,
         codes,
         form,
+        is_windowed,
     } = sought;
     for code in codes {
-        let searched = search(rt.alloc(), *code, *count, heaps, *form, progress);
+        let searched = if *is_windowed {
+            search_in_windows(rt.alloc(), *code, *count, *form, progress)
+        } else {
+            search(rt.alloc(), *code, *count, heaps, *form, progress)
+        };
         progress.clear();
         write_out(output, &searched?)?;
     }

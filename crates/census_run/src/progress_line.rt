@@ -65,7 +65,7 @@ impl<'a, R: AllocGlobal + Clock, E: Write> ProgressLine<'a, R, E> {
 }
 
 impl<'a, R: AllocGlobal + Clock, E: Write> Progress for ProgressLine<'a, R, E> {
-    fn tell(&mut self, code: Code, known: u32, wanted: u32) {
+    fn tell(&mut self, code: Code, known: u64, wanted: u64) {
         if let Some(last) = self.last {
             if let Ok(text) = line_of(self.rt.alloc(), code, known, wanted) {
                 self.write(last, &text);
@@ -75,7 +75,7 @@ impl<'a, R: AllocGlobal + Clock, E: Write> Progress for ProgressLine<'a, R, E> {
 }
 
 // The line in place of the one that stands there.
-fn line_of(alloc: Global, code: Code, known: u32, wanted: u32) -> Result<Vec<u8>, AllocError> {
+fn line_of(alloc: Global, code: Code, known: u64, wanted: u64) -> Result<Vec<u8>, AllocError> {
     let mut line = Vec::from_slice(alloc, b"\r")?;
     code.append_text(&mut line)?;
     let count = format!(in alloc; " {known} of {wanted}\x1b[K")?;

@@ -41,7 +41,7 @@ Example:
     Row {
         name: "search",
         words: &[words::VALUES, words::CODES],
-        options: &[words::AT, words::AS_JSON, words::AS_BFILE],
+        options: &[words::AT, words::AS_JSON, words::AS_BFILE, words::WINDOW],
         does: Does::Search,
         line: "The period of each game, by at most COUNT values",
         about: "Computes values of each game until they prove a period, and says which",
@@ -50,12 +50,19 @@ For each game in turn values are computed until they prove a period, or COUNT of
 a line is printed. It names the least period P that they prove, the least heap E from which on it
 holds, how many values prove it: 2E + 2P + k, k the number of digits of the code, and how many were
 computed: a period is looked for from time to time, so these may be more. Or it says `no period in
-COUNT values`. A period that is named holds for all heaps.
+COUNT values`. A period that is named holds for all heaps. Once one run of it proves that the values
+go on with it, the further ones are copied.
 
 Each --at HEAP adds a line behind that of a game: the value of the heap by the period, however large
 it is; or where no period is found, its value if it is below COUNT, and else `not known`. With --json
 there is one line of JSON for a game, and null stands for what is not known. With --bfile, which takes
 one game and none of these, the first COUNT values are printed, a line `n v` for each heap n.
+
+With --window, which takes no --at, the first 65,536 values are listed, and then only as many are
+kept as tell the next one; more are listed where these do not. A period is seen where the values that
+are kept come again, mostly by fewer values than 2E + 2P + k; then E is found by a second pass. The
+line says `no period seen in COUNT values` where they do not come again: they are marked anew at
+lengths that double, so a period that a search without --window would find may not be seen.
 
 No state is needed. A value takes a byte of memory while none is above 255, and two from then on, and
 up to a third more while the list grows. On a terminal a line on standard error says how far it is.
@@ -68,6 +75,7 @@ Exit status: 0 done (also where there is no period), 1 refused: Code, PastValue 
 Examples:
   census search 1000000 0.16
   census search 1000000 0.16 --at 1000000000000
+  census search 1000000000000 0.104 --window
   census search --bfile 100000 0.16 > b.txt",
     },
     Row {

@@ -12,7 +12,9 @@ use crate::out_file::Out;
 use crate::shown::shown;
 use crate::table::{Asked, Does, Row, row_named};
 use crate::words::{self, Choice, Word};
-use census_core::{Fault, Form, Request, SEARCH_LIMIT, Told, View, check_count, number};
+use census_core::{
+    Fault, Form, Request, SEARCH_LIMIT, Told, View, WINDOW_LIMIT, check_count, number,
+};
 use clap::ArgMatches;
 use oct_code::{Code, LIMIT};
 use oct_sync::Role;
@@ -106,13 +108,15 @@ pub(crate) enum Task<'a> {
     },
 }
 
-/// What a search is for: the period of each game, by at most so many values, and the values of these heaps.
+/// What a search is for: the period of each game, by at most so many values, and the values of these heaps; in windows there
+/// are none.
 #[derive(Drop)]
 pub(crate) struct SearchTask {
     pub(crate) count: u64,
     pub(crate) heaps: Vec<u64>,
     pub(crate) codes: Vec<Code>,
     pub(crate) form: Form,
+    pub(crate) is_windowed: bool,
 }
 
 /// What the matches of a command line ask for. The fault is `Number` where a word is no number of its range, `Code` where a
@@ -262,7 +266,8 @@ fn request_of<R: AllocGlobal + RandomSource>(
 
 // The values that are asked for as a b-file: those of one game, and nothing else.
 fn list<'a>(alloc: Global, found: &ArgMatches<'a>) -> Result<Task<'a>, Failure> {
-    if found.get_flag(words::AS_JSON.name) || found.get_strs(words::AT.name).is_some() {
+    let is_more = found.get_flag(words::AS_JSON.name) || found.get_flag(words::WINDOW.name);
+    if is_more || found.get_strs(words::AT.name).is_some() {
         return Err(crowded(alloc));
     }
     let codes = repeated(alloc, found, words::CODES)?;
@@ -270,14 +275,20 @@ fn list<'a>(alloc: Global, found: &ArgMatches<'a>) -> Result<Task<'a>, Failure> 
         return Err(crowded(alloc));
     };
     Ok(Task::List {
-        count: value_count(alloc, found)?,
+        count: value_count(alloc, found, SEARCHED)?,
         code: game(alloc, code)?,
     })
 }
 
 // The failure of a list of values, for which too much is asked.
 fn crowded(alloc: Global) -> Failure {
-    let text = "--bfile takes one CODE, and neither --at nor --json";
+    let text = "--bfile takes one CODE, and neither --at, --json nor --window";
+    Failure::from(Fault::Words).found(String::from_str(alloc, text))
+}
+
+// The failure of a search in windows for the values of heaps, which windows do not keep.
+fn forgotten(alloc: Global) -> Failure {
+    let text = "--window keeps no values for --at";
     Failure::from(Fault::Words).found(String::from_str(alloc, text))
 }
 
@@ -288,11 +299,17 @@ fn search(alloc: Global, found: &ArgMatches<'_>) -> Result<SearchTask, Failure> 
     } else {
         Form::Lines
     };
+    let is_windowed = found.get_flag(words::WINDOW.name);
+    if is_windowed && found.get_strs(words::AT.name).is_some() {
+        return Err(forgotten(alloc));
+    }
+    let range = if is_windowed { WINDOWED } else { SEARCHED };
     Ok(SearchTask {
-        count: value_count(alloc, found)?,
+        count: value_count(alloc, found, range)?,
         heaps: heaps(alloc, found, words::AT.name)?,
         codes: games(alloc, found)?,
         form,
+        is_windowed,
     })
 }
 
@@ -557,6 +574,11 @@ const SEARCHED: Range = Range {
     greatest: SEARCH_LIMIT,
 };
 
+const WINDOWED: Range = Range {
+    least: 1,
+    greatest: WINDOW_LIMIT,
+};
+
 const SESSIONS: Range = Range {
     least: 1,
     greatest: MAX_SESSIONS as u64,
@@ -646,11 +668,11 @@ fn heap_count(alloc: Global, found: &ArgMatches<'_>) -> Result<u32, Failure> {
 }
 
 // How many values of a game are searched at most.
-fn value_count(alloc: Global, found: &ArgMatches<'_>) -> Result<u64, Failure> {
+fn value_count(alloc: Global, found: &ArgMatches<'_>, range: Range) -> Result<u64, Failure> {
     let text = word(found, words::VALUES)?;
-    match number(text, SEARCH_LIMIT) {
-        Some(count) if count >= 1 => Ok(count),
-        _ => Err(misfit(alloc, words::VALUES.name, text, SEARCHED)),
+    match number(text, range.greatest) {
+        Some(count) if count >= range.least => Ok(count),
+        _ => Err(misfit(alloc, words::VALUES.name, text, range)),
     }
 }
 

@@ -253,6 +253,13 @@ pub(crate) const AS_BFILE: Choice = Choice {
     default: None,
 };
 
+pub(crate) const WINDOW: Choice = Choice {
+    name: "window",
+    takes: Takes::Nothing,
+    meaning: "Keeps few of the values, so that COUNT may be up to 1152921504606846976",
+    default: None,
+};
+
 pub(crate) const PATIENCE: Choice = Choice {
     name: "patience",
     takes: Takes::One("SECONDS"),

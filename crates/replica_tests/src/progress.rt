@@ -10,8 +10,8 @@ use std::process::Abort;
 #[derive(Clone, Copy)]
 struct Tale {
     code: &'static str,
-    known: u32,
-    wanted: u32,
+    known: u64,
+    wanted: u64,
 }
 
 /// What is told of two games of which 1,030 values are wanted, where those of heap 0 are known: once before each block.
@@ -46,7 +46,7 @@ struct Listener {
 }
 
 impl Progress for Listener {
-    fn tell(&mut self, code: Code, known: u32, wanted: u32) {
+    fn tell(&mut self, code: Code, known: u64, wanted: u64) {
         match self.expected {
             [tale, rest @ ..] if is_told(*tale, code, known, wanted) => self.expected = rest,
             _ => self.is_right = false,
@@ -55,7 +55,7 @@ impl Progress for Listener {
 }
 
 // This is what is told.
-fn is_told(tale: Tale, code: Code, known: u32, wanted: u32) -> bool {
+fn is_told(tale: Tale, code: Code, known: u64, wanted: u64) -> bool {
     let is_of = Code::parse(tale.code.as_bytes()) == Ok(code);
     is_of && tale.known == known && tale.wanted == wanted
 }

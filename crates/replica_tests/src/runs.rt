@@ -376,7 +376,8 @@ fn folds_and_refuses_lines(rt: HostRuntime) {
 }
 
 // Searches: the periods of the literature, by as many values as prove them and by one fewer; the values of heaps, of any
-// size, and those of a b-file; and each refusal.
+// size, and those of a b-file; the same in windows, which are marked at 65,536 heaps, and where they are twice as far, so
+// that the one at 262,144 comes again after one period of 0.16; and each refusal.
 const SEARCHES: &[Case<'static>] = &[
     Case {
         words: &["search", "168", "0.77"],
@@ -451,6 +452,54 @@ const SEARCHES: &[Case<'static>] = &[
         status: 2,
         output: "",
         errors: "census: Words\n",
+    },
+    Case {
+        words: &["search", "1000", "0.77", "--window"],
+        status: 0,
+        output: "0.77 period 12 from 71 needs 168 values 1000\n",
+        errors: "",
+    },
+    Case {
+        words: &["search", "1000000", "0.16", "--window"],
+        status: 0,
+        output: "0.16 period 149459 from 105351 needs 509622 values 411603\n",
+        errors: "",
+    },
+    Case {
+        words: &["search", "167", "0.77", "--window", "--json"],
+        status: 0,
+        output: "{\"code\":\"0.77\",\"period\":null,\"values\":167}\n",
+        errors: "",
+    },
+    Case {
+        words: &["search", "70000", "0.16", "--window", "--json"],
+        status: 0,
+        output: "{\"code\":\"0.16\",\"period\":null,\"values\":70000,\"unseen\":true}\n",
+        errors: "",
+    },
+    Case {
+        words: &["search", "70000", "0.16", "--window"],
+        status: 0,
+        output: "0.16 no period seen in 70000 values\n",
+        errors: "",
+    },
+    Case {
+        words: &["search", "1000", "0.77", "--window", "--at", "5"],
+        status: 2,
+        output: "",
+        errors: "census: Words\n",
+    },
+    Case {
+        words: &["search", "--bfile", "5", "0.77", "--window"],
+        status: 2,
+        output: "",
+        errors: "census: Words\n",
+    },
+    Case {
+        words: &["search", "1152921504606846977", "0.77", "--window"],
+        status: 2,
+        output: "",
+        errors: "census: Number\n",
     },
     Case {
         words: &["search", "0", "0.8"],

@@ -1,0 +1,50 @@
+//! How the period of a game is searched for in windows of its nim-values.
+
+ghost use Rattle.std.specs.Prelude.{◌≡◌, ◌≤◌, Ok, Err, IfOk, IfErr, OnOk};
+ghost use Rattle.census_core.specs.Windowed.{IsSoughtText, IsWindowFault, windowable};
+
+use crate::fault::Fault;
+use crate::progress::Progress;
+use crate::sought_text::sought_text;
+use oct_code::Code;
+use oct_views::Form;
+use oct_window::{FARTHEST, seek};
+use std::alloc::Global;
+
+/// The most nim-values of a game that a search in windows computes: 2^60.
+pub const WINDOW_LIMIT: u64 = 1_152_921_504_606_846_976;
+
+/// Computes nim-values of a game, of which few are kept, until they show a period, or `count` of them are known, and gives the
+/// text that says what was found: the least period of the game, the least heap from which on it holds, and how many values
+/// were computed. It is seen where the values of a window come again, which are marked anew at lengths that double; so
+/// a period may be shown by the values and not be seen in them.
+///
+/// The fault is `Number` where `count` is 0 or above `WINDOW_LIMIT`, before any memory is asked for; `PastValue` where the
+/// nim-value of a heap below `count` is above 65,535, before a period is seen; and `OutOfMemory`.
+pub fn search_in_windows<P: Progress>(
+    alloc: Global,
+    code: Code,
+    count: u64,
+    form: Form,
+    progress: &mut P,
+) -> Result<Vec<u8>, Fault>
+    ensures ok { IfOk result (λ text. IsSoughtText form code count text.items) }
+    ensures err { IfErr result (IsWindowFault code count) }
+    ensures number { IfErr (windowable count) (λ e. result ≡ Err e) }
+{
+    check_windowable(count)?;
+    let sought = seek(alloc, &code, count as usize, progress)?;
+    Ok(sought_text(alloc, code, sought, form)?)
+}
+
+// Refuses a number of values that no search in windows computes.
+fn check_windowable(count: u64) -> Result<(), Fault>
+    ensures ok { OnOk result (windowable count ≡ Ok count) }
+    ensures fits { OnOk result (count ≤ FARTHEST) }
+    ensures err { IfErr result (λ e. windowable count ≡ Err e) }
+{
+    if count == 0 || count > WINDOW_LIMIT {
+        return Err(Fault::Number);
+    }
+    Ok(())
+}
