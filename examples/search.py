@@ -1,9 +1,10 @@
 #!/usr/bin/env python3
 """Searches for periods far beyond 65,536 heaps. The periods of published tables are found, each with its least heap
-and by as many values as prove it. The values that `--at` gives at great heaps are those that the rule of the period
-gives from the values that `--bfile` lists. The first values of sixty games are those that the rule of the games gives
-in this script, and for all three-digit games of Winning Ways, chapter 4, the same periods are found as a survey finds.
-Takes a minute.
+and by as many values as prove it; with `--window`, which keeps few values, the same ones are found. The values that
+`--at` gives at great heaps are those that the rule of the period gives from the values that `--bfile` lists. The first
+values of sixty games are those that the rule of the games gives in this script, and 20,000 of each have the checksums
+of values/checksums.txt. For all three-digit games of Winning Ways, chapter 4, the same periods are found as a survey
+finds. Takes a minute or two.
 
     search.py [PROGRAM [WORD ..]]         the program is the one that ../census runs where none is named
 """
@@ -47,6 +48,10 @@ CODES = (
 ).split()
 FIRST = 1_500
 
+# So many of them have the checksums that another program gave.
+LONGER = 20_000
+CHECKSUMS = os.path.join(HERE, "values", "checksums.txt")
+
 # The games of a survey, and how many values it has of each.
 GAMES = [f"0.{a}{b}{c}" for a in range(8) for b in range(8) for c in range(1, 8)]
 KNOWN = 4_096
@@ -56,6 +61,9 @@ REFUSED = [
     (["--bfile", "10", "0.77", "0.6"], 2, "census: Words\n"),
     (["--bfile", "10", "0.77", "--at", "5"], 2, "census: Words\n"),
     (["--bfile", "10", "0.77", "--json"], 2, "census: Words\n"),
+    (["--bfile", "10", "0.77", "--window"], 2, "census: Words\n"),
+    (["10", "0.77", "--window", "--at", "5"], 2, "census: Words\n"),
+    ([str(2**60 + 1), "0.77", "--window"], 2, "census: Number\n"),
     (["--bfile", "0", "0.77"], 2, "census: Number\n"),
     (["--bfile", "10", "0.8"], 1, "census: Code Digit\n"),
     (["10", "0.77", "--at", str(2**64)], 2, "census: Number\n"),
@@ -118,6 +126,34 @@ def check_periods():
     same("0.127 by one value too few", done("search", str(last), "0.127"), f"0.127 no period in {last} values\n")
 
 
+def check_windows():
+    for code, (period, start) in PERIODS.items():
+        words = done("search", str(MOST), code, "--window").split()
+        same(f"{code} in windows", words[:-1], f"{code} period {period} from {start} needs {needs(code)} values".split())
+        if not start + period <= int(words[-1]) <= MOST:
+            sys.exit(f"search: {code} in windows: {words[-1]} values")
+    unseen = done("search", str(LISTED), "0.106", "--window")
+    same("0.106 in windows", unseen, f"0.106 no period seen in {LISTED} values\n")
+    told = json.loads(done("search", str(LISTED), "0.106", "--window", "--json"))
+    same("JSON of 0.106", told, {"code": "0.106", "period": None, "values": LISTED, "unseen": True})
+
+
+def checksum(values):
+    """FNV-1a of 64 bits, over values in place of bytes."""
+    total = 1_469_598_103_934_665_603
+    for value in values:
+        total = (total ^ value) * 1_099_511_628_211 % 2**64
+    return f"{total:016x}"
+
+
+def check_checksums():
+    with open(CHECKSUMS, encoding="utf-8") as file:
+        rows = [line.split() for line in file if not line.startswith("#")]
+    same("the games with checksums", sorted(code for code, _ in rows), sorted(CODES))
+    for code, due in rows:
+        same(f"the checksum of {code}", checksum(listed(code, LONGER)), due)
+
+
 def check_heaps():
     period, start = PERIODS[FAR]
     values = listed(FAR, LISTED)
@@ -158,7 +194,9 @@ def check_survey(room):
 
 def main():
     check_periods()
+    check_windows()
     check_heaps()
+    check_checksums()
     for code in CODES:
         same(f"the values of {code}", listed(code, FIRST), by_rule(code, FIRST))
     with tempfile.TemporaryDirectory() as room:
