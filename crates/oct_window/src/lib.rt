@@ -1,13 +1,20 @@
-//! The search for the period of an octal game in a window of its nim-values, as far as time goes.
+//! The search for the period of an octal game in windows of its nim-values, as far as time goes.
 //!
 //! Where no heap above some size is rare under a mask, the next nim-value mostly follows from the values of the heaps up to
-//! this size and from a window of the last ones, as long as these and the digits of the code together (`oct_mex::settled_value`).
+//! this size and from a window of the last ones, as many as this size and the digits of the code (`oct_mex::settled_value`).
 //! So nothing else has to be kept: a `Window` goes on in the memory that it begins with, however far.
 //!
-//!     let mut row = first_values(alloc, &code, 65_536)?;      // 0.16
-//!     let window = Window::of(alloc, code, &row)?;            // some window: its last rare heap is 13,935
+//!     seek(alloc, &code, 1_000_000, &mut progress)?      // 0.16: Least(period 149,459 from heap 105,351, by 411,603 values)
 //!
-//! Where a window of values comes again, all that follows does (`oct_mex::laws::settled_runs_hold`).
+//! - `seek` lists first values, and watches a window behind them until its values come again.
+//! - A `Watch` marks the last values of a `Window`, anew where it has gone as far again. Where they come again, all that
+//!   follow do (`oct_mex::laws::settled_runs_hold`), and no shorter period holds.
+//! - A `Comparison` of two windows, one a period ahead of the other, finds the least heap from which on the period holds.
+//! - `Progress` is told how far a search is.
+//! - `laws` says what holds of periods.
+//!
+//! The clauses part what fits together in memory (`IsShaped`, ..), which is asked for and kept, from what is so of the game
+//! (`IsKnown`, ..), which stands in them as a premise.
 #![tactic(auto)]
 
 mod comparison;
