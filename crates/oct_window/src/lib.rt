@@ -31,6 +31,7 @@ mod window;
 pub use comparison::Comparison;
 pub use first::extend;
 pub use progress::Progress;
+pub use reader::Reader;
 pub use seeking::{SeekError, seek};
 pub use sought::Sought;
 pub use watch::{Step, Watch};
