@@ -1,12 +1,10 @@
 -- A state that goes on under another author, or not; and a number that is used twice.
-use Rattle.std.proofs.Common.{◌≡◌, ◌≢◌, ◌↔◌, ℕ, Bool, true, false, cond, Option, Result, Ok, Err, refl, sym, ap, ◌∙◌}
-use Rattle.std.specs.Prelude.{option_map}
+use Rattle.std.proofs.Common.{◌≡◌, ◌≢◌, ◌↔◌, ℕ, Bool, true, false, cond, Result, Ok, Err, refl, sym, ap, ◌∙◌}
 use Rattle.std.specs.Result.{IsErrOf}
 use Rattle.std.proofs.lemmas.Bool.{ne_eqb}
 use Rattle.oct_delta.specs.Text.{Bytes}
-use Rattle.oct_ops.specs.Operation.{Dot}
 use Rattle.oct_record.specs.Content.{RecordContent}
-use Rattle.oct_record.specs.Numbers.{foreign_of, holds_any}
+use Rattle.oct_record.specs.Numbers.{holds_any}
 use Rattle.oct_record.specs.declared.error.RenumberError.{RenumberError}
 use Rattle.oct_record.specs.declared.error.RenumberError.TheVariants.{Zero, Held}
 use Rattle.census_core.specs.Lines.{renumbered_line}

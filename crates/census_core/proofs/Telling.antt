@@ -1,14 +1,11 @@
 -- The games of a record one after another, and some of them alone.
-use Rattle.std.proofs.Common.{◌≡◌, ℕ, ◌+◌, ◌<◌, ◌≤◌, add-one, get_or, List, [], ◌∷◌, ◌++◌, map, length, drop, refl, sym, ap, ◌∙◌, append_assoc}
-use Rattle.std.proofs.lemmas.List.{drop_all}
-use Rattle.std.proofs.Math.Seq.{drop-cons}
+use Rattle.std.proofs.Common.{◌≡◌, ℕ, ◌+◌, List, [], ◌∷◌, ◌++◌, map, drop, sym, ap, ◌∙◌, append_assoc}
 use Rattle.oct_code.specs.Code.{Code}
-use Rattle.oct_ops.specs.Operations.{Operations, empty, union}
+use Rattle.oct_ops.specs.Operations.{Operations, union}
 use Rattle.oct_ops.specs.OrderLaws.{op_cmp_total, op_cmp_exact}
-use Rattle.oct_ops.specs.SetLaws.{union-empty, union_assoc, union_comm}
+use Rattle.oct_ops.specs.SetLaws.{union_assoc}
 use Rattle.oct_store.specs.Summary.{of_game}
 use Rattle.census_core.specs.Overview.{only_of}
-use Rattle.census_core.proofs.Taking.{from_none}
 
 -- one code more
 pub code_pushed : {V : Type 0} (codes : List Code) (entry : Code × V) (rest entries : List (Code × V)) (pushed all : List Code) → entries ≡ entry ∷ rest

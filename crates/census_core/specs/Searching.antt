@@ -1,7 +1,6 @@
 -- The period that a search of a game finds, and the text that names it.
-use Rattle.std.specs.Prelude.{◌≡◌, ℕ, ◌^◌, ◌<◌, ◌≤◌, ◌⊎◌, ◌&&◌, nat_le, List, Some, None, Result, Ok, Err, if◌then◌else◌}
+use Rattle.std.specs.Prelude.{◌≡◌, ℕ, ◌≤◌, ◌⊎◌, ◌&&◌, nat_le, List, Some, None, Result, Ok, Err, if◌then◌else◌}
 use Rattle.oct_code.specs.Code.{Code}
-use Rattle.oct_mex.specs.NimValues.{nim_value}
 use Rattle.oct_mex.specs.Periods.{NoneIsShown}
 use Rattle.oct_mex.specs.declared.period.SeenPeriod.{SeenPeriod}
 use Rattle.oct_pages.specs.Catalogue.{Text}
