@@ -1,5 +1,5 @@
 -- What a search for a period in windows comes to.
-use Rattle.std.specs.Prelude.{◌≡◌, ℕ, ◌+◌, ◌-◌, ◌*◌, ◌^◌, ◌<◌, ◌≤◌}
+use Rattle.std.specs.Prelude.{◌≡◌, ℕ, ◌+◌, ◌-◌, ◌*◌, ◌^◌, ◌<◌, ◌≤◌, min}
 use Rattle.oct_code.specs.Code.{Code}
 use Rattle.oct_mex.specs.NimValues.{nim_value}
 use Rattle.oct_mex.specs.Periods.{IsPeriodicWithin, NoneIsShown}
@@ -14,11 +14,12 @@ use Rattle.oct_window.specs.declared.seeking.Tried.TheVariants.{Done, Lost}
 use Rattle.oct_window.specs.declared.sought.Sought.{Sought}
 use Rattle.oct_window.specs.declared.sought.Sought.TheVariants.{Least, Unshown, Unseen}
 
--- the values before some heap, which is at least half of `count`, do not come again before `count`
+-- the values before some heap, which is at least half of `count` and below it, do not come again before `count`
 pub record NoneIsSeen (c : Code) (count : ℕ) : Type 0 where
   pub reach : ℕ
   pub at : ℕ
   pub late : count ≤ 2 * at
+  pub behind : at < count
   pub none : (n : ℕ) → at < n → n ≤ count → IsPeriodicWithin c (at - window c reach) (n - at) at → ⊥
 
 -- the least period of the game, from its least heap on, which so many nim-values show
@@ -27,10 +28,10 @@ pub record IsLeastOf (c : Code) (count : ℕ) (seen : SeenPeriod) (values : ℕ)
   pub within : seen.start + seen.period ≤ values
   pub few : values ≤ count
 
--- at most `count` nim-values show the game's least period; or so many prove none; or in all of them the last marked window does not come again
+-- at most `count` nim-values show the game's least period; or all of them, as far as they are listed, prove none; or in all of them the last marked window does not come again
 abbrev pub IsSought : Code → ℕ → Sought → Type 0
 IsSought c count (Least seen values) = IsLeastOf c count seen values
-IsSought c count (Unshown values) = (values ≤ count) × NoneIsShown c values values
+IsSought c count (Unshown values) = (values ≡ min count MOST_LISTED) × NoneIsShown c values values
 IsSought c count (Unseen values) = (values ≡ count) × NoneIsSeen c count
 
 -- the nim-value of some heap below `count` is above 65,535

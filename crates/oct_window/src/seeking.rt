@@ -188,6 +188,7 @@ fn watch_told<A: Allocator + Copy, P: Progress>(
     ensures same { IsSameGame watch.old.window watch.new.window }
     ensures most { watch.new.window.count ≤ max count watch.old.window.count }
     ensures reached { IfOk result (λ step. step ≡ On → watch.new.window.count ≡ max count watch.old.window.count) }
+    ensures behind { IfOk result (λ step. step ≡ On → watch.old.window.count < count → watch.new.at < watch.new.window.count) }
     ensures marks { length marks.new ≡ length marks.old }
     ensures stepped { IsWatched watch.old → IfOk result (IsStepped watch.new) }
 {

@@ -67,6 +67,7 @@ impl<A: Allocator + Copy> Watch<A> {
         ensures same { IsSameGame self.old.window self.new.window }
         ensures count { self.old.window.count ≤ self.new.window.count }
         ensures next { IfOk result (λ step. self.new.window.count ≡ count_after step self.old.window.count) }
+        ensures behind { IfOk result (λ step. step ≡ On → self.new.at < self.new.window.count) }
         ensures marks { length marks.new ≡ length marks.old }
         ensures err { OnErr result (self.new ≡ self.old) }
         ensures stepped { IsWatched self.old → IfOk result (IsStepped self.new) }
@@ -85,6 +86,7 @@ impl<A: Allocator + Copy> Watch<A> {
         ensures same { IsSameGame self.old.window self.new.window }
         ensures most { self.new.window.count ≤ max end self.old.window.count }
         ensures reached { IfOk result (λ step. step ≡ On → self.new.window.count ≡ max end self.old.window.count) }
+        ensures behind { IfOk result (λ step. step ≡ On → self.old.window.count < end → self.new.at < self.new.window.count) }
         ensures marks { length marks.new ≡ length marks.old }
         ensures stepped { IsWatched self.old → IfOk result (IsStepped self.new) }
     {
@@ -122,6 +124,7 @@ impl<A: Allocator + Copy> Watch<A> {
         ensures watchable { IsWatchable self.new }
         ensures same { IsSameGame self.old.window self.new.window }
         ensures next { self.new.window.count ≡ count_after result self.old.window.count }
+        ensures behind { result ≡ On → self.new.at < self.new.window.count }
         ensures marks { length marks.new ≡ length marks.old }
         ensures stepped { IsWatched self.old → IsStepped self.new result }
     {

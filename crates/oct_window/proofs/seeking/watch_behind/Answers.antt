@@ -11,8 +11,9 @@ returns-in-On-clause-tried g c =
     let told = c.in_ok-step.ensures in
     let watched = subst (IsStepped w) c.in-On.is (told.stepped (c.in_ok-watch.ensures.watched begun.known)) in
     let code : w.window.code ≡ c.args.code.now = told.same.code ∙ ap (λ (v : Window g.row.A.Denot). v.code) c.in_ok-watch.ensures.window ∙ begun.code in
+    let first = ap (λ (v : Window g.row.A.Denot). v.count) c.in_ok-watch.ensures.window in
     let count : w.window.count ≡ c.args.count =
-    omega (arith, told.reached c.in-On.is, ap (λ (v : Window g.row.A.Denot). v.count) c.in_ok-watch.ensures.window, begun.count, c.requires.few) in (
+    omega (arith, told.reached c.in-On.is, first, begun.count, c.requires.few) in (
       refl,
-      subst₂ NoneIsSeen code count (record { reach = w.window.reach; at = w.at; late = told.watchable.fresh; none = watched.marked.none }),
+      subst₂ NoneIsSeen code count (record { reach = w.window.reach; at = w.at; late = told.watchable.fresh; behind = told.behind c.in-On.is (omega (arith, first, begun.count, c.requires.few)); none = watched.marked.none }),
     )

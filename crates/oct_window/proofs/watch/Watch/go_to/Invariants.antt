@@ -1,4 +1,4 @@
-use Rattle.std.proofs.Common.{◌≡◌, ◌-◌, ◌≤◌, length, max}
+use Rattle.std.proofs.Common.{◌≡◌, ◌-◌, ◌<◌, ◌≤◌, length, max}
 use Rattle.oct_window.specs.Watched.{IsWatchable, IsWatched}
 use Rattle.oct_window.specs.Windows.{IsSameGame}
 use Rattle.oct_window.proofs.watch.Watch.go_to.Given as goal
@@ -10,6 +10,7 @@ invariant-loop-self g l = record {
   most : l.self.window.count ≤ max l.end l.fn.self.window.count;
   marks : length l.marks ≡ length l.fn.marks;
   watched : IsWatched l.fn.self → IsWatched l.self;
+  behind : l.fn.self.window.count < l.self.window.count → l.self.at < l.self.window.count;
   least : l.fn.self.window.count ≤ l.self.window.count;
 }
 
