@@ -167,6 +167,8 @@ pub(crate) fn real_path<R: Files + AllocGlobal>(
     for _ in 0..LINKS {
         match standing(rt, real.as_str()) {
             Ok(Some(there)) if there.is_symlink() => {}
+            // What stands at the path itself may be replaced between two looks.
+            Ok(_) if real.as_str() == path => return Ok(Some(real)),
             Ok(there) if leads_to(rt, path, there.as_ref()) => return Ok(Some(real)),
             _ => return Ok(None),
         }
