@@ -1,5 +1,6 @@
 pub use Rattle.oct_code.specs.Code
 pub mod Comparisons
+pub mod Places
 pub mod Repeats
 pub mod Seeking
 pub mod Watched

@@ -2,7 +2,7 @@
 
 ghost use Rattle.std.specs.Prelude.{◌≡◌, ◌+◌, ◌*◌, ◌<◌, ◌≤◌, length, max, IfOk, OnErr, OnOk};
 ghost use Rattle.oct_window.specs.Watched.{count_after, IsStepped, IsWatchable, IsWatched, seen_of};
-ghost use Rattle.oct_window.specs.declared.watch.Step.TheVariants.{On};
+ghost use Rattle.oct_window.specs.declared.watch.Step.TheVariants.{Again, On};
 ghost use Rattle.oct_mex.specs.Windows.{window as width};
 ghost use Rattle.oct_window.specs.Windows.{IsKnown, IsSameGame, IsShaped};
 
@@ -85,6 +85,9 @@ impl<A: Allocator + Copy> Watch<A> {
         ensures watchable { IsWatchable self.new }
         ensures same { IsSameGame self.old.window self.new.window }
         ensures most { self.new.window.count ≤ max end self.old.window.count }
+        ensures more { self.old.window.count ≤ self.new.window.count }
+        ensures still { end ≤ self.old.window.count → self.new ≡ self.old }
+        ensures again { IfOk result (λ step. step ≡ Again → self.old.window.count < self.new.window.count) }
         ensures reached { IfOk result (λ step. step ≡ On → self.new.window.count ≡ max end self.old.window.count) }
         ensures behind { IfOk result (λ step. step ≡ On → self.old.window.count < end → self.new.at < self.new.window.count) }
         ensures marks { length marks.new ≡ length marks.old }

@@ -11,6 +11,7 @@ invariant-loop-self g l = record {
   marks : length l.marks ≡ length l.fn.marks;
   watched : IsWatched l.fn.self → IsWatched l.self;
   behind : l.fn.self.window.count < l.self.window.count → l.self.at < l.self.window.count;
+  still : l.self.window.count ≡ l.fn.self.window.count → l.self ≡ l.fn.self;
   least : l.fn.self.window.count ≤ l.self.window.count;
 }
 
