@@ -1,7 +1,6 @@
 -- How far a search in windows is.
 use Rattle.std.specs.Prelude.{◌≡◌, ◌⊎◌, ℕ, ◌+◌, ◌-◌, ◌*◌, ◌<◌, ◌≤◌}
 use Rattle.oct_code.specs.Code.{Code}
-use Rattle.oct_mex.specs.declared.period.SeenPeriod.{SeenPeriod}
 use Rattle.oct_window.specs.Comparisons.{IsCompared, IsPaired}
 use Rattle.oct_window.specs.Repeats.{IsRepeat}
 use Rattle.oct_window.specs.Seeking.{IsSought}

@@ -1,12 +1,12 @@
 -- What a search for a period in windows comes to.
-use Rattle.std.specs.Prelude.{◌≡◌, ℕ, ◌+◌, ◌-◌, ◌*◌, ◌^◌, ◌<◌, ◌≤◌, min}
+use Rattle.std.specs.Prelude.{◌≡◌, ℕ, Bool, IsTrue, ◌+◌, ◌-◌, ◌*◌, ◌^◌, ◌<◌, ◌≤◌, min}
 use Rattle.oct_code.specs.Code.{Code}
 use Rattle.oct_mex.specs.NimValues.{nim_value}
 use Rattle.oct_mex.specs.Periods.{IsPeriodicWithin, NoneIsShown}
 use Rattle.oct_mex.specs.Windows.{window}
 use Rattle.oct_window.specs.Repeats.{IsLeastPeriod}
 use Rattle.oct_window.specs.declared.seeking.SeekError.{SeekError}
-use Rattle.oct_window.specs.declared.seeking.SeekError.TheVariants.{OutOfMemory, PastValue}
+use Rattle.oct_window.specs.declared.seeking.SeekError.TheVariants.{OutOfMemory, PastValue, Unkept}
 use Rattle.oct_mex.specs.declared.period.SeenPeriod.{SeenPeriod}
 use Rattle.oct_window.specs.declared.seeking.TheConstants.{MOST_LISTED}
 use Rattle.oct_window.specs.declared.seeking.Tried.{Tried}
@@ -40,12 +40,18 @@ pub record IsPast (c : Code) (count : ℕ) : Type 0 where
   pub within : heap < count
   pub great : 2 ^ 16 ≤ nim_value c heap
 
--- where memory is refused there is nothing to say of the game
-abbrev pub IsSeekError : Code → ℕ → SeekError → Type 0
-IsSeekError c count OutOfMemory = Unit {0}
-IsSeekError c count PastValue = IsPast c count
+-- where memory is refused there is nothing to say of the game; a place is not kept only where the keeper may refuse it
+abbrev pub IsSeekError : Bool → Code → ℕ → SeekError → Type 0
+IsSeekError refuses c count OutOfMemory = Unit {0}
+IsSeekError refuses c count PastValue = IsPast c count
+IsSeekError refuses c count Unkept = IsTrue refuses
+
+-- where a window behind so many listed values is lost, more can be listed
+abbrev pub IsLost : ℕ → ℕ → Tried → Type 0
+IsLost listed count (Done sought) = Unit {0}
+IsLost listed count (Lost heap) = (listed < count) × (listed < MOST_LISTED) × (heap ≤ count)
 
 -- what so many listed values, and a window behind them, come to
 abbrev pub IsTried : Code → ℕ → ℕ → Tried → Type 0
 IsTried c listed count (Done sought) = IsSought c count sought
-IsTried c listed count (Lost heap) = (listed < count) × (listed < MOST_LISTED) × (heap ≤ count)
+IsTried c listed count (Lost heap) = IsLost listed count (Lost heap)

@@ -35,6 +35,21 @@ pub struct Seen<A: Allocator> {
     pub comparison: Comparison<A>,
 }
 
+impl<A: Allocator> Place<A> {
+    ghost use Rattle.std.specs.Prelude.{◌≡◌};
+    ghost use Rattle.oct_window.specs.Places.{farthest};
+
+    /// How many values were computed: the heap that is next.
+    pub fn farthest(&self) -> usize
+        ensures { result ≡ farthest self.now.stage }
+    {
+        match &self.stage {
+            Stage::Watching(watch) => watch.window.count,
+            Stage::Comparing(seen) => seen.values,
+        }
+    }
+}
+
 /// What a step of a search gives.
 #[derive(Drop)]
 pub enum Stepped<A: Allocator> {

@@ -3,26 +3,25 @@
 //! First values are listed, and where they show no period, a window goes on behind them. It is watched until its values come
 //! again; then the least heap from which on they do so is found by a comparison from the beginning. Where a window does
 //! not tell the next value, more first values are listed, and another one begins behind them.
+//!
+//! Behind the first values the search goes from place to place, and each is handed to a keeper.
 
-ghost use Rattle.std.specs.Prelude.{◌≡◌, ◌+◌, ◌<◌, ◌≤◌, true, length, max, vec_len, IfErr, IfOk, IfSome, OnOk};
+ghost use Rattle.std.specs.Prelude.{◌≡◌, ◌*◌, ◌<◌, ◌≤◌, length, max, min, vec_len, IfErr, IfOk, OnOk};
 ghost use Rattle.oct_mex.specs.Row.{IsRow};
-ghost use Rattle.oct_window.specs.Comparisons.{IsCompared, IsPaired};
-ghost use Rattle.oct_window.specs.Repeats.{IsLeastPeriod, IsRepeat};
-ghost use Rattle.oct_window.specs.Seeking.{IsSeekError, IsSought, IsTried};
-ghost use Rattle.oct_window.specs.Watched.{IsStepped, IsWatchable, IsWatched};
-ghost use Rattle.oct_window.specs.Windows.{IsSameGame};
-ghost use Rattle.oct_window.specs.declared.seeking.SeekError.TheVariants.{OutOfMemory};
-ghost use Rattle.oct_window.specs.declared.watch.Step.TheVariants.{On};
+ghost use Rattle.oct_window.specs.Places.{IsKept, IsPlaced, IsRightPlace, IsWithin, farthest};
+ghost use Rattle.oct_window.specs.Seeking.{IsLost, IsSeekError, IsSought, IsTried};
+ghost use Rattle.oct_window.specs.declared.seeking.SeekError.TheVariants as errors;
 
-use crate::comparison::Comparison;
 use crate::first::extend;
-use crate::laws::{least_starts_are_least, shown_periods_are_least};
+use crate::keeper::{Keeper, Unkept};
+use crate::laws::shown_periods_are_least;
+use crate::place::{Place, Stage, Stepped};
 use crate::progress::Progress;
 use crate::sought::Sought;
-use crate::watch::{Step, Watch};
+use crate::watch::Watch;
 use crate::window::{FARTHEST, MARKS, Window};
 use oct_code::Code;
-use oct_mex::{Row, SeenPeriod, find_shown};
+use oct_mex::{Row, find_shown};
 use std::alloc::{AllocError, Allocator};
 
 /// The most first values that are listed.
@@ -41,13 +40,23 @@ pub enum SeekError {
     OutOfMemory,
     /// A nim-value is above 65,535.
     PastValue,
+    /// A place was not kept.
+    Unkept,
 }
 
 impl From<AllocError> for SeekError {
-    ghost from_gives = { λ _ e. e ≡ OutOfMemory };
+    ghost from_gives = { λ _ e. e ≡ errors.OutOfMemory };
 
     fn from(_e: AllocError) -> SeekError {
         SeekError::OutOfMemory
+    }
+}
+
+impl From<Unkept> for SeekError {
+    ghost from_gives = { λ _ e. e ≡ errors.Unkept };
+
+    fn from(_e: Unkept) -> SeekError {
+        SeekError::Unkept
     }
 }
 
@@ -59,50 +68,117 @@ pub(crate) enum Tried {
     Lost(usize),
 }
 
-/// Seeks the period of a game by its first `count` nim-values, at most `FARTHEST`, of which few are kept.
-pub fn seek<A: Allocator + Copy, P: Progress>(
+/// Seeks the period of a game by its first `count` nim-values, at most `FARTHEST`, of which few are kept. The keeper is given each
+/// place that the search comes to.
+pub fn seek<A: Allocator + Copy, K: Keeper<A>>(
     alloc: A,
     code: &Code,
     count: usize,
-    progress: &mut P,
+    keeper: &mut K,
 ) -> Result<Sought, SeekError>
     requires { count ≤ FARTHEST }
     ensures ok { IfOk result (IsSought code.now count) }
-    ensures err { IfErr result (IsSeekError code.now count) }
+    ensures err { IfErr result (IsSeekError K.may_refuse code.now count) }
 {
     let mut row = Row::new(alloc);
+    let mut marks = no_marks(alloc)?;
+    seek_behind(alloc, code, &mut row, FIRST, count, &mut marks, keeper)
+}
+
+/// Takes a search up again at a place, and seeks the period by the first `count` values, at most `FARTHEST`, or by as many as
+/// were computed, where these are more. What the place has is believed; the first values are listed anew.
+pub fn resume<A: Allocator + Copy, K: Keeper<A>>(
+    alloc: A,
+    place: Place<A>,
+    count: usize,
+    keeper: &mut K,
+) -> Result<Sought, SeekError>
+    requires kept { IsKept place }
+    requires limited { count ≤ FARTHEST }
+    ensures ok { IsRightPlace place → IfOk result (IsSought place.code (max count (farthest place.stage))) }
+    ensures err { IfErr result (IsSeekError K.may_refuse place.code (max count (farthest place.stage))) }
+{
+    let Place { code, listed, .. } = place;
+    let count = count.max(place.farthest());
+    let mut row = Row::new(alloc);
+    let mut marks = no_marks(alloc)?;
+    list_told(&mut row, &code, &mut marks, listed, count, keeper)?;
+    match follow(alloc, place, &row, count, &mut marks, keeper)? {
+        Tried::Done(sought) => Ok(sought),
+        Tried::Lost(heap) => {
+            let first = more_than(listed, heap);
+            seek_behind(alloc, &code, &mut row, first, count, &mut marks, keeper)
+        }
+    }
+}
+
+// A table in which no value is marked.
+fn no_marks<A: Allocator>(alloc: A) -> Result<Vec<bool, A>, AllocError>
+    ensures { IfOk result (λ marks. vec_len marks ≡ MARKS) }
+{
     let mut marks = Vec::new(alloc);
     marks.resize(MARKS, false)?;
-    let mut size = FIRST;
+    Ok(marks)
+}
+
+// How many first values are listed next, where the window behind so many does not tell the value of a heap.
+fn more_than(listed: usize, heap: usize) -> usize
+    requires listed { listed ≤ MOST_LISTED }
+    requires heap { heap ≤ FARTHEST }
+    ensures { result ≡ min MOST_LISTED (max FIRST (2 * max listed heap)) }
+{
+    MOST_LISTED.min(FIRST.max(2 * listed.max(heap)))
+}
+
+// Seeks the period by so many first values and a window behind them, and by more of them where that is lost.
+fn seek_behind<A: Allocator + Copy, K: Keeper<A>>(
+    alloc: A,
+    code: &Code,
+    row: &mut Row<u16, A>,
+    first: usize,
+    count: usize,
+    marks: &mut Vec<bool, A>,
+    keeper: &mut K,
+) -> Result<Sought, SeekError>
+    requires row { IsRow (λ x. x) code.now row.old }
+    requires few { vec_len row.old.values ≤ count }
+    requires some { 1 ≤ first }
+    requires most { first ≤ MOST_LISTED }
+    requires limited { count ≤ FARTHEST }
+    requires marks { MARKS ≤ vec_len marks.old }
+    ensures ok { IfOk result (IsSought code.now count) }
+    ensures err { IfErr result (IsSeekError K.may_refuse code.now count) }
+{
+    let mut size = first;
     loop {
-        list_told(&mut row, code, &mut marks, count.min(size), count, progress)?;
-        match try_behind(alloc, code, &row, count, &mut marks, progress)? {
+        list_told(row, code, marks, count.min(size), count, keeper)?;
+        match try_behind(alloc, code, row, count, marks, keeper)? {
             Tried::Done(sought) => return Ok(sought),
-            Tried::Lost(heap) => size = MOST_LISTED.min(2 * size.max(heap)),
+            Tried::Lost(heap) => size = more_than(size, heap),
         }
     }
 }
 
 // Lists the values of the heaps below `end`, and tells how many of `count` are known.
-fn list_told<A: Allocator + Copy, P: Progress>(
+fn list_told<A: Allocator + Copy, K: Keeper<A>>(
     row: &mut Row<u16, A>,
     code: &Code,
     marks: &mut Vec<bool, A>,
     end: usize,
     count: usize,
-    progress: &mut P,
+    keeper: &mut K,
 ) -> Result<(), SeekError>
     requires row { IsRow (λ x. x) code.now row.old }
     requires limited { end ≤ MOST_LISTED }
     requires few { end ≤ count }
     ensures row { IsRow (λ x. x) code.now row.new }
     ensures len { OnOk result (vec_len row.new.values ≡ max end (vec_len row.old.values)) }
-    ensures err { IfErr result (IsSeekError code.now count) }
+    ensures err { IfErr result (IsSeekError K.may_refuse code.now count) }
     ensures marks { vec_len marks.old ≤ vec_len marks.new }
 {
     row.room_to(end)?;
     while row.values.len() < end {
-        progress.tell(*code, row.values.len() as u64, count as u64);
+        keeper.tell(*code, row.values.len() as u64, count as u64);
         let next = end.min(row.values.len() + PART);
         if !extend(row, code, marks, next)? {
             return Err(SeekError::PastValue);
@@ -112,19 +188,20 @@ fn list_told<A: Allocator + Copy, P: Progress>(
 }
 
 // Looks for the period in the first values, and then in a window behind them.
-fn try_behind<A: Allocator + Copy, P: Progress>(
+fn try_behind<A: Allocator + Copy, K: Keeper<A>>(
     alloc: A,
     code: &Code,
     row: &Row<u16, A>,
     count: usize,
     marks: &mut [bool],
-    progress: &mut P,
-) -> Result<Tried, AllocError>
+    keeper: &mut K,
+) -> Result<Tried, SeekError>
     requires row { IsRow (λ x. x) code.now row.now }
     requires few { vec_len row.now.values ≤ count }
     requires limited { count ≤ FARTHEST }
     requires marks { MARKS ≤ length marks.old }
     ensures tried { IfOk result (IsTried code.now (vec_len row.now.values) count) }
+    ensures err { IfErr result (IsSeekError K.may_refuse code.now count) }
     ensures marks { length marks.new ≡ length marks.old }
 {
     let listed = row.values.len();
@@ -135,169 +212,65 @@ fn try_behind<A: Allocator + Copy, P: Progress>(
     if listed == count || listed == MOST_LISTED {
         return Ok(Tried::Done(Sought::Unshown(listed)));
     }
-    watch_behind(alloc, code, row, count, marks, progress)
+    let Some(window) = Window::of(alloc, *code, row)? else {
+        return Ok(Tried::Lost(listed));
+    };
+    let place = Place {
+        code: *code,
+        listed,
+        stage: Stage::Watching(Watch::new(alloc, window)?),
+    };
+    follow(alloc, place, row, count, marks, keeper)
 }
 
-// Watches a window behind the first values.
-fn watch_behind<A: Allocator + Copy, P: Progress>(
+// Goes on from a place until the search is over, or a window does not tell the next value.
+fn follow<A: Allocator + Copy, K: Keeper<A>>(
     alloc: A,
-    code: &Code,
+    place: Place<A>,
     row: &Row<u16, A>,
     count: usize,
     marks: &mut [bool],
-    progress: &mut P,
-) -> Result<Tried, AllocError>
-    requires row { IsRow (λ x. x) code.now row.now }
-    requires few { vec_len row.now.values < count }
-    requires listed { vec_len row.now.values < MOST_LISTED }
+    keeper: &mut K,
+) -> Result<Tried, SeekError>
+    requires row { IsRow (λ x. x) place.code row.now }
+    requires listed { vec_len row.now.values ≡ place.listed }
+    requires placed { IsPlaced place }
+    requires within { IsWithin count place }
     requires limited { count ≤ FARTHEST }
     requires marks { MARKS ≤ length marks.old }
-    ensures tried { IfOk result (IsTried code.now (vec_len row.now.values) count) }
+    ensures lost { IfOk result (IsLost (vec_len row.now.values) count) }
+    ensures tried { IsRightPlace place → IfOk result (IsTried place.code (vec_len row.now.values) count) }
+    ensures err { IfErr result (IsSeekError K.may_refuse place.code count) }
     ensures marks { length marks.new ≡ length marks.old }
 {
-    let Some(window) = Window::of(alloc, *code, row)? else {
-        return Ok(Tried::Lost(row.values.len()));
-    };
-    let mut watch = Watch::new(alloc, window)?;
-    let step = watch_told(alloc, &mut watch, count, marks, progress)?;
-    match step {
-        Step::On => Ok(Tried::Done(Sought::Unseen(count))),
-        Step::Lost => Ok(Tried::Lost(watch.window.count)),
-        Step::Again => {
-            let values = watch.window.count;
-            match compare_behind(alloc, code, row, watch.seen(), values, marks, progress)? {
-                Some(least) => Ok(Tried::Done(Sought::Least(least, values))),
-                None => Ok(Tried::Lost(values)),
+    let mut place = place;
+    loop {
+        tell(&place, count, keeper);
+        match place.step(alloc, row, count, marks)? {
+            Stepped::Lost(heap) => return Ok(Tried::Lost(heap)),
+            Stepped::Over(sought, last) => {
+                keeper.keep(&last, true)?;
+                return Ok(Tried::Done(sought));
+            }
+            Stepped::On(next) => {
+                keeper.keep(&next, false)?;
+                place = next;
             }
         }
     }
 }
 
-// Steps on until the window is at the heap `count`, its marked values come again, or it is lost, and tells how far it is.
-fn watch_told<A: Allocator + Copy, P: Progress>(
-    alloc: A,
-    watch: &mut Watch<A>,
-    count: usize,
-    marks: &mut [bool],
-    progress: &mut P,
-) -> Result<Step, AllocError>
-    requires watchable { IsWatchable watch.old }
-    requires limited { count ≤ FARTHEST }
-    requires marks { MARKS ≤ length marks.old }
-    ensures watchable { IsWatchable watch.new }
-    ensures same { IsSameGame watch.old.window watch.new.window }
-    ensures most { watch.new.window.count ≤ max count watch.old.window.count }
-    ensures reached { IfOk result (λ step. step ≡ On → watch.new.window.count ≡ max count watch.old.window.count) }
-    ensures behind { IfOk result (λ step. step ≡ On → watch.old.window.count < count → watch.new.at < watch.new.window.count) }
-    ensures marks { length marks.new ≡ length marks.old }
-    ensures stepped { IsWatched watch.old → IfOk result (IsStepped watch.new) }
+// Tells how far the search is.
+fn tell<A: Allocator + Copy, P: Progress>(place: &Place<A>, count: usize, progress: &mut P)
+    requires placed { IsPlaced place.now }
+    requires limited { farthest place.now.stage ≤ FARTHEST }
 {
-    while watch.window.count < count {
-        progress.tell(watch.window.code, watch.window.count as u64, count as u64);
-        let end = count.min(watch.window.count + PART);
-        let step = watch.go_to(alloc, end, marks)?;
-        if !matches!(step, Step::On) {
-            return Ok(step);
+    let (known, wanted) = match &place.stage {
+        Stage::Watching(watch) => (watch.window.count, count),
+        Stage::Comparing(seen) => {
+            let comparison = &seen.comparison;
+            (comparison.ahead(), seen.start + comparison.period)
         }
-    }
-    Ok(Step::On)
-}
-
-// Finds the least heap from which on a period holds that windows have shown by so many values.
-fn compare_behind<A: Allocator + Copy, P: Progress>(
-    alloc: A,
-    code: &Code,
-    row: &Row<u16, A>,
-    seen: SeenPeriod,
-    values: usize,
-    marks: &mut [bool],
-    progress: &mut P,
-) -> Result<Option<SeenPeriod>, AllocError>
-    requires row { IsRow (λ x. x) code.now row.now }
-    requires repeats { IsRepeat code.now seen }
-    requires within { seen.start + seen.period ≤ values }
-    requires limited { values ≤ FARTHEST }
-    requires marks { MARKS ≤ length marks.old }
-    ensures least { IfOk result (λ found. IfSome found (IsLeastPeriod code.now)) }
-    ensures within { IfOk result (λ found. IfSome found (λ least. least.start + least.period ≤ values)) }
-    ensures marks { length marks.new ≡ length marks.old }
-{
-    let Some(first) = Window::of(alloc, *code, row)? else {
-        return Ok(None);
     };
-    let Some(second) = Window::of(alloc, *code, row)? else {
-        return Ok(None);
-    };
-    let mut comparison = Comparison::new(first, second, seen.period);
-    if !go_ahead_told(&mut comparison, code, row, seen, marks, progress)
-        || !compare_told(&mut comparison, code, row, seen, marks, progress)
-    {
-        return Ok(None);
-    }
-    least_starts_are_least();
-    Ok(Some(SeenPeriod {
-        start: comparison.start(),
-        period: seen.period,
-    }))
-}
-
-// Moves the second reader a period ahead, and tells how far it is.
-fn go_ahead_told<A: Allocator + Copy, P: Progress>(
-    comparison: &mut Comparison<A>,
-    code: &Code,
-    row: &Row<u16, A>,
-    seen: SeenPeriod,
-    marks: &mut [bool],
-    progress: &mut P,
-) -> bool
-    requires paired { IsPaired (vec_len row.now.values) comparison.old }
-    requires limited { seen.start + seen.period ≤ FARTHEST }
-    requires marks { MARKS ≤ length marks.old }
-    ensures paired { IsPaired (vec_len row.now.values) comparison.new }
-    ensures ahead { result ≡ true → comparison.new.second.heap ≡ max seen.period comparison.old.second.heap }
-    ensures same { comparison.new ≡ record comparison.old { second = comparison.new.second } }
-    ensures marks { length marks.new ≡ length marks.old }
-    ensures compared { IsCompared code.now comparison.old → IsCompared code.now comparison.new }
-{
-    let wanted = (seen.start + seen.period) as u64;
-    while comparison.ahead() < seen.period {
-        progress.tell(*code, comparison.ahead() as u64, wanted);
-        let end = seen.period.min(comparison.ahead() + PART);
-        if !comparison.go_ahead(row, end, marks) {
-            return false;
-        }
-    }
-    true
-}
-
-// Compares the values of the heaps before the one from which on the period is shown, and tells how far it is.
-fn compare_told<A: Allocator + Copy, P: Progress>(
-    comparison: &mut Comparison<A>,
-    code: &Code,
-    row: &Row<u16, A>,
-    seen: SeenPeriod,
-    marks: &mut [bool],
-    progress: &mut P,
-) -> bool
-    requires row { IsRow (λ x. x) code.now row.now }
-    requires paired { IsPaired (vec_len row.now.values) comparison.old }
-    requires period { comparison.old.period ≡ seen.period }
-    requires ahead { comparison.old.second.heap ≡ comparison.old.first.heap + seen.period }
-    requires limited { seen.start + seen.period ≤ FARTHEST }
-    requires marks { MARKS ≤ length marks.old }
-    ensures paired { IsPaired (vec_len row.now.values) comparison.new }
-    ensures heap { result ≡ true → comparison.new.first.heap ≡ max seen.start comparison.old.first.heap }
-    ensures period { comparison.new.period ≡ comparison.old.period }
-    ensures marks { length marks.new ≡ length marks.old }
-    ensures compared { IsCompared code.now comparison.old → IsCompared code.now comparison.new }
-{
-    let wanted = (seen.start + seen.period) as u64;
-    while comparison.heap() < seen.start {
-        progress.tell(*code, comparison.ahead() as u64, wanted);
-        let end = seen.start.min(comparison.heap() + PART);
-        if !comparison.compare(row, end, marks) {
-            return false;
-        }
-    }
-    true
+    progress.tell(place.code, known as u64, wanted as u64);
 }

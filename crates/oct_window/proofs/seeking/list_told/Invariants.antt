@@ -2,13 +2,13 @@ use Rattle.std.proofs.Common.{◌-◌, ◌≤◌, max, vec_len}
 use Rattle.oct_mex.specs.Row.{IsRow}
 use Rattle.oct_window.proofs.seeking.list_told.Given as goal
 
-abbrev pub invariant-loop-progress : goal.invariant-loop-progress
-invariant-loop-progress g l = record {
+abbrev pub invariant-loop-keeper : goal.invariant-loop-keeper
+invariant-loop-keeper g l = record {
   row : IsRow (λ x. x) l.code l.row;
   more : vec_len l.fn.row.values ≤ vec_len l.row.values;
   most : vec_len l.row.values ≤ max l.end (vec_len l.fn.row.values);
   marks : vec_len l.fn.marks ≤ vec_len l.marks;
 }
 
-abbrev pub decreases-loop-progress : goal.decreases-loop-progress
-decreases-loop-progress g l = l.end - vec_len l.row.values
+abbrev pub decreases-loop-keeper : goal.decreases-loop-keeper
+decreases-loop-keeper g l = l.end - vec_len l.row.values

@@ -2,10 +2,10 @@ use Rattle.std.proofs.Common.{◌-◌, ◌≤◌, vec_len}
 use Rattle.oct_mex.specs.Row.{IsRow}
 use Rattle.oct_window.specs.declared.seeking.TheConstants.{MOST_LISTED}
 use Rattle.oct_window.specs.declared.window.TheConstants.{MARKS}
-use Rattle.oct_window.proofs.seeking.seek.Given as goal
+use Rattle.oct_window.proofs.seeking.seek_behind.Given as goal
 
-abbrev pub invariant-loop-marks : goal.invariant-loop-marks
-invariant-loop-marks g l = record {
+abbrev pub invariant-loop-row : goal.invariant-loop-row
+invariant-loop-row g l = record {
   row : IsRow (λ x. x) l.code l.row;
   few : vec_len l.row.values ≤ l.count;
   some : 1 ≤ l.size;
@@ -13,5 +13,5 @@ invariant-loop-marks g l = record {
   marks : MARKS ≤ vec_len l.marks;
 }
 
-abbrev pub decreases-loop-marks : goal.decreases-loop-marks
-decreases-loop-marks g l = MOST_LISTED - l.size
+abbrev pub decreases-loop-row : goal.decreases-loop-row
+decreases-loop-row g l = MOST_LISTED - l.size
