@@ -3,7 +3,7 @@ use Rattle.std.specs.Prelude.{◌≡◌, ◌⊎◌, ℕ, ◌+◌, ◌-◌, ◌*�
 use Rattle.oct_code.specs.Code.{Code}
 use Rattle.oct_window.specs.Comparisons.{IsCompared, IsPaired}
 use Rattle.oct_window.specs.Repeats.{IsRepeat}
-use Rattle.oct_window.specs.Seeking.{IsSought}
+use Rattle.oct_window.specs.Seeking.{IsSought, IsTold}
 use Rattle.oct_window.specs.Watched.{IsWatchable, IsWatched}
 use Rattle.oct_window.specs.declared.comparison.Comparison.{Comparison}
 use Rattle.oct_window.specs.declared.place.Place.{Place}
@@ -31,6 +31,7 @@ IsInTurn k = ((k.first.heap ≡ 0) × (k.second.heap ≤ k.period)) ⊎ (k.secon
 pub record IsComparing {A : Type 0} (listed : ℕ) (s : Seen A) : Type 0 where
   pub paired : IsPaired listed s.comparison
   pub turn : IsInTurn s.comparison
+  pub some : 1 ≤ s.start
   pub below : s.comparison.first.heap ≤ s.start
   pub within : s.start + s.comparison.period ≤ s.values
   pub behind : listed < s.values
@@ -102,7 +103,7 @@ pub record IsLater {A : Type 0} (count : ℕ) (old new : Place A) : Type 0 where
 
 abbrev pub IsStep : {A : Type 0} → ℕ → Place A → Stepped A → Type 0
 IsStep count old (On new) = IsLater count old new × (left count new.stage < left count old.stage)
-IsStep count old (Over sought new) = IsLater count old new
+IsStep count old (Over sought new) = IsLater count old new × IsTold count sought
 IsStep count old (Lost heap) = heap ≤ count
 
 -- what a step says and leaves is so of the game

@@ -34,6 +34,12 @@ IsSought c count (Least seen values) = IsLeastOf c count seen values
 IsSought c count (Unshown values) = (values ≡ min count MOST_LISTED) × NoneIsShown c values values
 IsSought c count (Unseen values) = (values ≡ count) × NoneIsSeen c count
 
+-- the numbers are those of at most `count` values, whatever is so of the game
+abbrev pub IsTold : ℕ → Sought → Type 0
+IsTold count (Least seen values) = (seen.start + seen.period ≤ values) × (values ≤ count)
+IsTold count (Unshown values) = values ≤ count
+IsTold count (Unseen values) = values ≡ count
+
 -- the nim-value of some heap below `count` is above 65,535
 pub record IsPast (c : Code) (count : ℕ) : Type 0 where
   pub heap : ℕ
@@ -46,12 +52,12 @@ IsSeekError refuses c count OutOfMemory = Unit {0}
 IsSeekError refuses c count PastValue = IsPast c count
 IsSeekError refuses c count Unkept = IsTrue refuses
 
--- where a window behind so many listed values is lost, more can be listed
-abbrev pub IsLost : ℕ → ℕ → Tried → Type 0
-IsLost listed count (Done sought) = Unit {0}
-IsLost listed count (Lost heap) = (listed < count) × (listed < MOST_LISTED) × (heap ≤ count)
+-- the same, whatever is so of the game; where a window behind so many listed values is lost, more can be listed
+abbrev pub IsLeft : ℕ → ℕ → Tried → Type 0
+IsLeft listed count (Done sought) = IsTold count sought
+IsLeft listed count (Lost heap) = (listed < count) × (listed < MOST_LISTED) × (heap ≤ count)
 
 -- what so many listed values, and a window behind them, come to
 abbrev pub IsTried : Code → ℕ → ℕ → Tried → Type 0
 IsTried c listed count (Done sought) = IsSought c count sought
-IsTried c listed count (Lost heap) = IsLost listed count (Lost heap)
+IsTried c listed count (Lost heap) = IsLeft listed count (Lost heap)

@@ -9,7 +9,7 @@
 ghost use Rattle.std.specs.Prelude.{◌≡◌, ◌*◌, ◌<◌, ◌≤◌, length, max, min, vec_len, IfErr, IfOk, OnOk};
 ghost use Rattle.oct_mex.specs.Row.{IsRow};
 ghost use Rattle.oct_window.specs.Places.{IsKept, IsPlaced, IsRightPlace, IsWithin, farthest};
-ghost use Rattle.oct_window.specs.Seeking.{IsLost, IsSeekError, IsSought, IsTried};
+ghost use Rattle.oct_window.specs.Seeking.{IsLeft, IsSeekError, IsSought, IsTold, IsTried};
 ghost use Rattle.oct_window.specs.declared.seeking.SeekError.TheVariants as errors;
 
 use crate::first::extend;
@@ -96,6 +96,7 @@ pub fn resume<A: Allocator + Copy, K: Keeper<A>>(
     requires kept { IsKept place }
     requires limited { count ≤ FARTHEST }
     ensures ok { IsRightPlace place → IfOk result (IsSought place.code (max count (farthest place.stage))) }
+    ensures told { IfOk result (IsTold (max count (farthest place.stage))) }
     ensures err { IfErr result (IsSeekError K.may_refuse place.code (max count (farthest place.stage))) }
 {
     let Place { code, listed, .. } = place;
@@ -238,7 +239,7 @@ fn follow<A: Allocator + Copy, K: Keeper<A>>(
     requires within { IsWithin count place }
     requires limited { count ≤ FARTHEST }
     requires marks { MARKS ≤ length marks.old }
-    ensures lost { IfOk result (IsLost (vec_len row.now.values) count) }
+    ensures left { IfOk result (IsLeft (vec_len row.now.values) count) }
     ensures tried { IsRightPlace place → IfOk result (IsTried place.code (vec_len row.now.values) count) }
     ensures err { IfErr result (IsSeekError K.may_refuse place.code count) }
     ensures marks { length marks.new ≡ length marks.old }
