@@ -1,0 +1,5 @@
+pub mod Kept
+pub mod Laws
+pub mod Numbers
+pub mod Reading
+pub mod Saved
