@@ -55,6 +55,15 @@ CASES = [
     ("merge a.state cut.delta", "Merge Refused", 1, ["cut.delta is cut off", "byte 8"]),
     ("digest bad.delta", "Merge Refused", 1, ["bad.delta is damaged", "the operation that begins at byte 47"]),
     ("union new.delta a.delta a.state", "Union 2 Version", 1, ["a.state is a state, and no delta"]),
+    # Saved searches.
+    ("show a.search", "Load Version", 1, ["a.search is a saved search, and no state"]),
+    ("merge a.state a.search", "Merge Version", 1, ["a.search is a saved search, and no delta"]),
+    ("search 70000 0.16 --window --save a.state", "Saved Version", 1, ["a.state is a state, and no saved search", "--save"]),
+    ("search 70000 0.16 --window --save cut.search", "Saved Refused", 1, ["cut.search is damaged", "begins anew"]),
+    ("search 70000 0.56 --window --save a.search", "Saved Game", 1, ["a.search is of another game", "CODE of its game"]),
+    ("search 70000 0.16 --window --save folder/none/new", "File", 3, ["folder/none/new: the folder for it is not there"]),
+    ("search 70000 0.16 --window --save a.state.lock", "Occupied", 3, ["a.state.lock would be the lock"]),
+    ("search 70000 0.16 --save new", "Words", 2, ["--save takes one CODE, and --window"]),
     # Blocks and b-files.
     ("import a.state open.json", "Json", 1, ["open.json", "line 2 column 11", FORM]),
     ("import a.state short.json", "Import Shape", 1, ["short.json is no object with exactly", FORM]),
@@ -179,6 +188,9 @@ def make_files():
     for words in ("init a.state 1", "compute a.state 0.77 5", "note a.state early x", "unnote a.state early", "delta a.state a.delta"):
         status, _, errors = run(words.split())
         need(status == 0, f"{words}: {errors!r}")
+    run("search 70000 0.16 --window --save a.search".split())
+    with open("a.search", "rb") as file:
+        write("cut.search", file.read()[:100])
     with open("a.state", "rb") as file:
         state = file.read()
     with open("a.delta", "rb") as file:

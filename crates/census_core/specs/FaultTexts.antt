@@ -25,6 +25,8 @@ use Rattle.census_core.specs.declared.fault.Fault.{Fault}
 use Rattle.census_core.specs.declared.fault.Fault.TheVariants as fault
 use Rattle.census_core.specs.declared.import_error.ImportError.{ImportError}
 use Rattle.census_core.specs.declared.import_error.ImportError.TheVariants as import
+use Rattle.census_core.specs.declared.saved_error.SavedError.{SavedError}
+use Rattle.census_core.specs.declared.saved_error.SavedError.TheVariants as saved
 
 abbrev pub load_name : LoadError → Text
 load_name load.Version = codes "Version"
@@ -96,6 +98,11 @@ bfile_text (bfile.PastLimit line) = labelled (codes "PastLimit ") line
 bfile_text bfile.Empty = codes "Empty"
 bfile_text bfile.OutOfMemory = codes "OutOfMemory"
 
+abbrev pub saved_name : SavedError → Text
+saved_name saved.Version = codes "Version"
+saved_name saved.Refused = codes "Refused"
+saved_name saved.Game = codes "Game"
+
 abbrev pub fault_name : Fault → Text
 fault_name fault.Number = codes "Number"
 fault_name fault.Words = codes "Words"
@@ -111,6 +118,7 @@ fault_name fault.Author = codes "Author"
 fault_name fault.Json = codes "Json"
 fault_name (fault.Import cause) = codes "Import"
 fault_name (fault.Bfile cause) = codes "Bfile"
+fault_name (fault.Saved cause) = codes "Saved"
 fault_name (fault.Code cause) = codes "Code"
 fault_name (fault.Compute cause) = codes "Compute"
 fault_name (fault.Period cause) = codes "Period"
@@ -133,6 +141,7 @@ abbrev pub cause_text : Fault → Text
 cause_text (fault.Load cause) = codes " " ++ load_name cause
 cause_text (fault.Import cause) = codes " " ++ import_name cause
 cause_text (fault.Bfile cause) = codes " " ++ bfile_text cause
+cause_text (fault.Saved cause) = codes " " ++ saved_name cause
 cause_text (fault.Code cause) = codes " " ++ code_name cause
 cause_text (fault.Compute cause) = codes " " ++ compute_name cause
 cause_text (fault.Period cause) = codes " " ++ period_name cause

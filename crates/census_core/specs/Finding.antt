@@ -37,8 +37,11 @@ abbrev pub found_text : Period → Text
 found_text p = labelled (codes " period ") p.period ++ labelled (codes " from ") p.start ++ labelled (codes " needs ") (needs p)
 
 -- so many nim-values prove no period
+abbrev pub vain_words : Code → ℕ → Text
+vain_words c values = code_text c ++ labelled (codes " no period in ") values ++ codes " values"
+
 abbrev pub vain_line : Code → ℕ → Text
-vain_line c values = code_text c ++ labelled (codes " no period in ") values ++ codes " values\n"
+vain_line c values = vain_words c values ++ codes "\n"
 
 -- what is found, and how many are known
 abbrev pub found_line : Code → Option Period → ℕ → Text

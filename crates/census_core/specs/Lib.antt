@@ -20,6 +20,7 @@ pub mod Questions
 pub mod Reading
 pub mod Refusals
 pub mod Replies
+pub mod Resumed
 pub mod SearchTexts
 pub mod Searching
 pub mod Site

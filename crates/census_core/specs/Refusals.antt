@@ -17,6 +17,8 @@ use Rattle.oct_record.specs.declared.error.TakeError.{TakeError}
 use Rattle.oct_record.specs.declared.error.TakeError.TheVariants as take
 use Rattle.oct_window.specs.declared.seeking.SeekError.{SeekError}
 use Rattle.oct_window.specs.declared.seeking.SeekError.TheVariants as seek
+use Rattle.oct_saved.specs.declared.error.ReadError.{ReadError}
+use Rattle.oct_saved.specs.declared.error.ReadError.TheVariants as read
 use Rattle.oct_search.specs.declared.error.SearchError.{SearchError}
 use Rattle.oct_search.specs.declared.error.SearchError.TheVariants as search
 use Rattle.oct_sync.specs.declared.error.SyncError.{SyncError}
@@ -24,9 +26,10 @@ use Rattle.oct_sync.specs.declared.error.SyncError.TheVariants as sync
 use Rattle.oct_views.specs.declared.bfile_error.BfileError.{BfileError}
 use Rattle.oct_views.specs.declared.bfile_error.BfileError.TheVariants as bfile
 use Rattle.census_core.specs.declared.fault.Fault.{Fault}
-use Rattle.census_core.specs.declared.fault.Fault.TheVariants.{Load, Zero, Held, Import, Bfile, Compute, Note, Removal, Merge, Sync, Issue, TooMany, PastValue, OutOfMemory}
+use Rattle.census_core.specs.declared.fault.Fault.TheVariants.{Load, Zero, Held, File, Import, Bfile, Saved, Compute, Note, Removal, Merge, Sync, Issue, TooMany, PastValue, OutOfMemory}
 use Rattle.census_core.specs.declared.import_error.ImportError.{ImportError}
 use Rattle.census_core.specs.declared.import_error.ImportError.TheVariants as import
+use Rattle.census_core.specs.declared.saved_error.SavedError.TheVariants as saved
 
 abbrev pub load_fault : LoadError → Fault
 load_fault load.OutOfMemory = OutOfMemory
@@ -75,6 +78,12 @@ sync_fault cause = Sync cause
 abbrev pub seek_fault : SeekError → Fault
 seek_fault seek.PastValue = PastValue
 seek_fault seek.OutOfMemory = OutOfMemory
+seek_fault seek.Unkept = File
+
+abbrev pub saved_fault : ReadError → Fault
+saved_fault read.Version = Saved saved.Version
+saved_fault read.Refused = Saved saved.Refused
+saved_fault read.OutOfMemory = OutOfMemory
 
 abbrev pub search_fault : SearchError → Fault
 search_fault search.PastValue = PastValue

@@ -20,8 +20,11 @@ value_told c None values heap = if nat_lt heap values then Some (nim_value c hea
 -- ---- lines
 
 -- the period, the heap from which on it holds, how many nim-values prove it, and how many were computed
+abbrev pub period_words : Code → SeenPeriod → ℕ → Text
+period_words c seen values = code_text c ++ found_text (repeating c seen.start seen.period) ++ labelled (codes " values ") values
+
 abbrev pub period_line : Code → SeenPeriod → ℕ → Text
-period_line c seen values = code_text c ++ found_text (repeating c seen.start seen.period) ++ labelled (codes " values ") values ++ codes "\n"
+period_line c seen values = period_words c seen values ++ codes "\n"
 
 abbrev pub game_line : Code → Option SeenPeriod → ℕ → Text
 game_line c (Some seen) values = period_line c seen values

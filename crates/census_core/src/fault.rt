@@ -1,11 +1,13 @@
 //! Why a command ended early.
 
 use crate::import_error::ImportError;
+use crate::saved_error::SavedError;
 use oct_code::CodeError;
 use oct_delta::EncodeError;
 use oct_ops::{NoteError, PeriodError};
 use oct_record::RenumberError;
 use oct_replica::{ComputeError, IssueError, LoadError, RemovalError, TakeError};
+use oct_saved::ReadError;
 use oct_search::SearchError;
 use oct_sync::SyncError;
 use oct_views::BfileError;
@@ -45,6 +47,8 @@ pub enum Fault {
     Import(ImportError),
     /// The file is no b-file. The line is counted from 1.
     Bfile(BfileError),
+    /// The file is no saved search of the game.
+    Saved(SavedError),
     /// The word is no code.
     Code(CodeError),
     /// No block is computed.
@@ -270,6 +274,22 @@ impl From<SeekError> for Fault {
         match cause {
             SeekError::PastValue => Fault::PastValue,
             SeekError::OutOfMemory => Fault::OutOfMemory,
+            SeekError::Unkept => Fault::File,
+        }
+    }
+}
+
+impl From<ReadError> for Fault {
+    ghost use Rattle.std.specs.Prelude.{◌≡◌};
+    ghost use Rattle.census_core.specs.Refusals.{saved_fault};
+
+    ghost from_gives = { λ cause fault. fault ≡ saved_fault cause };
+
+    fn from(cause: ReadError) -> Fault {
+        match cause {
+            ReadError::Version => Fault::Saved(SavedError::Version),
+            ReadError::Refused => Fault::Saved(SavedError::Refused),
+            ReadError::OutOfMemory => Fault::OutOfMemory,
         }
     }
 }

@@ -2,10 +2,11 @@
 
 ghost use Rattle.std.specs.Prelude.{◌≡◌, ◌++◌, Some, codes};
 ghost use Rattle.std.specs.Fmt.{DisplaysOnOk};
-ghost use Rattle.census_core.specs.FaultTexts.{bfile_text, cause_text, code_name, compute_name, fault_name, fault_text, import_name, issue_name, load_name, note_name, period_name, removal_name, sync_name, take_name};
+ghost use Rattle.census_core.specs.FaultTexts.{bfile_text, cause_text, code_name, compute_name, fault_name, fault_text, import_name, issue_name, load_name, note_name, period_name, removal_name, saved_name, sync_name, take_name};
 
 use crate::fault::Fault;
 use crate::import_error::ImportError;
+use crate::saved_error::SavedError;
 use oct_code::CodeError;
 use oct_ops::{NoteError, PeriodError};
 use oct_replica::{ComputeError, IssueError, LoadError, RemovalError, TakeError};
@@ -44,6 +45,7 @@ fn fault_name(fault: Fault) -> &'static str
         Fault::Json => "Json",
         Fault::Import(_) => "Import",
         Fault::Bfile(_) => "Bfile",
+        Fault::Saved(_) => "Saved",
         Fault::Code(_) => "Code",
         Fault::Compute(_) => "Compute",
         Fault::Period(_) => "Period",
@@ -71,6 +73,7 @@ fn write_cause<W: fmt::Write>(fault: Fault, f: &mut Formatter<W>) -> fmt::Result
         Fault::Load(cause) => write_name(load_name(cause), f),
         Fault::Import(cause) => write_name(import_name(cause), f),
         Fault::Bfile(cause) => write_bfile(cause, f),
+        Fault::Saved(cause) => write_name(saved_name(cause), f),
         Fault::Code(cause) => write_name(code_name(cause), f),
         Fault::Compute(cause) => write_name(compute_name(cause), f),
         Fault::Period(cause) => write_name(period_name(cause), f),
@@ -130,6 +133,16 @@ fn import_name(cause: ImportError) -> &'static str
         ImportError::TooMany => "TooMany",
         ImportError::PastLimit => "PastLimit",
         ImportError::OutOfMemory => "OutOfMemory",
+    }
+}
+
+fn saved_name(cause: SavedError) -> &'static str
+    ensures { result.now ≡ saved_name cause }
+{
+    match cause {
+        SavedError::Version => "Version",
+        SavedError::Refused => "Refused",
+        SavedError::Game => "Game",
     }
 }
 

@@ -5,7 +5,8 @@
 //!   `perform_watched` tells a `Progress` how far it is.
 //! - `search` says which period the nim-values of a game prove, computed until they prove one, and the nim-values of any heaps;
 //!   `first_values` computes as many as are asked for, and `write_values` writes them as a b-file. `search_in_windows` keeps few
-//!   of them.
+//!   of them, and gives a `Keeper` each `Place` that it comes to; `write_place` writes one, `read_search` reads it, and
+//!   `resume_in_windows` goes on from there.
 //! - `check` compares a b-file with computed values.
 //! - `unite` makes one delta of several files, and `read_together` the catalogue of what several files hold.
 //! - `digest` names the set of operations of a file by 64 digits.
@@ -46,6 +47,8 @@ mod progress;
 mod reading;
 mod reply;
 mod request;
+mod saved;
+mod saved_error;
 mod search_text;
 mod searching;
 mod site;
@@ -71,11 +74,15 @@ pub use import::import_block;
 pub use import_error::ImportError;
 pub use input::{INPUT_LIMIT, read_whole};
 pub use listing::write_values;
+pub use oct_saved::write_place;
 pub use oct_views::{Form, Told};
+pub use oct_window::{Forgetful, Keeper, Place, Unkept};
 pub use progress::Progress;
 pub use reading::read_together;
 pub use reply::Reply;
 pub use request::Request;
+pub use saved::read_search;
+pub use saved_error::SavedError;
 pub use searching::{SEARCH_LIMIT, first_values, search};
 pub use site::{Shelf, write_site};
 pub use states::{Rejoined, rejoin, rejoin_grown, unchanged};
@@ -85,5 +92,5 @@ pub use turning::Turns;
 pub use unions::unite;
 pub use verdicts::{Judged, Verdict, judge, tally};
 pub use viewing::View;
-pub use windowed::{WINDOW_LIMIT, search_in_windows};
+pub use windowed::{WINDOW_LIMIT, resume_in_windows, search_in_windows};
 pub use words::number;

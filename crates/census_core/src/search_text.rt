@@ -6,7 +6,7 @@ ghost use Rattle.oct_search.specs.Found.{IsFound};
 ghost use Rattle.oct_ops.specs.Operation.{repeating};
 ghost use Rattle.oct_period.specs.Periods.{needs};
 ghost use Rattle.census_core.specs.Finding.{found_text};
-ghost use Rattle.census_core.specs.SearchTexts.{found_members, game_line, heap_line, heap_object, heaps_member, json_text, lines_text, period_line, period_members, search_text, value_member, value_text, value_told};
+ghost use Rattle.census_core.specs.SearchTexts.{found_members, game_line, heap_line, heap_object, heaps_member, json_text, lines_text, period_line, period_members, period_words, search_text, value_member, value_text, value_told};
 
 use crate::texts::append_vain_line;
 use oct_code::Code;
@@ -92,8 +92,8 @@ fn append_game_line(
     }
 }
 
-/// Appends the line of a period, and of how many nim-values are computed.
-pub(crate) fn append_period_line(
+// Appends the line of a period, and of how many nim-values are computed.
+fn append_period_line(
     text: &mut Vec<u8>,
     code: Code,
     seen: SeenPeriod,
@@ -102,10 +102,23 @@ pub(crate) fn append_period_line(
     requires { seen.start + seen.period ≤ 2 ^ 60 }
     ensures { OnOk result (text.new.items ≡ text.old.items ++ period_line code seen values) }
 {
+    append_period_words(text, code, seen, values)?;
+    append_text(text, b"\n")
+}
+
+/// Appends a period, and how many nim-values are computed, in words.
+pub(crate) fn append_period_words(
+    text: &mut Vec<u8>,
+    code: Code,
+    seen: SeenPeriod,
+    values: usize,
+) -> Result<(), AllocError>
+    requires { seen.start + seen.period ≤ 2 ^ 60 }
+    ensures { OnOk result (text.new.items ≡ text.old.items ++ period_words code seen values) }
+{
     code.append_text(text)?;
     append_period(text, code, seen)?;
-    append_labelled(text, b" values ", values)?;
-    append_text(text, b"\n")
+    append_labelled(text, b" values ", values)
 }
 
 // Appends a period, its start, and how many values prove it.

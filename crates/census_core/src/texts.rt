@@ -3,7 +3,7 @@
 ghost use Rattle.std.specs.Prelude.{◌≡◌, ◌++◌, IfOk, OnOk, Some};
 ghost use Rattle.census_core.specs.Claiming.{claimed_line, range_line};
 ghost use Rattle.census_core.specs.Extending.{extended_line};
-ghost use Rattle.census_core.specs.Finding.{found_line, found_text, vain_line};
+ghost use Rattle.census_core.specs.Finding.{found_line, found_text, vain_line, vain_words};
 ghost use Rattle.oct_period.specs.Periods.{needs};
 ghost use Rattle.census_core.specs.Lines.{issued_line, number_line, renumbered_line, union_line};
 ghost use Rattle.census_core.specs.Moving.{left_text, move_line};
@@ -139,9 +139,21 @@ pub(crate) fn append_vain_line(
 ) -> Result<(), AllocError>
     ensures { OnOk result (text.new.items ≡ text.old.items ++ vain_line code values) }
 {
+    append_vain_words(text, code, values)?;
+    append_text(text, b"\n")
+}
+
+/// Appends that so many nim-values of a game prove no period.
+pub(crate) fn append_vain_words(
+    text: &mut Vec<u8>,
+    code: Code,
+    values: u64,
+) -> Result<(), AllocError>
+    ensures { OnOk result (text.new.items ≡ text.old.items ++ vain_words code values) }
+{
     code.append_text(text)?;
     append_labelled(text, b" no period in ", values)?;
-    append_text(text, b" values\n")
+    append_text(text, b" values")
 }
 
 // Appends a period, its start, and how many values prove it.

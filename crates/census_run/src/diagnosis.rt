@@ -4,7 +4,7 @@ use crate::damage::damage_text;
 use crate::failure::Failure;
 use crate::shown::{quoted, shown, shown_bytes};
 use crate::streams::INPUT_NAME;
-use census_core::{Fault, Request};
+use census_core::{Fault, Request, SavedError};
 use oct_code::{Code, CodeError, LIMIT, MAX_DIGITS};
 use oct_ops::NoteError;
 use oct_record::{LoadError, TakeError};
@@ -33,6 +33,7 @@ enum Kind {
     State,
     Delta,
     Hexadecimal,
+    Search,
     Bfile,
     Json,
     Other,
@@ -48,6 +49,9 @@ fn kind_of(bytes: &[u8]) -> Kind {
     }
     if bytes.starts_with(b"4f4744") || bytes.starts_with(b"4F4744") {
         return Kind::Hexadecimal;
+    }
+    if bytes.starts_with(b"OGW1") {
+        return Kind::Search;
     }
     match bytes.first() {
         None => Kind::Empty,
@@ -151,6 +155,7 @@ fn advised_state(alloc: Global, failure: Failure, kind: Kind, name: &str) -> Fai
         Kind::Hexadecimal => failure
             .found(named(alloc, name, "is hexadecimal text, and no state"))
             .advise(advised(alloc, "to see what it says: census fold < ", name)),
+        Kind::Search => failure.found(named(alloc, name, "is a saved search, and no state")),
         Kind::Bfile => failure
             .found(named(alloc, name, "is no state; it looks like a b-file"))
             .advise(advised(alloc, "to claim its values: census claim STATE CODE ", name)),
@@ -190,6 +195,7 @@ fn advised_delta(alloc: Global, failure: Failure, kind: Kind, name: &str) -> Fai
         Kind::Hexadecimal => failure
             .found(named(alloc, name, "is hexadecimal text, and no delta"))
             .advise(advised(alloc, "to see what it says: census fold < ", name)),
+        Kind::Search => failure.found(named(alloc, name, "is a saved search, and no delta")),
         Kind::Bfile => failure
             .found(named(alloc, name, "is no delta; it looks like a b-file"))
             .advise(advised(alloc, "to claim its values: census claim STATE CODE ", name)),
@@ -243,6 +249,17 @@ fn json_text(alloc: Global, name: &str, error: &serde_json::Error) -> Result<Str
 // The fault of a JSON text that is no block.
 fn of_import(alloc: Global, fault: Fault, file: Given<'_>) -> Failure {
     Failure::of(alloc, fault, file.name)
+}
+
+/// The fault of a file that is to be a saved search.
+pub(crate) fn of_saved(alloc: Global, cause: SavedError, file: Given<'_>) -> Failure {
+    let failure = Failure::of(alloc, Fault::Saved(cause), file.name);
+    let text = match (cause, kind_of(file.bytes)) {
+        (SavedError::Version, Kind::State) => "is a state, and no saved search",
+        (SavedError::Version, Kind::Delta) => "is a delta, and no saved search",
+        _ => return failure,
+    };
+    failure.found(named(alloc, file.name, text))
 }
 
 /// The fault of a b-file.

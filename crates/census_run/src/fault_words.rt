@@ -1,7 +1,7 @@
 //! What each fault and each cause means, and what to do after it: the one table from which a fault is explained on a
 //! terminal, by `census explain` and in the manual.
 
-use census_core::{Fault, ImportError};
+use census_core::{Fault, ImportError, SavedError};
 use oct_code::CodeError;
 use oct_ops::{NoteError, PeriodError};
 use oct_record::{IssueError, LoadError, RemovalError, TakeError};
@@ -66,6 +66,9 @@ const FILES_REFUSED: &[Fault] = &[
     Fault::Bfile(BfileError::Order { line: 1 }),
     Fault::Bfile(BfileError::PastLimit { line: 1 }),
     Fault::Bfile(BfileError::Empty),
+    Fault::Saved(SavedError::Version),
+    Fault::Saved(SavedError::Refused),
+    Fault::Saved(SavedError::Game),
 ];
 
 // Refused words, with status 1.
@@ -130,6 +133,7 @@ pub(crate) fn words_of(fault: Fault) -> FaultWords {
         Fault::Json => JSON,
         Fault::Import(cause) => of_import(cause),
         Fault::Bfile(cause) => of_bfile(cause),
+        Fault::Saved(cause) => of_saved(cause),
         Fault::Code(cause) => of_code(cause),
         Fault::Zero => ZERO,
         Fault::Held => HELD,
@@ -377,6 +381,26 @@ fn of_bfile(cause: BfileError) -> FaultWords {
             "a line is as `0 0`, a heap and its value",
         ),
         BfileError::OutOfMemory => MEMORY,
+    }
+}
+
+fn of_saved(cause: SavedError) -> FaultWords {
+    match cause {
+        SavedError::Version => said(
+            "the file",
+            "is no saved search",
+            "name another file for --save; where there is none, the search begins anew",
+        ),
+        SavedError::Refused => said(
+            "the saved search",
+            "is damaged",
+            "take a copy of it that is whole, or name another file, and the search begins anew",
+        ),
+        SavedError::Game => said(
+            "the saved search",
+            "is of another game",
+            "give the CODE of its game, or name another file for --save",
+        ),
     }
 }
 

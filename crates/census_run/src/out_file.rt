@@ -109,9 +109,7 @@ fn check_free<R: Files + AllocGlobal>(
     replaced: Replaced<'_>,
 ) -> Result<(), Failure> {
     let alloc = rt.alloc();
-    if is_beside_a_file(rt, path)? {
-        return Err(Failure::of(alloc, Fault::Occupied, path).found(beside_text(alloc, path)));
-    }
+    check_apart(rt, path)?;
     match standing(rt, path) {
         Ok(None) => Ok(()),
         Ok(Some(there)) if !there.is_file() => Err(no_file(alloc, path, &there)),
@@ -120,6 +118,16 @@ fn check_free<R: Files + AllocGlobal>(
         Ok(Some(_)) => Err(occupied(alloc, path, replaced)),
         Err(error) => Err(Failure::of(alloc, Fault::File, path).because(error)),
     }
+}
+
+/// Refuses the name of a lock or of a new text of another file. The fault is `Occupied`, and `File` where it can't be seen
+/// whether there is one.
+pub(crate) fn check_apart<R: Files + AllocGlobal>(rt: &R, path: &str) -> Result<(), Failure> {
+    if is_beside_a_file(rt, path)? {
+        let alloc = rt.alloc();
+        return Err(Failure::of(alloc, Fault::Occupied, path).found(beside_text(alloc, path)));
+    }
+    Ok(())
 }
 
 // The failure of a place where something else stands.

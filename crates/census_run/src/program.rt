@@ -14,19 +14,20 @@ use crate::manual::manual_page;
 use crate::network::{serve, sync};
 use crate::out_file::{Out, Replaced};
 use crate::progress_line::ProgressLine;
+use crate::searching::{list, search_each};
 use crate::shown::shown;
 use crate::site_folder::make_site;
 use crate::state_file::StateFile;
 use crate::streams::{INPUT_NAME, Noted, OUTPUT_NAME, is_standard, read_standard};
 use crate::system::System;
 use crate::table::HUB;
-use crate::task::{SearchTask, Task, read_task};
+use crate::task::{Task, read_task};
 use crate::turns::{Games, give_turns};
 use crate::verdict_line::{Changed, say_what_became};
 use crate::words::EXPLAIN;
 use census_core::{
-    Fault, Progress, Reply, Request, check, first_values, fold_intake, perform, perform_watched,
-    read_together, search, search_in_windows, unite, write_values,
+    Fault, Progress, Reply, Request, check, fold_intake, perform, perform_watched, read_together,
+    unite,
 };
 use clap::ArgMatches;
 use clap::error::ErrorKind;
@@ -309,55 +310,6 @@ fn fold<I: Read, O: Write, E: Write>(
     // The program ends here: to give back each operation first would take a fifth of the time.
     mem::forget(intake);
     Ok(())
-}
-
-// Searches for the period of each game, and prints its lines before it goes on to the next.
-fn search_each<R, O, E>(
-    rt: &R,
-    sought: &SearchTask,
-    output: &mut O,
-    progress: &mut ProgressLine<'_, R, E>,
-) -> Result<(), Failure>
-where
-    R: AllocGlobal + Clock,
-    O: Write,
-    E: Write,
-{
-    let SearchTask {
-        count,
-        heaps,
-        codes,
-        form,
-        is_windowed,
-    } = sought;
-    for code in codes {
-        let searched = if *is_windowed {
-            search_in_windows(rt.alloc(), *code, *count, *form, progress)
-        } else {
-            search(rt.alloc(), *code, *count, heaps, *form, progress)
-        };
-        progress.clear();
-        write_out(output, &searched?)?;
-    }
-    Ok(())
-}
-
-// Prints the first values of a game, once all are computed.
-fn list<R, O, E>(
-    rt: &R,
-    code: Code,
-    count: u64,
-    output: &mut O,
-    progress: &mut ProgressLine<'_, R, E>,
-) -> Result<(), Failure>
-where
-    R: AllocGlobal + Clock,
-    O: Write,
-    E: Write,
-{
-    let values = first_values(rt.alloc(), code, count, progress);
-    progress.clear();
-    Ok(write_values(rt.alloc(), &values?, output)?)
 }
 
 // Compares the values of a file with those of a game. The status is 0 where all are right, and else 1.

@@ -41,7 +41,13 @@ Example:
     Row {
         name: "search",
         words: &[words::VALUES, words::CODES],
-        options: &[words::AT, words::AS_JSON, words::AS_BFILE, words::WINDOW],
+        options: &[
+            words::AT,
+            words::AS_JSON,
+            words::AS_BFILE,
+            words::WINDOW,
+            words::SAVE,
+        ],
         does: Does::Search,
         line: "The period of each game, by at most COUNT values",
         about: "Computes values of each game until they prove a period, and says which",
@@ -64,18 +70,25 @@ are kept come again, mostly by fewer values than 2E + 2P + k; then E is found by
 line says `no period seen in COUNT values` where they do not come again: they are marked anew at
 lengths that double, so a period that a search without --window would find may not be seen.
 
+With --save FILE such a search, of one game, can be stopped at any moment and taken up again by the same
+line: how far it is stands in FILE, which is written every two minutes and at the end, with a checksum,
+and goes on from there, by more values where COUNT is greater than before. What FILE has is believed, and
+the line ends with `from a saved search`. FILE is locked meanwhile, and written as a state is; where it
+can't be written, the search ends. The first 65,536 values, or as many as are listed, are computed anew.
+
 No state is needed. A value takes a byte of memory while none is above 255, and two from then on, and
 up to a third more while the list grows. On a terminal a line on standard error says how far it is.
 All codes are read before the first value is computed; after a later fault the lines of the games
 before it stand.
 
-Exit status: 0 done (also where there is no period), 1 refused: Code, PastValue (a value is above
-65535); 2 command line, 3 output, 4 memory
+Exit status: 0 done (also where there is no period), 1 refused: Code, Saved (FILE: Version, Refused or
+Game), PastValue (a value is above 65535); 2 command line, 3 file or output, 4 memory
 
 Examples:
   census search 1000000 0.16
   census search 1000000 0.16 --at 1000000000000
   census search 1000000000000 0.104 --window
+  census search 1000000000000 0.106 --window --save 0.106.search
   census search --bfile 100000 0.16 > b.txt",
     },
     Row {

@@ -108,9 +108,7 @@ impl StateFile {
         R: Files<File = File> + AllocGlobal,
     {
         check_length(rt.alloc(), bytes, self.path.as_str())?;
-        if self.lock.is_none() {
-            return Err(self.not_held(rt.alloc()));
-        }
+        self.check_held(rt.alloc())?;
         let new_path = beside(rt.alloc(), self.path.as_str(), ".new")?;
         match renewed(rt, self.path.as_str(), new_path.as_str(), bytes) {
             Ok(()) => Ok(()),
@@ -119,6 +117,14 @@ impl StateFile {
                 Err(unwritten(rt.alloc(), self.path.as_str(), error))
             }
         }
+    }
+
+    /// Refuses a state whose lock is not held. The fault is `File`.
+    pub(crate) fn check_held(&self, alloc: Global) -> Result<(), Failure> {
+        if self.lock.is_none() {
+            return Err(self.not_held(alloc));
+        }
+        Ok(())
     }
 
     // The failure of a state that is not locked.

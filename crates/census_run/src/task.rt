@@ -36,7 +36,7 @@ pub(crate) enum Task<'a> {
         files: Vec<&'a str>,
     },
     /// The period of each game.
-    Search(SearchTask),
+    Search(SearchTask<'a>),
     /// The first values of a game, as a b-file.
     List {
         count: u64,
@@ -111,12 +111,14 @@ pub(crate) enum Task<'a> {
 /// What a search is for: the period of each game, by at most so many values, and the values of these heaps; in windows there
 /// are none.
 #[derive(Drop)]
-pub(crate) struct SearchTask {
+pub(crate) struct SearchTask<'a> {
     pub(crate) count: u64,
     pub(crate) heaps: Vec<u64>,
     pub(crate) codes: Vec<Code>,
     pub(crate) form: Form,
     pub(crate) is_windowed: bool,
+    /// The file in which the search in windows of one game is saved.
+    pub(crate) save: Option<&'a str>,
 }
 
 /// What the matches of a command line ask for. The fault is `Number` where a word is no number of its range, `Code` where a
@@ -266,7 +268,9 @@ fn request_of<R: AllocGlobal + RandomSource>(
 
 // The values that are asked for as a b-file: those of one game, and nothing else.
 fn list<'a>(alloc: Global, found: &ArgMatches<'a>) -> Result<Task<'a>, Failure> {
-    let is_more = found.get_flag(words::AS_JSON.name) || found.get_flag(words::WINDOW.name);
+    let is_more = found.get_flag(words::AS_JSON.name)
+        || found.get_flag(words::WINDOW.name)
+        || found.get_str(words::SAVE.name).is_some();
     if is_more || found.get_strs(words::AT.name).is_some() {
         return Err(crowded(alloc));
     }
@@ -282,7 +286,7 @@ fn list<'a>(alloc: Global, found: &ArgMatches<'a>) -> Result<Task<'a>, Failure> 
 
 // The failure of a list of values, for which too much is asked.
 fn crowded(alloc: Global) -> Failure {
-    let text = "--bfile takes one CODE, and neither --at, --json nor --window";
+    let text = "--bfile takes one CODE, and neither --at, --json, --window nor --save";
     Failure::from(Fault::Words).found(String::from_str(alloc, text))
 }
 
@@ -292,8 +296,14 @@ fn forgotten(alloc: Global) -> Failure {
     Failure::from(Fault::Words).found(String::from_str(alloc, text))
 }
 
+// The failure of a search that can't be saved.
+fn unsaved(alloc: Global) -> Failure {
+    let text = "--save takes one CODE, and --window";
+    Failure::from(Fault::Words).found(String::from_str(alloc, text))
+}
+
 // What is searched for.
-fn search(alloc: Global, found: &ArgMatches<'_>) -> Result<SearchTask, Failure> {
+fn search<'a>(alloc: Global, found: &ArgMatches<'a>) -> Result<SearchTask<'a>, Failure> {
     let form = if found.get_flag(words::AS_JSON.name) {
         Form::Json
     } else {
@@ -303,6 +313,10 @@ fn search(alloc: Global, found: &ArgMatches<'_>) -> Result<SearchTask, Failure> 
     if is_windowed && found.get_strs(words::AT.name).is_some() {
         return Err(forgotten(alloc));
     }
+    let save = found.get_str(words::SAVE.name);
+    if save.is_some() && (!is_windowed || repeated(alloc, found, words::CODES)?.len() != 1) {
+        return Err(unsaved(alloc));
+    }
     let range = if is_windowed { WINDOWED } else { SEARCHED };
     Ok(SearchTask {
         count: value_count(alloc, found, range)?,
@@ -310,6 +324,7 @@ fn search(alloc: Global, found: &ArgMatches<'_>) -> Result<SearchTask, Failure> 
         codes: games(alloc, found)?,
         form,
         is_windowed,
+        save,
     })
 }
 

@@ -260,6 +260,13 @@ pub(crate) const WINDOW: Choice = Choice {
     default: None,
 };
 
+pub(crate) const SAVE: Choice = Choice {
+    name: "save",
+    takes: Takes::One("FILE"),
+    meaning: "With --window and one CODE: saves how far the search is in FILE, and goes on from there",
+    default: None,
+};
+
 pub(crate) const PATIENCE: Choice = Choice {
     name: "patience",
     takes: Takes::One("SECONDS"),

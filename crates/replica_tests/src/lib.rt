@@ -8,6 +8,8 @@ mod answers;
 #[cfg(test)]
 mod commands;
 #[cfg(test)]
+mod faults;
+#[cfg(test)]
 mod fold;
 #[cfg(test)]
 mod progress;
@@ -15,6 +17,8 @@ mod progress;
 mod records;
 #[cfg(test)]
 mod replica;
+#[cfg(test)]
+mod resumed;
 #[cfg(test)]
 mod runs;
 #[cfg(test)]

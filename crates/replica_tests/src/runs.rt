@@ -67,7 +67,8 @@ fn folder_name(rt: &HostRuntime) -> Result<String, Fail> {
     Ok(format!(in rt.alloc(); "{place}/census-does_commands_over_files")?)
 }
 
-// Commands on a state, of which one reads a file of JSON, and how they end. The words STATE and JSON stand for the files.
+// Commands on a state, of which one reads a file of JSON, and searches that are saved, and how they end. The words STATE, JSON
+// and SEARCH stand for the files, and NOWHERE for one in a folder that is not there.
 const ON_FILES: &[Case<'static>] = &[
     Case {
         words: &["init", "STATE", "7"],
@@ -249,24 +250,99 @@ const ON_FILES: &[Case<'static>] = &[
         output: "",
         errors: "",
     },
+    Case {
+        words: &["search", "70000", "0.16", "--window", "--save", "SEARCH"],
+        status: 0,
+        output: "0.16 no period seen in 70000 values\n",
+        errors: "",
+    },
+    Case {
+        words: &["search", "70000", "0.16", "--window", "--save", "SEARCH"],
+        status: 0,
+        output: "0.16 no period seen in 70000 values from a saved search\n",
+        errors: "",
+    },
+    Case {
+        words: &[
+            "--explain",
+            "search",
+            "60000",
+            "0.16",
+            "--window",
+            "--json",
+            "--save",
+            "SEARCH",
+        ],
+        status: 0,
+        output: "{\"code\":\"0.16\",\"period\":null,\"values\":70000,\"unseen\":true,\"saved\":true}\n",
+        errors: "the search in ..",
+    },
+    Case {
+        words: &["search", "70000", "0.56", "--window", "--save", "SEARCH"],
+        status: 1,
+        output: "",
+        errors: "census: Saved Game\n",
+    },
+    Case {
+        words: &["search", "70000", "0.16", "--window", "--save", "STATE"],
+        status: 1,
+        output: "",
+        errors: "census: Saved Version\n",
+    },
+    Case {
+        words: &["search", "1000000", "0.16", "--window", "--save", "SEARCH"],
+        status: 0,
+        output: "0.16 period 149459 from 105351 needs 509622 values 411603 from a saved search\n",
+        errors: "",
+    },
+    Case {
+        words: &["search", "1", "0.16", "--window", "--save", "SEARCH"],
+        status: 0,
+        output: "0.16 period 149459 from 105351 needs 509622 values 411603 from a saved search\n",
+        errors: "",
+    },
+    Case {
+        words: &["search", "70000", "0.16", "--window", "--save", "NOWHERE"],
+        status: 3,
+        output: "",
+        errors: "census: File\n",
+    },
 ];
 
-// The words over these files.
-fn words_over<'a>(
-    alloc: Global,
-    words: &[&'a str],
-    state: &'a str,
-    json: &'a str,
-) -> Result<Vec<&'a str>, Fail> {
-    let mut all = Vec::new(alloc);
-    for &word in words {
-        all.push(match word {
-            "STATE" => state,
-            "JSON" => json,
-            other => other,
-        })?;
+// The files for which words stand.
+#[derive(Drop)]
+struct Names {
+    state: String,
+    json: String,
+    search: String,
+    nowhere: String,
+}
+
+impl Names {
+    // Those of files in a folder.
+    fn of(alloc: Global, folder: &str) -> Result<Names, Fail> {
+        Ok(Names {
+            state: format!(in alloc; "{folder}/state")?,
+            json: format!(in alloc; "{folder}/block.json")?,
+            search: format!(in alloc; "{folder}/0.16.search")?,
+            nowhere: format!(in alloc; "{folder}/nowhere/0.16.search")?,
+        })
     }
-    Ok(all)
+
+    // The words over these files.
+    fn words<'a>(&'a self, alloc: Global, words: &[&'a str]) -> Result<Vec<&'a str>, Fail> {
+        let mut all = Vec::new(alloc);
+        for &word in words {
+            all.push(match word {
+                "STATE" => self.state.as_str(),
+                "JSON" => self.json.as_str(),
+                "SEARCH" => self.search.as_str(),
+                "NOWHERE" => self.nowhere.as_str(),
+                other => other,
+            })?;
+        }
+        Ok(all)
+    }
 }
 
 #[test]
@@ -274,11 +350,10 @@ fn does_commands_over_files(rt: HostRuntime) -> Result<(), Fail> {
     let folder = folder_name(&rt)?;
     let _ = fs::remove_dir_all(&rt, folder.as_str());
     fs::create_dir(&rt, folder.as_str())?;
-    let state = format!(in rt.alloc(); "{folder}/state")?;
-    let json = format!(in rt.alloc(); "{folder}/block.json")?;
-    fs::write(&rt, json.as_str(), BLOCK)?;
+    let names = Names::of(rt.alloc(), folder.as_str())?;
+    fs::write(&rt, names.json.as_str(), BLOCK)?;
     for &case in ON_FILES {
-        let words = words_over(rt.alloc(), case.words, state.as_str(), json.as_str())?;
+        let words = names.words(rt.alloc(), case.words)?;
         End::of(&rt, &words).is_right(&rt, case);
     }
     fs::remove_dir_all(&rt, folder.as_str())?;
@@ -491,6 +566,26 @@ const SEARCHES: &[Case<'static>] = &[
     },
     Case {
         words: &["search", "--bfile", "5", "0.77", "--window"],
+        status: 2,
+        output: "",
+        errors: "census: Words\n",
+    },
+    Case {
+        words: &["search", "1000", "0.77", "--save", "FILE"],
+        status: 2,
+        output: "",
+        errors: "census: Words\n",
+    },
+    Case {
+        words: &[
+            "search", "1000", "0.77", "0.6", "--window", "--save", "FILE",
+        ],
+        status: 2,
+        output: "",
+        errors: "census: Words\n",
+    },
+    Case {
+        words: &["search", "--bfile", "5", "0.77", "--save", "FILE"],
         status: 2,
         output: "",
         errors: "census: Words\n",
