@@ -4,3 +4,4 @@ pub mod Codes
 pub mod Fronts
 pub mod Same
 pub mod Texts
+pub mod Words

@@ -64,6 +64,16 @@ abbrev pub FitsStage : {A : Type 0} → Stage A → Type 0
 FitsStage (Watching w) = FitsWatch w
 FitsStage (Comparing s) = FitsSeen s
 
+-- the masks of its windows, which are among its scalars
+abbrev pub FitsMasks : {A : Type 0} → Stage A → Type 0
+FitsMasks (Watching w) = FitsMask w.window.rare.mask
+FitsMasks (Comparing s) = FitsMask s.comparison.first.window.rare.mask × FitsMask s.comparison.second.window.rare.mask
+
+-- the values that it has marked, which are among its lists
+abbrev pub FitsMark : {A : Type 0} → Stage A → Type 0
+FitsMark (Watching w) = All (λ v. v < 2 ^ 16) w.mark.items
+FitsMark (Comparing s) = Unit {0}
+
 pub record FitsPlace {A : Type 0} (p : Place A) : Type 0 where
   pub code : IsCode p.code
   pub stage : FitsStage p.stage

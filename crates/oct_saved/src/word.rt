@@ -12,7 +12,8 @@ pub(crate) trait Word: Copy {
 
     /// The number, in 64 bits.
     fn number(self) -> u64
-        ensures { result ≡ number self };
+        ensures value { result ≡ number self }
+        ensures fits { number self < bound };
 
     /// What stands for a number, if it fits.
     fn from_number(value: u64) -> Option<Self>

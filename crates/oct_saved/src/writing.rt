@@ -2,7 +2,7 @@
 
 ghost use Rattle.std.specs.Prelude.{◌≡◌, ◌++◌, IfOk, OnOk};
 ghost use Rattle.oct_saved.specs.Numbers.{listing, place_numbers, place_scalars, reader_scalars, stage_lists, window_lists, window_scalars};
-ghost use Rattle.oct_saved.specs.Saved.{number_bytes, saved_text};
+ghost use Rattle.oct_saved.specs.Saved.{AreWords, FitsMark, FitsMask, FitsMasks, FitsPlace, number_bytes, saved_text};
 
 use crate::output::{put_list, put_number, put_numbers};
 use oct_window::{Place, Reader, Stage, Window};
@@ -15,7 +15,8 @@ pub fn write_place<A: Allocator + Copy>(
     alloc: A,
     place: &Place<A>,
 ) -> Result<Vec<u8, A>, AllocError>
-    ensures { IfOk result (λ text. text.items ≡ saved_text place.now) }
+    ensures text { IfOk result (λ text. text.items ≡ saved_text place.now) }
+    ensures fits { OnOk result (FitsPlace place.now) }
 {
     let body = body_of(alloc, place)?;
     let mut text = Vec::new(alloc);
@@ -27,7 +28,8 @@ pub fn write_place<A: Allocator + Copy>(
 
 // The numbers of a place, as bytes.
 fn body_of<A: Allocator + Copy>(alloc: A, place: &Place<A>) -> Result<Vec<u8, A>, AllocError>
-    ensures { IfOk result (λ body. body.items ≡ number_bytes (place_numbers place.now)) }
+    ensures bytes { IfOk result (λ body. body.items ≡ number_bytes (place_numbers place.now)) }
+    ensures fits { OnOk result (FitsPlace place.now) }
 {
     let mut out = Vec::new(alloc);
     put_scalars(&mut out, place)?;
@@ -41,7 +43,9 @@ fn put_scalars<A: Allocator + Copy>(
     out: &mut Vec<u8, A>,
     place: &Place<A>,
 ) -> Result<(), AllocError>
-    ensures { OnOk result (out.new.items ≡ out.old.items ++ number_bytes (listing (place_scalars place.now))) }
+    ensures bytes { OnOk result (out.new.items ≡ out.old.items ++ number_bytes (listing (place_scalars place.now))) }
+    ensures words { OnOk result (AreWords (listing (place_scalars place.now))) }
+    ensures masks { OnOk result (FitsMasks place.now.stage) }
 {
     let head = usize::from(place.code.head());
     match &place.stage {
@@ -66,7 +70,9 @@ fn put_reader<A: Allocator + Copy>(
     out: &mut Vec<u8, A>,
     reader: &Reader<A>,
 ) -> Result<(), AllocError>
-    ensures { OnOk result (out.new.items ≡ out.old.items ++ number_bytes (reader_scalars reader.now)) }
+    ensures bytes { OnOk result (out.new.items ≡ out.old.items ++ number_bytes (reader_scalars reader.now)) }
+    ensures words { OnOk result (AreWords (reader_scalars reader.now)) }
+    ensures mask { OnOk result (FitsMask reader.now.window.rare.mask) }
 {
     put_numbers(out, &[reader.heap])?;
     put_numbers(out, &scalars_of(&reader.window))
@@ -74,7 +80,8 @@ fn put_reader<A: Allocator + Copy>(
 
 // The scalars of a window.
 fn scalars_of<A: Allocator + Copy>(window: &Window<A>) -> [usize; 5]
-    ensures { result ≡ window_scalars window.now }
+    ensures scalars { result ≡ window_scalars window.now }
+    ensures mask { FitsMask window.now.rare.mask }
 {
     let mask = window.rare.mask;
     [
@@ -88,7 +95,9 @@ fn scalars_of<A: Allocator + Copy>(window: &Window<A>) -> [usize; 5]
 
 // Appends the lists of what goes on behind the first values.
 fn put_stage<A: Allocator + Copy>(out: &mut Vec<u8, A>, stage: &Stage<A>) -> Result<(), AllocError>
-    ensures { OnOk result (out.new.items ≡ out.old.items ++ number_bytes (stage_lists stage.now)) }
+    ensures bytes { OnOk result (out.new.items ≡ out.old.items ++ number_bytes (stage_lists stage.now)) }
+    ensures words { OnOk result (AreWords (stage_lists stage.now)) }
+    ensures mark { OnOk result (FitsMark stage.now) }
 {
     match stage {
         Stage::Watching(watch) => {
@@ -107,7 +116,8 @@ fn put_lists<A: Allocator + Copy>(
     out: &mut Vec<u8, A>,
     window: &Window<A>,
 ) -> Result<(), AllocError>
-    ensures { OnOk result (out.new.items ≡ out.old.items ++ number_bytes (window_lists window.now)) }
+    ensures bytes { OnOk result (out.new.items ≡ out.old.items ++ number_bytes (window_lists window.now)) }
+    ensures words { OnOk result (AreWords (window_lists window.now)) }
 {
     put_list(out, &window.rare.heaps)?;
     put_list(out, &window.held)
