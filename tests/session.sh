@@ -3,8 +3,7 @@
 # each line is printed as it stands in session.txt and there; `..` in the README stands for lines that it leaves out. Takes
 # some seconds; the connection is on the loopback, on a free port, which is printed as 4000.
 set -euo pipefail
-here=$(cd "$(dirname "${BASH_SOURCE[0]}")" && pwd)
-top=$(dirname "$here")
+top=$(cd "$(dirname "${BASH_SOURCE[0]}")/.." && pwd)
 census=$("$top/dist/program")
 room=$(mktemp -d)
 trap 'rm -rf "$room"' EXIT
@@ -71,9 +70,9 @@ shown() {
   awk -v first="    $ census $2" 'index($0, first) == 1 { on = 1 } on && !/^    / { exit } on { print substr($0, 5) }' "$1"
 }
 
-(played "$here/session.txt" "$room/long") >"$room/played"
-diff "$here/session.txt" "$room/played"
-shown "$top/docs/TUTORIAL.md" 'init anna' | diff "$here/session.txt" -
+(played "$top/examples/session.txt" "$room/long") >"$room/played"
+diff "$top/examples/session.txt" "$room/played"
+shown "$top/docs/TUTORIAL.md" 'init anna' | diff "$top/examples/session.txt" -
 
 shown "$top/README.md" 'init anna' >"$room/short.txt"
 (played "$room/short.txt" "$room/short") >"$room/played"
