@@ -1,19 +1,10 @@
 #!/usr/bin/env python3
-"""Claims b-files whose values stand in the literature, and looks at what the catalogue says of them: all of them proved, and where one
-value was changed, the block refuted at that heap; `check` says the same of each value, with no state. Then the b-file that the
-program prints is claimed into another state, and files that are no b-files are refused by their first faulty line. Takes some seconds.
-
-    bfiles.py [PROGRAM [WORD ..]]         the program is the one that ../census runs where none is named
+"""Claims b-files whose values stand in the literature, and looks at what the catalogue says of them: all of them proved, and where
+one value was changed, the block refuted at that heap; `check` says the same of each value, with no state. Then the b-file that the
+program prints is claimed into another state, and files that are no b-files are refused by their first faulty line.
 """
 
-import os
-import subprocess
-import sys
-import tempfile
-
-HERE = os.path.dirname(os.path.abspath(__file__))
-CENSUS = sys.argv[1:] or [subprocess.check_output([os.path.join(HERE, "..", "dist", "program")], text=True).strip()]
-SECONDS = 60
+from lib import done, folder, read, refused, run, same, write
 
 # Winning Ways, chapter 4: Kayles has period 12 from heap 71 on, and fourteen exceptions before; Dawson's Kayles has period 34 from heap
 # 53 on, and eight exceptions before. Dawson's Chess has at n the value of Dawson's Kayles at n + 1.
@@ -45,31 +36,8 @@ BAD = [
 ]
 
 
-def census(*words):
-    return subprocess.run([*CENSUS, *words], capture_output=True, text=True, timeout=SECONDS)
-
-
-def done(*words):
-    ran = census(*words)
-    if ran.returncode:
-        sys.exit(f"bfiles: {' '.join(words)} ended with {ran.returncode}: {ran.stderr}")
-    return ran.stdout
-
-
-def same(what, found, due):
-    if found != due:
-        sys.exit(f"bfiles: {what}: {found!r}, and not {due!r}")
-
-
 def text(values):
     return "".join(f"{n} {v}\n" for n, v in enumerate(values))
-
-
-def write(room, name, content):
-    path = os.path.join(room, name)
-    with open(path, "wb") as file:
-        file.write(content)
-    return path
 
 
 def statuses(state):
@@ -83,68 +51,75 @@ def issued(values):
     return "issued 1.1\n" if blocks == 1 else f"issued 1.1 to 1.{blocks}\n"
 
 
-def check(room, code, values):
+def check_game(code, values):
+    """A game of the literature: claimed right, with one value changed, and again as the program prints it."""
     blocks = -(-len(values) // 1024)
-    true, wrong, again = (os.path.join(room, f"{code}-{name}.state") for name in ("true", "wrong", "again"))
+    true, wrong, again = (f"{code}-{name}.state" for name in ("true", "wrong", "again"))
     for state in (true, wrong, again):
         done("init", state, "1")
-    same(f"{code}", done("claim", true, code, write(room, "b.txt", text(values).encode())), issued(values))
+    write("b.txt", text(values).encode())
+    same(code, done("claim", true, code, "b.txt"), issued(values))
     same(f"blocks of {code}", statuses(true), ["proved"] * blocks)
 
     at = 1500
-    changed = [v + (n == at) for n, v in enumerate(values)]
-    done("claim", wrong, code, write(room, "b.txt", text(changed).encode()))
+    write("b.txt", text(changed(values, at)).encode())
+    done("claim", wrong, code, "b.txt")
     due = ["proved", f"refuted at {at} claimed {values[at] + 1} true {values[at]}"] + ["pending"] * (blocks - 2)
     same(f"blocks of {code} with one value changed", statuses(wrong), due)
 
-    checked(room, code, values, at)
+    check_verdicts(code, values, at)
 
     printed = done("bfile", true, code)
     same(f"b-file of {code}", printed, text(values))
-    ends = printed.replace("\n", "\r\n").replace(" ", " \t ").encode()
-    same(f"{code} again", done("claim", again, code, write(room, "b.txt", b"# a b-file\r\n" + ends)), issued(values))
+    write("b.txt", b"# a b-file\r\n" + printed.replace("\n", "\r\n").replace(" ", " \t ").encode())
+    same(f"{code} again", done("claim", again, code, "b.txt"), issued(values))
     same(f"blocks of {code} again", statuses(again), ["proved"] * blocks)
 
 
-def answered(path, code):
-    """What `check` says of a file, and its status."""
-    ran = census("check", code, path)
-    same(f"what check says of {code} beside its verdict", ran.stderr, "")
-    return ran.returncode, ran.stdout
+def changed(values, at):
+    """The values, of which that one is one greater."""
+    return [value + (heap == at) for heap, value in enumerate(values)]
 
 
-def checked(room, code, values, at):
-    """Right values, one wrong one, a part from a later heap on, and a hundred and more wrong ones."""
-    whole = write(room, "b.txt", text(values).encode())
-    same(f"check of {code}", answered(whole, code), (0, f"{len(values)} values, all right\n"))
-    changed = [v + (n == at) for n, v in enumerate(values)]
-    one = write(room, "b.txt", text(changed).encode())
+def answered(content, code):
+    """The status of `check` over a file of this text, and what it says of it; it says nothing else."""
+    write("b.txt", content.encode())
+    answer = run("check", code, "b.txt")
+    same(f"what check says of {code} beside its verdict", answer.err, "")
+    return answer.status, answer.out
+
+
+def check_verdicts(code, values, at):
+    """What `check` says of right values, one wrong one, a part from a later heap on, and a hundred and more wrong ones."""
+    same(f"check of {code}", answered(text(values), code), (0, f"{len(values)} values, all right\n"))
     due = f"heap {at}: {values[at] + 1} in the file, {values[at]} is right\n"
-    same(f"check of {code} with one value changed", answered(one, code), (1, due))
-    part = write(room, "b.txt", "".join(f"{n} {values[n]}\n" for n in range(at, at + 9)).encode())
+    same(f"check of {code} with one value changed", answered(text(changed(values, at)), code), (1, due))
+    part = "".join(f"{n} {values[n]}\n" for n in range(at, at + 9))
     same(f"check of a part of {code}", answered(part, code), (0, "9 values, all right\n"))
     for count, end in ((100, ""), (101, "and 1 more\n"), (len(values), f"and {len(values) - 100} more\n")):
-        some = write(room, "b.txt", text([v + 1 for v in values[:count]]).encode())
         lines = [f"heap {n}: {v + 1} in the file, {v} is right\n" for n, v in enumerate(values[:100])]
-        same(f"check of {count} wrong values of {code}", answered(some, code), (1, "".join(lines) + end))
+        wrong = text([v + 1 for v in values[:count]])
+        same(f"check of {count} wrong values of {code}", answered(wrong, code), (1, "".join(lines) + end))
+
+
+def check_faults():
+    """Texts that are no b-files are refused by both commands, and the state stays as it is."""
+    done("init", "bad.state", "1")
+    before = read("bad.state")
+    for content, fault in BAD:
+        write("b.txt", content)
+        refused(1, fault, "claim", "bad.state", "0.77", "b.txt")
+        refused(1, fault, "check", "0.77", "b.txt")
+    refused(1, "Code Digit", "check", "0.87", "b.txt")
+    same("the state after faults", read("bad.state"), before)
 
 
 def main():
-    with tempfile.TemporaryDirectory() as room:
-        for code, values in GAMES.items():
-            check(room, code, values)
-        state = os.path.join(room, "bad.state")
-        done("init", state, "1")
-        before = open(state, "rb").read()
-        for content, fault in BAD:
-            ran = census("claim", state, "0.77", write(room, "b.txt", content))
-            same(repr(content), (ran.returncode, ran.stdout, ran.stderr), (1, "", f"census: {fault}\n"))
-            ran = census("check", "0.77", os.path.join(room, "b.txt"))
-            same(f"check of {content!r}", (ran.returncode, ran.stdout, ran.stderr), (1, "", f"census: {fault}\n"))
-        ran = census("check", "0.87", os.path.join(room, "b.txt"))
-        same("check of a word that is no code", (ran.returncode, ran.stdout, ran.stderr), (1, "", "census: Code Digit\n"))
-        same("the state after faults", open(state, "rb").read(), before)
+    for code, values in GAMES.items():
+        check_game(code, values)
+    check_faults()
     print(f"{len(GAMES)} b-files of {COUNT} values from the literature are proved, changed ones refuted, and {len(BAD)} texts refused")
 
 
-main()
+with folder():
+    main()

@@ -2,9 +2,7 @@
 """Kills commands at random moments, and says whether the state is whole after each: it loads, nothing that it held before is
 gone, each operation that was answered `issued` is there, beside them at most what the killed command was about to do, and no
 number has two contents. At the end another person, with whom the killed commands exchanged, has the same catalogue and no fork.
-Takes some seconds, and on a busy machine up to three minutes; the moments are drawn from a seed.
-
-    crash.py [PROGRAM [WORD ..]]            the program is the one that ../census runs where none is named
+The moments are drawn from a seed. With --long three hundred commands are killed, and else fifty.
 """
 
 import os
@@ -12,31 +10,16 @@ import random
 import re
 import statistics
 import struct
-import subprocess
-import sys
-import tempfile
 import time
 
-HERE = os.path.dirname(os.path.abspath(__file__))
-CENSUS = sys.argv[1:]
-KILLED = 300  # commands that are killed over one state
+from lib import LONG, Hub, delta, done, folder, need, note, read, start, write
+
+KILLED = 300 if LONG else 50  # commands that are killed over one state
+BEGUN = 60 if LONG else 20  # states of which the making is killed
 SECONDS = 150
 SEED = 1956
 STATE = "state"
 OTHERS = 1000  # notes of another author, so that the state takes a while to be written
-
-
-def note(author, number, text):
-    return struct.pack(">IIB", author, number, 3) + b"\5other" + bytes([len(text)]) + text
-
-
-def delta(count, *texts):
-    return b"OGD2" + struct.pack(">I", count) + b"".join(texts)
-
-
-def write(path, content):
-    with open(path, "wb") as file:
-        file.write(content)
 
 
 def after(text, at):
@@ -53,8 +36,7 @@ def after(text, at):
 
 def held():
     """The operations of the state file, each as its dot and its text; none may have a dot that another has."""
-    with open(STATE, "rb") as file:
-        text = file.read()
+    text = read(STATE)
     need(text[:8] == b"OGS1\0\0\0\1", "the state is not that of author 1")
     count, at, found = struct.unpack_from(">I", text, 12)[0], 16, {}
     for _ in range(count):
@@ -67,20 +49,9 @@ def held():
     return found
 
 
-def need(right, why):
-    if not right:
-        raise SystemExit(f"crash: {why}")
-
-
-def census(*words):
-    ran = subprocess.run([*CENSUS, *words], capture_output=True, timeout=20)
-    need(ran.returncode == 0, f"{words[0]} answered {ran.stderr.decode()!r}")
-    return ran.stdout.decode()
-
-
 def cut(words, seconds):
     """What a command printed, and whether it was killed, after so many seconds."""
-    running = subprocess.Popen([*CENSUS, *words], stdout=subprocess.PIPE, stderr=subprocess.PIPE)
+    running = start(*words)
     time.sleep(seconds)
     running.kill()
     out, err = running.communicate(timeout=20)
@@ -96,18 +67,18 @@ def kinds(address):
         "import": (lambda turn: ["import", STATE, "block"], 1, 1),
         "unnote": (lambda turn: ["unnote", STATE, "again"], 1, 1),
         "merge": (lambda turn: ["merge", STATE, f"delta{turn % 400}"], 3, 5),
-        "sync": (lambda turn: ["sync", STATE, address], 2, 1),
+        "sync": (lambda turn: ["sync", STATE, address], 2, OTHERS),
     }
 
 
 def prepare():
-    census("init", STATE, "1")
-    census("init", "friend", "2")
+    done("init", STATE, "1")
+    done("init", "friend", "2")
     write("block", b'{"code":"0.07","start":0,"values":[0,0,1,1,2,0,3]}')
-    write("others", delta(OTHERS, *(note(4, number, b"one of many") for number in range(1, OTHERS + 1))))
+    write("others", delta(*(note(4, number, b"other", b"one of many") for number in range(1, OTHERS + 1))))
     for turn in range(400):
-        write(f"delta{turn}", delta(5, *(note(3, 5 * turn + more, b"merged") for more in range(1, 6))))
-    census("merge", STATE, "others")
+        write(f"delta{turn}", delta(*(note(3, 5 * turn + more, b"other", b"merged") for more in range(1, 6))))
+    done("merge", STATE, "others")
 
 
 def typical(words):
@@ -115,7 +86,7 @@ def typical(words):
     taken = []
     for _ in range(5):
         before = time.monotonic()
-        census(*words)
+        done(*words)
         taken.append(time.monotonic() - before)
     return statistics.median(taken)
 
@@ -123,38 +94,47 @@ def typical(words):
 def ready(kind):
     """Makes sure that there is something to take back, or to fetch."""
     if kind == "unnote":
-        census("note", STATE, "again", "taken back")
+        done("note", STATE, "again", "taken back")
     if kind == "sync":
-        census("note", "friend", "friend", "to be fetched")
+        done("note", "friend", "friend", "to be fetched")
 
 
-def run(address, end):
-    """Kills the commands, and gives how many were killed, how many of these had done their work, and how many had said so."""
-    dice, issued = random.Random(SEED), {}
-    takes = {}
-    turn = killed = done = said = 0
-    commands = kinds(address)
-    for kind in ("note", "compute", "import", "merge", "sync"):
-        takes[kind] = typical(commands[kind][0](0))
+def kill_commands(address, end):
+    """Kills commands until they are enough. Gives how many were killed, how many of these had changed the state, and how many had
+    said so."""
+    dice, commands, issued = random.Random(SEED), kinds(address), {}
+    takes = {kind: typical(words(0)) for kind, (words, _, _) in commands.items() if kind != "unnote"}
     takes["unnote"] = takes["note"]
+    turn = killed = changed = said = 0
     while killed < KILLED:
         need(time.monotonic() < end, f"only {killed} commands were killed in {SECONDS} seconds")
         turn += 1
         kind = dice.choice(list(commands))
         ready(kind)
-        words, author, most = commands[kind][0](turn), commands[kind][1], commands[kind][2]
-        before = held()
-        printed, was_killed = cut(words, dice.uniform(0, 1.2 * takes[kind]))
-        census("page", STATE, "0")  # it loads
-        now = held()
-        new = check(before, now, author, most if kind != "sync" else OTHERS, f"{kind}, turn {turn}")
-        for dot in re.findall(r"^issued 1\.(\d+)$", printed, re.M):
-            issued[(1, int(dot))] = now.get((1, int(dot)))
-            need(issued[(1, int(dot))], f"turn {turn}: 1.{dot} was issued and is not there")
-        need(was_killed or new or kind in ("merge", "sync"), f"{kind}, turn {turn}, was done and changed nothing")
-        killed, done, said = killed + was_killed, done + (was_killed and bool(new)), said + (was_killed and bool(printed))
+        new, printed, was_killed = kill_one(turn, kind, commands[kind], dice.uniform(0, 1.2 * takes[kind]), issued)
+        killed += was_killed
+        changed += was_killed and bool(new)
+        said += was_killed and bool(printed)
+    now = held()
     need(all(now.get(dot) == text for dot, text in issued.items()), "an operation that was issued is gone or is another")
-    return killed, done, said
+    return killed, changed, said
+
+
+def kill_one(turn, kind, command, seconds, issued):
+    """Kills a command after so many seconds. Gives how many operations are new, what it printed, and whether it was killed. What it
+    said that it issued is there."""
+    words, author, most = command
+    before = held()
+    printed, was_killed = cut(words(turn), seconds)
+    done("page", STATE, "0")  # it loads
+    now = held()
+    new = check(before, now, author, most, f"{kind}, turn {turn}")
+    for number in re.findall(r"^issued 1\.(\d+)$", printed, re.M):
+        dot = 1, int(number)
+        need(dot in now, f"turn {turn}: 1.{number} was issued and is not there")
+        issued[dot] = now[dot]
+    need(was_killed or new or kind in ("merge", "sync"), f"{kind}, turn {turn}, was done and changed nothing")
+    return new, printed, was_killed
 
 
 def check(before, now, author, most, what):
@@ -168,16 +148,16 @@ def check(before, now, author, most, what):
 def beginnings():
     """Kills the making of states, and gives how many were killed: each state is whole, or is made again."""
     dice, takes, killed = random.Random(SEED), [], 0
-    for turn in range(60):
+    for turn in range(BEGUN):
         words, before = ["init", f"begun{turn}", "5"], time.monotonic()
         if turn < 5:
-            census(*words)
+            done(*words)
             takes.append(time.monotonic() - before)
         else:
             killed += cut(words, dice.uniform(0, 1.2 * statistics.median(takes)))[1]
         if not os.path.exists(words[1]):
-            need(turn >= 5 and census(*words) == "author 5\n", "a state that was not made cannot be made again")
-        need(census("show", words[1]) == "census 2\nend\n", "a state that was begun is not empty")
+            need(turn >= 5 and done(*words) == "author 5\n", "a state that was not made cannot be made again")
+        need(done("show", words[1]) == "census 2\nend\n", "a state that was begun is not empty")
     return killed
 
 
@@ -185,33 +165,18 @@ def main():
     end = time.monotonic() + SECONDS
     prepare()
     begun = beginnings()
-    with open("served", "wb") as served, open("faults", "wb") as faults:
-        hub = subprocess.Popen([*CENSUS, "hub", "friend", "127.0.0.1:0", "--patience", "5"], stdout=served, stderr=faults)
-    try:
-        address = ""
-        while not address:
-            need(hub.poll() is None and time.monotonic() < end, "the hub ended")
-            time.sleep(0.02)
-            with open("served", encoding="ascii") as served:
-                address = "".join(re.findall(r"^listening on (\S+)\n", served.read()))
-        killed, done, said = run(address, end)
-        census("sync", STATE, address)
-        census("sync", STATE, address)
-    finally:
-        hub.kill()
-        hub.wait()
-    shown = census("show", STATE)
-    need(shown == census("show", "friend"), "the two catalogues differ")
+    with Hub("friend", "--patience", "5") as hub:
+        killed, changed, said = kill_commands(hub.address, end)
+        done("sync", STATE, hub.address)
+        done("sync", STATE, hub.address)
+    shown = done("show", STATE)
+    need(shown == done("show", "friend"), "the two catalogues differ")
     need("\nfork " not in shown, "there is a fork")
     print(
-        f"{killed} commands killed, {killed - done} before they had changed the state, {done} after, of which {said} had said so, "
-        f"and {begun} that make one: nothing is lost or doubled"
+        f"{killed} commands killed, {killed - changed} before they had changed the state, {changed} after, of which {said} had said"
+        f" so, and {begun} that make one: nothing is lost or doubled"
     )
 
 
-if __name__ == "__main__":
-    CENSUS = CENSUS or [subprocess.check_output([os.path.join(HERE, "..", "dist", "program")], text=True).strip()]
-    CENSUS[0] = os.path.abspath(CENSUS[0]) if "/" in CENSUS[0] else CENSUS[0]
-    with tempfile.TemporaryDirectory() as room:
-        os.chdir(room)
-        main()
+with folder():
+    main()

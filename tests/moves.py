@@ -1,51 +1,32 @@
 #!/usr/bin/env python3
-"""Plays positions of Kayles and Dawson's Kayles against the program: whether each move that it names is one by the rules, leaves the
-nim-value 0, and is there exactly where the position's nim-value is not 0. The values are computed here by mex up to the end of
-the first period, and go on with the periods of the literature (12 from 71 and 34 from 53). Takes some seconds.
-
-    moves.py [PROGRAM [WORD ..]]          the program is the one that ../census runs where none is named
+"""Plays positions of Kayles and Dawson's Kayles against the program: whether each move that it names is one by the rules, leaves
+the nim-value 0, and is there exactly where the position's nim-value is not 0. The values are computed by the rule up to the end of
+the first period, and go on with the periods of the literature (12 from 71 and 34 from 53).
 """
+
+import functools
 import json
-import pathlib
+import operator
 import random
 import re
-import subprocess
-import sys
-import tempfile
 
-TOP = pathlib.Path(__file__).resolve().parent.parent
-PROGRAM = sys.argv[1:] or [subprocess.check_output([str(TOP / "dist" / "program")], text=True).strip()]
+from lib import done, folder, need, nim_values, same
+
 LARGEST = 2**64 - 1
+STATE = "moves.state"
 
 # The beans that may be removed, from a heap that may then be left as no heap, as one or as two; start and period of the values.
 GAMES = {"0.77": ((1, 2), 71, 12), "0.07": ((2,), 53, 34)}
 
 
-def splits(heap, removals):
-    """The pairs of heaps, of which one or both may be empty, that one move makes of a heap."""
-    for removed in removals:
-        rest = heap - removed
-        for less in range(rest // 2 + 1 if rest >= 0 else 0):
-            yield removed, less, rest - less
-
-
-def first_values(removals, count):
-    values = []
-    for heap in range(count):
-        options = {values[less] ^ values[more] for _, less, more in splits(heap, removals)}
-        values.append(next(v for v in range(len(options) + 1) if v not in options))
-    return values
-
-
 def value_of(heap, values, start, period):
+    """The nim-value of a heap, of which the values up to the end of the first period are given."""
     return values[heap if heap < start + period else start + (heap - start) % period]
 
 
-def run(*words):
-    ended = subprocess.run([*PROGRAM, *words], capture_output=True, text=True, timeout=60)
-    if ended.returncode:
-        raise SystemExit(f"moves: {' '.join(words)} ended with {ended.returncode}: {ended.stderr}")
-    return ended.stdout
+def nim_sum(heaps, value):
+    """The nim-value of a position."""
+    return functools.reduce(operator.xor, map(value, heaps), 0)
 
 
 def is_right(answer, heaps, removals, value):
@@ -59,9 +40,7 @@ def is_right(answer, heaps, removals, value):
     index, beans, removed = (int(found[i]) for i in (1, 2, 3))
     left = [int(heap) for heap in re.findall(r"\d+", found[4])]
     is_move = index < len(heaps) and heaps[index] == beans and removed in removals and sum(left) == beans - removed and 0 not in left
-    after = total ^ value(heaps[index])
-    for heap in left:
-        after ^= value(heap)
+    after = total ^ value(heaps[index]) ^ nim_sum(left, value)
     return is_move and after == 0 and total != 0
 
 
@@ -71,13 +50,6 @@ def as_object(answer):
         return {"heap": None, "next_player": "loses"}
     index, beans, removed, *left = (int(number) for number in re.findall(r"\d+", answer))
     return {"heap": index, "of": beans, "remove": removed, "leave": left}
-
-
-def nim_sum(heaps, value):
-    total = 0
-    for heap in heaps:
-        total ^= value(heap)
-    return total
 
 
 def positions(rng):
@@ -93,38 +65,34 @@ def positions(rng):
                 yield [rng.randrange(largest) for _ in range(count)]
 
 
-def play(code, state):
+def play(code):
+    """How many positions of a game were played, each with a right answer."""
     removals, start, period = GAMES[code]
-    values = first_values(removals, start + period)
-    run("extend", state, "400", code)
-    run("period", state, code, str(start), str(period))
+    values = nim_values(code, start + period)
+
+    def value(heap):
+        return value_of(heap, values, start, period)
+
+    done("extend", STATE, "400", code)
+    done("period", STATE, code, str(start), str(period))
     count = 0
-    for heaps in positions(random.Random(code)):
-        words = [state, code, *map(str, heaps)]
-        answer = run("move", *words)
-        if not is_right(answer, heaps, removals, lambda heap: value_of(heap, values, start, period)):
-            raise SystemExit(f"moves: {code} {heaps}: {answer!r}")
-        total = nim_sum(heaps, lambda heap: value_of(heap, values, start, period))
+    for count, heaps in enumerate(positions(random.Random(code)), 1):
+        words = [STATE, code, *map(str, heaps)]
+        answer = done("move", *words)
+        need(is_right(answer, heaps, removals, value), f"{code} {heaps}: {answer!r}")
+        total = nim_sum(heaps, value)
         wanted = [as_object(answer), {"value": total, "next_player": "wins" if total else "loses"}]
-        told = [json.loads(run(command, "--json", *words)) for command in ("move", "value")]
-        if told != wanted:
-            raise SystemExit(f"moves: {code} {heaps}: {told}, and not {wanted}")
-        count += 1
+        same(f"{code} {heaps}", [json.loads(done(command, "--json", *words)) for command in ("move", "value")], wanted)
     return count
 
 
 def main():
-    with tempfile.TemporaryDirectory() as room:
-        state = f"{room}/moves.state"
-        run("init", state, "1")
-        unknown = run("move", state, "0.77", "0", "9")
-        if unknown != "unknown at 1\n":
-            raise SystemExit(f"moves: a heap that is not known: {unknown!r}")
-        for command in ("move", "value"):
-            if run(command, "--json", state, "0.77", "0", "9") != '{"unknown":1}\n':
-                raise SystemExit(f"moves: {command} --json of a heap that is not known")
-        count = sum(play(code, state) for code in GAMES)
-    print(f"{count} positions, and each answer is right")
+    done("init", STATE, "1")
+    same("a heap that is not known", done("move", STATE, "0.77", "0", "9"), "unknown at 1\n")
+    for command in ("move", "value"):
+        same(f"{command} --json of a heap that is not known", done(command, "--json", STATE, "0.77", "0", "9"), '{"unknown":1}\n')
+    print(f"{sum(map(play, GAMES))} positions, and each answer is right")
 
 
-main()
+with folder():
+    main()

@@ -2,20 +2,15 @@
 """Searches that are saved and taken up again. Those that end at a COUNT, and go on to a greater one, and those that are killed
 say what a search says that was never stopped. A second search with the same file waits for the first. Damaged files, those
 of another game and all others are refused and stay as they are, and where the file can't be written the search ends.
-The bytes of the file are what docs/FORMATS.md says. Takes seconds.
-
-    resumed.py [PROGRAM [WORD ..]]        the program is the one that ../census runs where none is named
+The bytes of the file are what docs/FORMATS.md says.
 """
 
 import hashlib
 import os
-import subprocess
-import sys
-import tempfile
 import time
 
-HERE = os.path.dirname(os.path.abspath(__file__))
-CENSUS = sys.argv[1:] or [subprocess.check_output([os.path.join(HERE, "..", "dist", "program")], text=True).strip()]
+from lib import Answer, done, folder, need, read, refused, run, same, start, write
+
 SECONDS = 120
 SAVED = " from a saved search\n"
 
@@ -34,50 +29,28 @@ LONG = "0.354"
 MANY = 16_000_000
 
 
-def census(*words):
-    return subprocess.run([*CENSUS, *words], capture_output=True, text=True, timeout=SECONDS)
-
-
 def search(file, count, code=CODE, *more):
-    return census("search", str(count), code, "--window", "--save", file, *more)
-
-
-def same(what, found, due):
-    if found != due:
-        sys.exit(f"resumed: {what}: {found!r}, and not {due!r}")
+    """What a search in windows answers that is saved in this file."""
+    return run("search", str(count), code, "--window", "--save", file, *more, seconds=SECONDS)
 
 
 def alike(what, found, due):
-    """The same of long lists, which are not printed."""
-    if found != due:
-        sys.exit(f"resumed: {what} are not as they should be")
+    """The same as `same`, of long lists, which are not printed."""
+    need(found == due, f"{what} are not as they should be")
 
 
-def read(file):
-    with open(file, "rb") as stream:
-        return stream.read()
-
-
-def write(file, data):
-    with open(file, "wb") as stream:
-        stream.write(data)
-
-
-def check_counts(room):
+def check_counts():
     """Each search goes on from where the one before it ended."""
-    file = os.path.join(room, "counts.search")
+    file = "counts.search"
     for at, count in enumerate(COUNTS):
         ran = search(file, count)
         text = PERIOD if count >= 411_603 else f"{CODE} no period seen in {count} values"
-        same(f"up to {count}", (ran.returncode, ran.stdout, ran.stderr), (0, text + (SAVED if at else "\n"), ""))
-    same("once more", search(file, 1).stdout, PERIOD + SAVED)
-    told = search(file, 1, CODE, "--json").stdout
+        same(f"up to {count}", ran, (0, text + (SAVED if at else "\n"), ""))
+    same("once more", search(file, 1).out, PERIOD + SAVED)
     object_of = '{"code":"0.16","period":149459,"from":105351,"needs":509622,"values":411603,"saved":true}\n'
-    same("JSON", told, object_of)
-    whole = census("search", "1000000", CODE, "--window").stdout
-    same("a search that is not saved", whole, PERIOD + "\n")
-    ran = search(file, 1, CODE, "--explain")
-    same("what is said", ran.stderr, f"the search in {file} goes on behind 411603 values\n")
+    same("JSON", search(file, 1, CODE, "--json").out, object_of)
+    same("a search that is not saved", done("search", "1000000", CODE, "--window"), PERIOD + "\n")
+    same("what is said", search(file, 1, CODE, "--explain").err, f"the search in {file} goes on behind 411603 values\n")
 
 
 def lists_of(data):
@@ -94,10 +67,10 @@ def lists_of(data):
     return lists
 
 
-def check_bytes(room):
-    """While a window is watched, and when the least heap has been looked for."""
-    file = os.path.join(room, "bytes.search")
-    rows = census("search", "--bfile", "400000", CODE).stdout.splitlines()
+def check_bytes():
+    """What a file has while a window is watched, and when the least heap has been looked for."""
+    file = "bytes.search"
+    rows = done("search", "--bfile", "400000", CODE).splitlines()
     values = [int(row.split(" ")[1]) for row in rows]
     search(file, 200_000)
     scalars, digits, rare, held, marked = lists_of(read(file))
@@ -108,8 +81,7 @@ def check_bytes(room):
     last = reach + 2
     alike("the last values", held[-last:], values[heap - last : heap])
     alike("the marked values", marked, values[at - last : at])
-    same("the mark", at <= heap <= 2 * at, True)
-
+    need(at <= heap <= 2 * at, "the mark is not where it should be")
 
     def is_rare(n):
         return ((values[n] & bits).bit_count() + (n + turn if parity else 0)) % 2 == 0
@@ -127,94 +99,102 @@ def check_bytes(room):
     alike("the rare heaps ahead", rare_ahead, rare)
 
 
-def check_kills(room):
+def check_kills():
     """A search is killed three times, and another one waits for it."""
-    file = os.path.join(room, "kills.search")
-    words = [*CENSUS, "search", str(MANY), LONG, "--window", "--save", file]
+    os.mkdir("kills")
+    file = "kills/kills.search"
     for _ in range(3):
-        running = subprocess.Popen(words, stdout=subprocess.PIPE, stderr=subprocess.PIPE, text=True)
+        running = start("search", str(MANY), LONG, "--window", "--save", file)
         wait_for(file)
         time.sleep(0.5)
-        second = subprocess.Popen(
-            [*CENSUS, "search", "1", LONG, "--window", "--save", file], stdout=subprocess.PIPE, text=True
-        )
+        second = start("search", "1", LONG, "--window", "--save", file)
         time.sleep(0.5)
         same("a second search", second.poll(), None)
         running.kill()
-        running.wait()
-        told = second.communicate(timeout=SECONDS)[0]
-        if not (told.startswith(f"{LONG} no period seen in ") and told.endswith(" values" + SAVED)):
-            sys.exit(f"resumed: the second search says {told!r}")
-    whole = census("search", "2000000", LONG, "--window").stdout
-    same("after the kills", search(file, 2_000_000, LONG).stdout, whole.replace("\n", SAVED))
-    same("what is left", [name for name in os.listdir(room) if not name.endswith(".search")], [])
+        running.communicate()
+        told = second.communicate(timeout=SECONDS)[0].decode()
+        right = told.startswith(f"{LONG} no period seen in ") and told.endswith(" values" + SAVED)
+        need(right, f"the second search says {told!r}")
+    whole = done("search", "2000000", LONG, "--window", seconds=SECONDS)
+    same("after the kills", search(file, 2_000_000, LONG).out, whole.replace("\n", SAVED))
+    same("what is left", os.listdir("kills"), ["kills.search"])
 
 
 def wait_for(file):
-    for _ in range(SECONDS * 10):
-        if os.path.exists(file):
-            return
+    """Waits until the file is there."""
+    end = time.monotonic() + SECONDS
+    while not os.path.exists(file):
+        need(time.monotonic() < end, "no file was written")
         time.sleep(0.1)
-    sys.exit("resumed: no file was written")
 
 
-def check_refusals(room):
-    file = os.path.join(room, "whole.search")
-    search(file, 100_000)
-    whole = read(file)
-    bad = os.path.join(room, "bad.search")
-
-    def refused(what, data, status, text, code=CODE):
-        write(bad, data)
-        ran = search(bad, 200_000, code)
-        same(what, (ran.returncode, ran.stdout, ran.stderr), (status, "", f"census: {text}\n"))
-        same(f"{what}: the file", read(bad), data)
-
+def check_damage():
+    """A file with one bit turned, cut, too long, or of numbers that do not fit, and one of another game, are refused."""
+    whole = saved()
     for at in [4, 35, 36, 43, 44, 51, 99, len(whole) // 2, len(whole) - 1]:
-        refused(f"byte {at}", whole[:at] + bytes([whole[at] ^ 1]) + whole[at + 1 :], 1, "Saved Refused")
+        check_refused(f"byte {at}", turned(whole, at), "Saved Refused")
     for at in [0, 3]:
-        refused(f"byte {at}", whole[:at] + bytes([whole[at] ^ 1]) + whole[at + 1 :], 1, "Saved Version")
+        check_refused(f"byte {at}", turned(whole, at), "Saved Version")
     for size in [4, 20, 36, 44, len(whole) - 8, len(whole) - 1]:
-        refused(f"{size} bytes", whole[:size], 1, "Saved Refused")
-    refused("three bytes", whole[:3], 1, "Saved Version")
-    refused("a byte more", whole + b"\0", 1, "Saved Refused")
-    refused("another game", whole, 1, "Saved Game", "0.56")
-
-    def with_scalar(place, value):
-        at = 44 + 8 * place
-        body = whole[36:at] + value.to_bytes(8, "big") + whole[at + 8 :]
-        return b"OGW1" + hashlib.sha256(body).digest() + body
-
-    same("the same scalar", with_scalar(1, 0), whole)
-    refused("another head", with_scalar(1, 4), 1, "Saved Game")
+        check_refused(f"{size} bytes", whole[:size], "Saved Refused")
+    check_refused("three bytes", whole[:3], "Saved Version")
+    check_refused("a byte more", whole + b"\0", "Saved Refused")
+    check_refused("another game", whole, "Saved Game", "0.56")
+    same("the same scalar", with_scalar(whole, 1, 0), whole)
+    check_refused("another head", with_scalar(whole, 1, 4), "Saved Game")
     for place, value in SCALARS:
-        refused(f"{value} as scalar {place}", with_scalar(place, value), 1, "Saved Refused")
-    state = os.path.join(room, "some.state")
-    census("init", state, "1")
-    refused("a state", read(state), 1, "Saved Version")
+        check_refused(f"{value} as scalar {place}", with_scalar(whole, place, value), "Saved Refused")
+    done("init", "some.state", "1")
+    check_refused("a state", read("some.state"), "Saved Version")
 
-    empty = os.path.join(room, "empty.search")
-    write(empty, b"")
-    same("an empty file", search(empty, 100_000).stdout, f"{CODE} no period seen in 100000 values\n")
-    same("its bytes", read(empty), whole)
-    nowhere = search(os.path.join(room, "nowhere", "some.search"), 100_000)
-    same("no folder", (nowhere.returncode, nowhere.stdout, nowhere.stderr), (3, "", "census: File\n"))
-    os.chmod(empty, 0o444)
-    closed = search(empty, 200_000)
-    same("a closed file", (closed.returncode, closed.stdout, closed.stderr), (3, "", "census: File\n"))
-    same("its bytes", read(empty), whole)
-    for words in [["--save", bad], ["0.56", "--window", "--save", bad], ["--bfile", "--save", bad]]:
-        ran = census("search", "100", CODE, *words)
-        same(words, (ran.returncode, ran.stdout, ran.stderr), (2, "", "census: Words\n"))
+
+def saved():
+    """The bytes of a search that is saved."""
+    search("whole.search", 100_000)
+    return read("whole.search")
+
+
+def turned(whole, at):
+    """The bytes, with one bit of that byte turned."""
+    return whole[:at] + bytes([whole[at] ^ 1]) + whole[at + 1 :]
+
+
+def with_scalar(whole, place, value):
+    """The bytes with another number at this place of the first list, and with their checksum."""
+    at = 44 + 8 * place
+    body = whole[36:at] + value.to_bytes(8, "big") + whole[at + 8 :]
+    return b"OGW1" + hashlib.sha256(body).digest() + body
+
+
+def check_refused(what, data, fault, code=CODE):
+    """A file of these bytes is refused, and stays as it is."""
+    write("bad.search", data)
+    same(what, search("bad.search", 200_000, code), Answer(1, "", f"census: {fault}\n"))
+    same(f"{what}: the file", read("bad.search"), data)
+
+
+def check_places():
+    """An empty file is as none; where the file can't be written, and beside words that have no such file, it is refused."""
+    file, whole = "whole.search", saved()
+    write("empty.search", b"")
+    same("an empty file", search("empty.search", 100_000).out, f"{CODE} no period seen in 100000 values\n")
+    same("its bytes", read("empty.search"), whole)
+    same("no folder", search("nowhere/some.search", 100_000), Answer(3, "", "census: File\n"))
+    os.chmod("empty.search", 0o444)
+    same("a closed file", search("empty.search", 200_000), Answer(3, "", "census: File\n"))
+    same("its bytes", read("empty.search"), whole)
+    for words in [["--save", file], ["0.56", "--window", "--save", file], ["--bfile", "--save", file]]:
+        refused(2, "Words", "search", "100", CODE, *words)
 
 
 def main():
-    with tempfile.TemporaryDirectory() as room:
-        check_counts(room)
-        check_bytes(room)
-        check_kills(room)
-        check_refusals(room)
+    check_counts()
+    check_bytes()
+    check_kills()
+    check_damage()
+    check_places()
     print(f"a search goes on {len(COUNTS)} times by COUNT and 3 times after a kill, its file is as documented, and damage is refused")
 
 
-main()
+with folder():
+    main()

@@ -1,8 +1,9 @@
 #!/usr/bin/env python3
 """Hands the program inputs made to be slow or large, and says whether each answer is right and comes within the processor time
-and the memory that stand beside it. Takes less than a minute.
+and the memory that stand beside it.
 
-    worst.py [PROGRAM [WORD ..]]            the program is the one that ../census runs where none is named
+With --long they are as large as they can be. This takes twenty seconds and more, since inputs of up to a gigabyte are
+read. Else they are a tenth of that, within a tenth of the time, and of the greatest files there is only the one that is too long.
 """
 
 import os
@@ -10,160 +11,140 @@ import resource
 import socket
 import struct
 import subprocess
-import sys
-import tempfile
 
-HERE = os.path.dirname(os.path.abspath(__file__))
-CENSUS = sys.argv[1:] or [subprocess.check_output([os.path.join(HERE, "..", "dist", "program")], text=True).strip()]
+from lib import CLOCK, DELTA, EMPTY_CLOCK, END, LONG, connect, delta, expect, finish, folder, frame, free_port, note, start, write
+
 MIB = 1 << 20
 GREATEST = 1 << 30  # bytes of a file that is read
+PART = 1 if LONG else 10  # of the numbers below, and of the seconds for them
+BLOCKS = 100_000 // PART
+HEAPS = 65_535 // PART
+LINES = 2_000_000 // PART
+REMOVALS = 10_000 // PART
+NOTES = 1_000_000 // PART
 
 
-def delta(count, *texts):
-    """A delta of so many operations, with their texts."""
-    return b"OGD2" + struct.pack(">I", count) + b"".join(texts)
+def state(*operations, count=None):
+    """A state of author 7, or the beginning of one that says it has so many operations."""
+    return b"OGS1" + struct.pack(">I", 7) + delta(*operations, count=count)
 
 
-def state(count, *texts):
-    """A state of author 7."""
-    return b"OGS1" + struct.pack(">I", 7) + delta(count, *texts)
-
-
-def block(author, number, start, value):
-    return struct.pack(">IIB", author, number, 1) + b"\0\1\3" + struct.pack(">IHI", start, 1, value)
-
-
-def note(author, number):
-    return struct.pack(">IIB", author, number, 3) + b"\1a\0"
+def block(author, number, at, value):
+    """The operation that says one value of the game 0.3."""
+    return struct.pack(">IIB", author, number, 1) + b"\0\1\3" + struct.pack(">IHI", at, 1, value)
 
 
 def removal(author, number, dots):
+    """The operation that takes notes back."""
     return struct.pack(">IIBH", author, number, 4, len(dots)) + b"".join(struct.pack(">II", *dot) for dot in dots)
 
 
-def frame(tag, payload):
-    return struct.pack(">IB", 1 + len(payload), tag) + payload
-
-
-def write(path, first, rest=()):
-    """Writes a file in pieces, so that this process stays small: what it holds counts for the program when that starts."""
-    with open(path, "wb") as file:
-        file.write(first)
-        file.writelines(rest)
+def write_lines(operations):
+    """The file `lines`: a delta of each operation, in hexadecimal, written one by one, so that this process stays small: what it
+    holds counts for the program when that starts."""
+    with open("lines", "w", encoding="ascii") as lines:
+        lines.writelines(delta(operation).hex() + "\n" for operation in operations)
 
 
 class Ran:
-    """What a command answered, in which processor time and memory."""
+    """What a command answered, in which processor time and memory; a peer may meet it meanwhile."""
 
-    def __init__(self, words, given=None, meet=None):
-        stdin = open(given, "rb") if given else subprocess.DEVNULL
-        with open("out", "wb") as out:
-            running = subprocess.Popen([*CENSUS, *words], stdin=stdin, stdout=out, stderr=subprocess.STDOUT)
+    def __init__(self, *words, given=os.devnull, meet=None):
+        with open(given, "rb") as stdin, open("out", "wb") as out:
+            running = start(*words, stdin=stdin, stdout=out, stderr=subprocess.STDOUT)
             if meet:
-                meet()
-            _, status, used = os.wait4(running.pid, 0)
-        running.returncode = status
+                meet(running)
+            _, running.returncode, used = os.wait4(running.pid, 0)
         self.seconds = used.ru_utime + used.ru_stime
         self.mib = used.ru_maxrss / 1024
-        with open("out", "rb") as out:
-            self.lines = out.read().decode().splitlines()
+        with open("out", encoding="utf-8") as out:
+            self.lines = out.read().splitlines()
 
 
 def report(what, ran, right, seconds, mib):
-    """Prints a line for the case, and gives whether it is as it should be."""
+    """Prints a line for the case: what it took, and whether it is as it should be."""
     fits = ran.seconds <= seconds and ran.mib <= mib
     word = "right" if right and fits else "WRONG" if fits else "TOO MUCH"
     print(f"{word:8} {ran.seconds:6.2f} s of {seconds:3}, {ran.mib:5.0f} MiB of {mib:4}  {what}", flush=True)
-    if word != "right":
-        print("\n".join([line[:200] for line in [*ran.lines[:5], "..", *ran.lines[-5:]]]))
-    return word == "right"
+    expect(word == "right", "\n".join([what, *(line[:200] for line in [*ran.lines[:5], "..", *ran.lines[-5:]])]))
 
 
-def blocks_in_falling_order():
-    """100,000 blocks of one game in falling order: the last one settles them all."""
-    with open("lines", "w") as lines:
-        for number in range(100000, 0, -1):
-            start = 1 + (number - 1) * 65535 // 100000
-            lines.write(delta(1, block(1, number, start, start % 2)).hex() + "\n")
-    ran = Ran(["fold"], "lines")
+def try_falling_blocks():
+    """Blocks of one game in falling order: the last one settles them all."""
+    starts = ((number, 1 + (number - 1) * HEAPS // BLOCKS) for number in range(BLOCKS, 0, -1))
+    write_lines(block(1, number, at, at % 2) for number, at in starts)
+    ran = Ran("fold", given="lines")
     proved = sum(line.endswith(" proved") for line in ran.lines)
-    return report("100,000 blocks of one game, the last first", ran, ran.lines[1] == "game 0.3 known 65536" and proved == 100000, 10, 128)
+    right = ran.lines[1] == f"game 0.3 known {1 + HEAPS}" and proved == BLOCKS
+    report(f"{BLOCKS:,} blocks of one game, the last first", ran, right, 10 // PART, 128)
 
 
-def contents_of_one_dot():
-    """100,000 contents of one dot."""
-    with open("lines", "w") as lines:
-        for value in range(100000):
-            lines.write(delta(1, block(1, 1, 1, value)).hex() + "\n")
-    ran = Ran(["fold"], "lines")
-    right = "fork 1.1 contents 100000" in ran.lines and sum(" refuted at 1 claimed " in line for line in ran.lines) == 99999
-    return report("100,000 contents of one dot", ran, right, 10, 128)
+def try_contents_of_one_dot():
+    """One name of an operation, under which many say something else each."""
+    write_lines(block(1, 1, 1, value) for value in range(BLOCKS))
+    ran = Ran("fold", given="lines")
+    refuted = sum(" refuted at 1 claimed " in line for line in ran.lines)
+    right = f"fork 1.1 contents {BLOCKS}" in ran.lines and refuted == BLOCKS - 1
+    report(f"{BLOCKS:,} contents of one dot", ran, right, 10 // PART, 128)
 
 
-def lines_that_are_no_deltas():
-    """2,000,000 lines that break off before the last byte: of these 140 MB none has to be kept."""
-    line = delta(1, block(1, 1, 1, 1))[:-1].hex() + "\n"
-    with open("lines", "w") as lines:
-        for _ in range(1000):
+def try_lines_that_are_no_deltas():
+    """Lines that break off before the last byte: of these 140 MB none has to be kept."""
+    line = delta(block(1, 1, 1, 1))[:-1].hex() + "\n"
+    with open("lines", "w", encoding="ascii") as lines:
+        for _ in range(LINES // 2000):
             lines.write(line * 2000)
-    ran = Ran(["fold"], "lines")
-    return report("2,000,000 lines that are no deltas", ran, ran.lines == ["census 2", "end", "refused 2000000"], 10, 64)
+    ran = Ran("fold", given="lines")
+    report(f"{LINES:,} lines that are no deltas", ran, ran.lines == ["census 2", "end", f"refused {LINES}"], 10 // PART, 64)
 
 
-def removals_of_1024_dots():
-    """10,000 removals, each of the same 1,024 dots."""
+def try_removals():
+    """Removals, each of the same 1,024 dots."""
     dots = [(1, number) for number in range(1, 1025)]
-    write("state", state(1024), (note(1, number) for number in range(1, 1025)))
-    write("delta", delta(10000), (removal(2, number, dots) for number in range(1, 10001)))
-    merged = Ran(["merge", "state", "delta"])
-    shown = Ran(["show", "state"])
-    right = shown.lines == ["census 2", "author 1 through 1024 last 1024", "author 2 through 10000 last 10000", "end"]
-    return report("10,000 removals of 1,024 dots, merged", merged, merged.lines == ["new 10000"], 10, 600) & report(
-        "10,000 removals of 1,024 dots, shown", shown, right, 10, 600)
+    write("state", state(*(note(*dot, b"a") for dot in dots)))
+    write("delta", delta(count=REMOVALS), (removal(2, number, dots) for number in range(1, REMOVALS + 1)))
+    merged = Ran("merge", "state", "delta")
+    shown = Ran("show", "state")
+    report(f"{REMOVALS:,} removals of 1,024 dots, merged", merged, merged.lines == [f"new {REMOVALS}"], 10 // PART, 600)
+    right = ["census 2", "author 1 through 1024 last 1024", f"author 2 through {REMOVALS} last {REMOVALS}", "end"]
+    report(f"{REMOVALS:,} removals of 1,024 dots, shown", shown, shown.lines == right, 10 // PART, 600)
 
 
-def a_delta_of_a_million():
-    """A delta of 1,000,000 notes."""
-    write("state", state(0))
-    write("delta", delta(1000000), (note(1, number) for number in range(1, 1000001)))
-    merged = Ran(["merge", "state", "delta"])
-    again = Ran(["merge", "state", "delta"])
-    return report("a delta of 1,000,000 operations", merged, merged.lines == ["new 1000000"], 20, 800) & report(
-        "the same delta again", again, again.lines == ["new 0"], 20, 800)
+def try_long_delta():
+    """A delta of many notes, merged twice."""
+    write("state", state())
+    write("delta", delta(count=NOTES), (note(1, number, b"a") for number in range(1, NOTES + 1)))
+    merged = Ran("merge", "state", "delta")
+    again = Ran("merge", "state", "delta")
+    report(f"a delta of {NOTES:,} operations", merged, merged.lines == [f"new {NOTES}"], 20 // PART, 800)
+    report("the same delta again", again, again.lines == ["new 0"], 20 // PART, 800)
 
 
-def the_greatest_files():
+def try_greatest_files():
     """Files at the limit of 2^30 bytes and one byte past it: holes, and a count that the bytes cannot hold."""
-    write("state", state(0xFFFFFFFF))
-    os.truncate("state", GREATEST)
-    full = Ran(["show", "state"])
+    write("state", state(count=0xFFFFFFFF))
     os.truncate("state", GREATEST + 1)
-    longer = Ran(["show", "state"])
+    longer = Ran("show", "state")
+    report("a state of 2^30 + 1 bytes", longer, longer.lines == ["census: TooLong"], 20, 1200)
+    if not LONG:
+        return
+    os.truncate("state", GREATEST)
+    full = Ran("show", "state")
+    report("a state of 2^30 bytes", full, full.lines == ["census: Load Refused"], 20, 1200)
     write("lines", b"\n")
     os.truncate("lines", GREATEST)
-    folded = Ran(["fold"], "lines")
-    return report("a state of 2^30 bytes", full, full.lines == ["census: Load Refused"], 20, 1200) & report(
-        "a state of 2^30 + 1 bytes", longer, longer.lines == ["census: TooLong"], 20, 1200) & report(
-        "a line of 2^30 - 1 bytes", folded, folded.lines == ["census 2", "end", "refused 1"], 20, 1200)
+    folded = Ran("fold", given="lines")
+    report("a line of 2^30 - 1 bytes", folded, folded.lines == ["census 2", "end", "refused 1"], 20, 1200)
 
 
-def served(pieces, what, answer, seconds):
+def try_peer(what, pieces, answer, seconds):
     """The answer of a server to a peer that sends these pieces as long as the server reads."""
-    write("state", state(0))
-    with socket.socket() as probe:
-        probe.bind(("127.0.0.1", 0))
-        port = probe.getsockname()[1]
+    write("state", state())
+    port = free_port()
 
-    def meet():
-        for _ in range(10000000):
-            try:
-                peer = socket.create_connection(("127.0.0.1", port))
-                break
-            except ConnectionRefusedError:
-                pass
-        with peer:
+    def meet(running):
+        with connect(port, running) as peer:
             peer.setsockopt(socket.IPPROTO_TCP, socket.TCP_NODELAY, 1)
-            peer.settimeout(60)
             try:
                 for piece in pieces:
                     peer.sendall(piece)
@@ -173,43 +154,34 @@ def served(pieces, what, answer, seconds):
             except OSError:  # it was closed at the other end
                 pass
 
-    ran = Ran(["serve", "state", f"127.0.0.1:{port}"], meet=meet)
-    return report(what, ran, ran.lines[-1:] == [answer], seconds, 64)
+    ran = Ran("serve", "state", f"127.0.0.1:{port}", meet=meet)
+    report(what, ran, ran.lines[-1:] == [answer], seconds, 64)
 
 
-def peers():
+def try_peers():
     """Peers that are slow, that never end, and that send the longest clocks."""
-    nothing = frame(1, struct.pack(">I", 0))
-    one = delta(1, block(1, 1, 1, 1))
-    slow = nothing + frame(2, one) + frame(3, b"")
-    many = 131071  # authors, as many as a frame holds
+    nothing = frame(CLOCK, EMPTY_CLOCK)
+    slow = nothing + frame(DELTA, delta(block(1, 1, 1, 1))) + frame(END)
+    many = 131_071  # authors, as many as a frame holds
     clock = struct.pack(">I", many) + b"".join(struct.pack(">II", author, 1) for author in range(1, many + 1))
-    empty = frame(2, delta(0))
-    endless = [nothing] + [empty * 1000] * 1000
-    return (
-        served([slow[at : at + 1] for at in range(len(slow))], "a peer that sends one byte at a time", "done", 5)
-        & served([frame(1, clock), frame(3, b"")], "a clock of 131,071 authors", "done", 5)
-        & served([struct.pack(">IB", 8000005, 1)], "a clock of 1,000,000 authors", "census: Sync Frame", 5)
-        & served(endless, "a peer that never ends", "census: Sync Turns", 20)
-    )
+    endless = [nothing] + [frame(DELTA, delta()) * 1000] * 1000
+    try_peer("a peer that sends one byte at a time", [slow[at : at + 1] for at in range(len(slow))], "done", 5)
+    try_peer("a clock of 131,071 authors", [frame(CLOCK, clock), frame(END)], "done", 5)
+    try_peer("a clock of 1,000,000 authors", [struct.pack(">IB", 8_000_005, CLOCK)], "census: Sync Frame", 5)
+    try_peer("a peer that never ends", endless, "census: Sync Turns", 20)
 
 
 def main():
     resource.setrlimit(resource.RLIMIT_CPU, (120, 120))
-    cases = (
-        peers,
-        blocks_in_falling_order,
-        contents_of_one_dot,
-        lines_that_are_no_deltas,
-        removals_of_1024_dots,
-        a_delta_of_a_million,
-        the_greatest_files,
-    )
-    return 0 if all([case() for case in cases]) else 1
+    try_peers()
+    try_falling_blocks()
+    try_contents_of_one_dot()
+    try_lines_that_are_no_deltas()
+    try_removals()
+    try_long_delta()
+    try_greatest_files()
+    finish("each answer came within its time and its memory")
 
 
-if __name__ == "__main__":
-    CENSUS[0] = os.path.abspath(CENSUS[0]) if "/" in CENSUS[0] else CENSUS[0]
-    with tempfile.TemporaryDirectory() as room:
-        os.chdir(room)
-        sys.exit(main())
+with folder():
+    main()
