@@ -1,15 +1,19 @@
 # make             proves and builds the program
-# make check       every proof from nothing, and every test
+# make test        every test that runs the program, in some minutes and with no kit; it builds nothing
+# make check       every proof from nothing, and then these tests, some of them in a longer form
 # make install     the executable, its page of the manual and its completions for shells, below PREFIX
 # make dist        makes the build the released executable
 # make clean       gives the disk back that proofs and builds take
 PREFIX = /usr/local
 SHARE = $(DESTDIR)$(PREFIX)/share
 
-.PHONY: all check install dist clean
+.PHONY: all test check install dist clean
 
 all:
 	@dist/build
+
+test:
+	@tests/run
 
 check:
 	.ci/run

@@ -1,16 +1,10 @@
 #!/usr/bin/env bash
 # Two people keep one table in a git repository, as docs/GROUP.md says: each has a clone, a state of their own, and the file census.delta
 # under git, whose versions `census union` merges. Both issue at once and commit; the merge has no conflict, and both catalogues are
-# the same bytes. Takes seconds. The first word may be the program.
-set -Eeuo pipefail
-top=$(cd "$(dirname "${BASH_SOURCE[0]}")/.." && pwd)
-census=$(readlink -f "${1:-$("$top/dist/program")}")
-room=$(mktemp -d)
-trap 'rm -rf "$room"' EXIT
-trap 'echo "git: this failed, at line $LINENO: $BASH_COMMAND" >&2' ERR
-cd "$room"
+# the same bytes.
+. "$(dirname "${BASH_SOURCE[0]}")/lib.sh"
 mkdir bin home
-ln -s "$census" bin/census
+make_command bin
 export PATH=$room/bin:$PATH HOME=$room/home GIT_CONFIG_NOSYSTEM=1
 export GIT_AUTHOR_NAME=test GIT_AUTHOR_EMAIL=test@example.org GIT_COMMITTER_NAME=test GIT_COMMITTER_EMAIL=test@example.org
 

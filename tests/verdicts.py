@@ -1,61 +1,22 @@
 #!/usr/bin/env python3
 """What is said of what a command said or took in: what became of one block or claim, or how many of several are proved, refuted and
 pending. Each command runs on copies of one state, with no terminal, with --explain, with CENSUS_EXPLAIN=1 and on a terminal: in the
-first nothing is said, in the others what is due, and all print and write the same bytes. The values come from the rule of the games,
-which is written out below. Takes seconds; connections are on the loopback, on a free port.
-
-    verdicts.py [PROGRAM [WORD ..]]          the program is ../census where none is named
+first nothing is said, in the others what is due, and all print and write the same bytes. The values come from the rule of the games.
+Connections are on the loopback, on a free port.
 """
 
 import json
 import os
-import pty
 import random
-import re
-import select
-import shutil
-import socket
-import subprocess
-import sys
-import tempfile
 
-TOP = os.path.dirname(os.path.dirname(os.path.realpath(__file__)))
-PROGRAM = sys.argv[1:] or [os.path.join(TOP, "census")]
-PROGRAM[0] = os.path.abspath(shutil.which(PROGRAM[0]) or PROGRAM[0])
-SECONDS = 60
-SILENT = {name: text for name, text in os.environ.items() if name != "CENSUS_EXPLAIN"}
-ASKING = dict(SILENT, CENSUS_EXPLAIN="1")
+import lib
+from lib import ASKING, Hub, expect, finish, folder, nim_values, read, run, watched, write
+
 SEED = 20240607
-
-failures = []
 tried = 0
 
 
-def need(holds, what):
-    if not holds:
-        failures.append(what)
-        print(f"verdicts: {what}", file=sys.stderr)
-
-
 # ---- the games
-
-
-def nim_values(code, count):
-    """The nim-values of the heaps below count. Digit k says what k beans may leave: 1 no heap, 2 one heap, 4 two heaps."""
-    digits = [int(digit) for digit in code.split(".")[1]]
-    values = []
-    for heap in range(count):
-        options = set()
-        for removed, digit in enumerate(digits, 1):
-            left = heap - removed
-            if digit & 1 and left == 0:
-                options.add(0)
-            if digit & 2 and left > 0:
-                options.add(values[left])
-            if digit & 4:
-                options.update(values[one] ^ values[left - one] for one in range(1, left // 2 + 1))
-        values.append(next(value for value in range(len(options) + 1) if value not in options))
-    return values
 
 
 def first_break(values, start, period):
@@ -66,48 +27,9 @@ def first_break(values, start, period):
 # ---- the program
 
 
-def run(words, env=SILENT, given=b""):
-    """The status, the output and the errors of the words, with no terminal."""
-    ran = subprocess.run(PROGRAM + words, input=given, capture_output=True, env=env, timeout=SECONDS)
-    return ran.returncode, ran.stdout, ran.stderr.decode()
-
-
-def watched(words, given=b""):
-    """The same, where standard error is a terminal."""
-    master, slave = pty.openpty()
-    program = subprocess.Popen(PROGRAM + words, stdin=subprocess.PIPE, stdout=subprocess.PIPE, stderr=slave, env=SILENT)
-    os.close(slave)
-    program.stdin.write(given)
-    program.stdin.close()
-    said = b""
-    while select.select([master], [], [], SECONDS)[0]:
-        try:
-            said += os.read(master, 65536)
-        except OSError:  # the other end is closed
-            break
-    os.close(master)
-    printed = program.stdout.read()
-    program.stdout.close()
-    status = program.wait(SECONDS)
-    # What shows how far a command is takes its line away again.
-    return status, printed, re.sub(r"\r[^\r\n]*\x1b\[K", "", said.replace(b"\r\n", b"\n").decode())
-
-
-def done(words, given=b""):
+def done(words, given=None):
     """What a command prints that leads to a case, and is none itself."""
-    status, printed, said = run(words.split(), given=given)
-    need((status, said) == (0, ""), f"{words}: {status}, {said!r}")
-    return printed
-
-
-def read(path):
-    with open(path, "rb") as file:
-        return file.read()
-
-
-def write(path, given):
-    with open(path, "wb") as file:
-        file.write(given)
+    return lib.done(*words.split(), given=given)
 
 
 def block(code, start, values):
@@ -121,20 +43,20 @@ def said_of(words, due, given=b"", on_terminal=None):
     words = words.split()
     before = read("a.state")
     ways = {
-        "with no terminal": (lambda: run(words, given=given), ""),
-        "with --explain": (lambda: run(["--explain", *words], given=given), due),
-        "with CENSUS_EXPLAIN=1": (lambda: run(words, ASKING, given=given), due),
-        "on a terminal": (lambda: watched(words, given), due if on_terminal is None else on_terminal),
+        "with no terminal": (lambda: run(*words, given=given), ""),
+        "with --explain": (lambda: run("--explain", *words, given=given), due),
+        "with CENSUS_EXPLAIN=1": (lambda: run(*words, env=ASKING, given=given), due),
+        "on a terminal": (lambda: watched(*words, given=given), due if on_terminal is None else on_terminal),
     }
     first = None
     for way, (act, wanted) in ways.items():
         write("a.state", before)
         status, printed, said = act()
-        need(status == 0, f"{words} {way}: the status is {status}")
-        need(said == wanted, f"{words} {way}: {said!r}, and not {wanted!r}")
+        expect(status == 0, f"{words} {way}: the status is {status}")
+        expect(said == wanted, f"{words} {way}: {said!r}, and not {wanted!r}")
         left = printed, read("a.state")
         first = first or left
-        need(left == first, f"{words} {way}: it prints {printed!r}, or writes another state than with no terminal")
+        expect(left == first, f"{words} {way}: it prints {printed!r}, or writes another state than with no terminal")
 
 
 def lists(state):
@@ -165,7 +87,7 @@ def try_claims():
             if first_break(values, period, start) is None and 2 * start + 2 * period + 2 <= len(values):
                 due += f"warning: {dot} says from {start} by {period}; from {period} by {start} is proved: were the two exchanged?\n"
         said_of(f"period a.state 0.77 {start} {period}", due)
-        need(("exchanged" in due) == ((start, period) in ((12, 71), (12, 72), (24, 71))), f"the case {start} {period}: {due!r}")
+        expect(("exchanged" in due) == ((start, period) in ((12, 71), (12, 72), (24, 71))), f"the case {start} {period}: {due!r}")
     said_of("note a.state kayles twelve", "")
     said_of("period --quiet a.state 0.77 69 12", "")
 
@@ -237,8 +159,11 @@ def try_exchange():
     done("period b.state 0.77 72 12")
     done("delta b.state b.delta")
     said_of("merge a.state b.delta", "2.9: proved\n")
-    # The same by a session.
-    counts = "8 new: 4 proved, 3 refuted, 1 pending" + lists("a.state") + "\n"
+    try_session(fresh, "8 new: 4 proved, 3 refuted, 1 pending" + lists("a.state") + "\n")
+
+
+def try_session(fresh, counts):
+    """The same by a session of the state as it was with a hub on b.state."""
     for way, act, more, due in (
         ("with no terminal", run, [], ""),
         ("with --explain", run, ["--explain"], counts),
@@ -246,13 +171,10 @@ def try_exchange():
         ("on a terminal with --quiet", watched, ["--quiet"], ""),
     ):
         write("a.state", fresh)
-        with socket.create_server(("127.0.0.1", 0)) as listener:
-            address = f"127.0.0.1:{listener.getsockname()[1]}"
-        hub = subprocess.Popen(PROGRAM + ["hub", "b.state", address, "--peers", "1"], stdout=subprocess.PIPE, stderr=subprocess.PIPE, env=SILENT)
-        hub.stdout.readline()
-        ended = act(["sync", "a.state", address, *more])
-        hub.communicate(timeout=SECONDS)
-        need(ended == (0, b"" if "--quiet" in more else b"done\n", due), f"sync {way}: {ended}")
+        with Hub("b.state", "--peers", "1") as hub:
+            ended = act("sync", "a.state", hub.address, *more)
+            hub.runs.wait(60)
+        expect(ended == (0, "" if "--quiet" in more else "done\n", due), f"sync {way}: {ended}")
 
 
 def try_twice():
@@ -265,9 +187,9 @@ def try_twice():
     done("compute a.state 0.77 49")
     done("import b.state -", block("0.77", 20, [values[20] + 1]))
     done("delta b.state b.delta")
-    status, _, said = run(["--explain", "merge", "a.state", "b.delta"])
+    status, _, said = run("--explain", "merge", "a.state", "b.delta")
     due = f"5.1: refuted at 20, claimed {values[20] + 1}, true {values[20]}\n"
-    need(status == 0 and said.startswith("warning: 5.1 is by your number") and said.endswith("\n" + due), f"merge of a number that is used twice: {said!r}")
+    expect(status == 0 and said.startswith("warning: 5.1 is by your number") and said.endswith("\n" + due), f"merge of a number that is used twice: {said!r}")
 
 
 def try_surveys():
@@ -283,18 +205,14 @@ def try_surveys():
 
 
 def main():
-    with tempfile.TemporaryDirectory() as room:
-        os.chdir(room)
-        try_claims()
-        try_blocks()
-        try_chance()
-        try_exchange()
-        try_twice()
-        try_surveys()
-        os.chdir("/")
-    if failures:
-        sys.exit(f"verdicts: {len(failures)} failed")
-    print(f"verdicts: what became of it is said of each of {tried} commands where it should be, and only there")
+    try_claims()
+    try_blocks()
+    try_chance()
+    try_exchange()
+    try_twice()
+    try_surveys()
+    finish(f"verdicts: what became of it is said of each of {tried} commands where it should be, and only there")
 
 
-main()
+with folder():
+    main()

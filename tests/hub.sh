@@ -2,38 +2,8 @@
 # What a hub keeps of its state: a session that brings nothing leaves the file as it is, with its inode and its time; what other
 # commands add meanwhile is given to the next peer; what a session brings is in the file after it, also where it ended by a fault;
 # and a file that is gone, or is another one, is seen by the next peer.
-# Takes some seconds, and never more than a minute; the connections are on the loopback, on a free port.
-#
-#     hub.sh [PROGRAM [WORD ..]]          the program is the one that ../census runs where none is named
-set -Eeuo pipefail
-top=$(cd "$(dirname "${BASH_SOURCE[0]}")/.." && pwd)
-census=("${@:-$("$top/dist/program")}")
-census[0]=$(command -v "${census[0]}") && census[0]=$(realpath -s "${census[0]}")
-"${census[@]}" --help >/dev/null # builds the program, where it was not built
-
-# Each background job has a process group of its own, so that it ends as a whole.
-set -m
-room=$(mktemp -d)
-cd "$room"
-clean() {
-  local job
-  for job in $(jobs -p); do kill -KILL -- "-$job" || true; done 2>/dev/null
-  wait 2>/dev/null || true
-  rm -rf "$room"
-}
-trap clean EXIT
-trap 'echo "hub: this failed, at line $LINENO: $BASH_COMMAND" >&2; cat served faults >&2 2>/dev/null' ERR
-trap 'echo "hub: it took more than 55 seconds" >&2; exit 1' TERM
-(sleep 55 && kill -TERM $$) &
-
-census() {
-  "${census[@]}" "$@"
-}
-
-# Waits until the file has so many lines that begin with the words.
-await() {
-  until [ "$(grep -c "^$3" "$1")" -ge "$2" ]; do sleep 0.05; done
-}
+# The connections are on the loopback, on a free port.
+. "$(dirname "${BASH_SOURCE[0]}")/lib.sh"
 
 # How many lines the file has.
 count() {
@@ -83,10 +53,7 @@ stamp='[0-9-]*T[0-9:]*Z'         # a time
 census init hub 9 >/dev/null
 census init anna 1 >/dev/null
 census note hub first 'of the hub' >/dev/null
-census hub hub 127.0.0.1:0 --peers 14 --patience 20 >served 2>faults &
-hub=$!
-await served 1 'listening on '
-address=$(sed -n 's/^listening on //p' served)
+start_hub hub --peers 14 --patience 20
 
 # The peer takes what the hub has, and brings nothing; and once more, where neither has anything new.
 before=$(identity)

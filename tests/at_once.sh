@@ -2,64 +2,8 @@
 # Commands at once, peers that fail, and files of every kind: fifty notes issued at once are all there; what is issued while a
 # session waits or runs is there after it; a hub says which peers were silent, sent rubbish or were cut off, and serves the next; a
 # state keeps its mode, and a link stays a link; a delta is not written over its state.
-# Takes some seconds, and never more than a minute; the connections are on the loopback, on free ports.
-#
-#     at_once.sh [PROGRAM [WORD ..]]          the program is the one that ../census runs where none is named
-set -Eeuo pipefail
-top=$(cd "$(dirname "${BASH_SOURCE[0]}")/.." && pwd)
-census=("${@:-$("$top/dist/program")}")
-census[0]=$(command -v "${census[0]}") && census[0]=$(realpath -s "${census[0]}")
-"${census[@]}" --help >/dev/null # builds the program, where it was not built
-
-# Each background job has a process group of its own, so that it ends as a whole.
-set -m
-room=$(mktemp -d)
-cd "$room"
-clean() {
-  local job
-  for job in $(jobs -p); do kill -KILL -- "-$job" || true; done 2>/dev/null
-  wait 2>/dev/null || true
-  rm -rf "$room"
-}
-trap clean EXIT
-trap 'echo "at_once: this failed, at line $LINENO: $BASH_COMMAND" >&2' ERR
-trap 'echo "at_once: it took more than 55 seconds" >&2; exit 1' TERM
-(sleep 55 && kill -TERM $$) &
-
-census() {
-  "${census[@]}" "$@"
-}
-
-# Waits until the file has so many lines that begin with the words.
-await() {
-  until [ "$(grep -c "^$3" "$1")" -ge "$2" ]; do sleep 0.05; done
-}
-
-# Whether somebody listens on the port.
-listens() {
-  grep -qi ": 0100007F:$(printf %04X "$1") [0-9A-F:]* 0A" /proc/net/tcp
-}
-
-# A port on which nobody listens.
-free_port() {
-  local port
-  for port in {42210..42300}; do
-    if ! listens "$port"; then
-      echo "$port"
-      return
-    fi
-  done
-  return 1
-}
-
-# Starts a hub on a state, with more words; its address is $address, its process $hub.
-start_hub() {
-  : >served # what an earlier hub said there
-  census hub "$1" 127.0.0.1:0 "${@:2}" >served 2>faults &
-  hub=$!
-  await served 1 'listening on '
-  address=$(sed -n 's/^listening on //p' served)
-}
+# The connections are on the loopback, on free ports.
+. "$(dirname "${BASH_SOURCE[0]}")/lib.sh"
 
 fifty_notes() {
   census init one 1 >/dev/null
@@ -85,10 +29,7 @@ while_it_serves() {
   port=$(free_port)
   census serve two "127.0.0.1:$port" >waited &
   serve=$!
-  until listens "$port"; do
-    kill -0 "$serve"
-    sleep 0.05
-  done
+  await_port "$port" "$serve"
   census note two from two >/dev/null
   test "$(census sync three "127.0.0.1:$port")" = 'done'
   wait "$serve"
@@ -170,12 +111,9 @@ a_delta_over_its_state() {
   cp one before
   ln one same
   ln -s one there
-  local name status
-  for name in one ./one same there; do
-    status=0
-    census delta one "$name" >said 2>&1 || status=$?
-    test "$status" = 3
-    test "$(cat said)" = 'census: Same'
+  local path
+  for path in one ./one same there; do
+    refused 3 Same delta one "$path"
     cmp one before
   done
 }

@@ -1,17 +1,16 @@
 #!/usr/bin/env bash
 # The page of the manual in docs is the one that the program prints, the version that the program names is the newest of CHANGELOG,
 # and the completions for a shell name each command of the help.
-set -euo pipefail
-cd "$(dirname "${BASH_SOURCE[0]}")/.."
-./census manual | cmp - docs/census.1
-version=$(sed -n 's/^## //p' CHANGELOG.md | head -n 1)
-[ "$(./census --version)" = "census $version" ]
-commands=$(./census --help | sed -n 's/^  \([a-z]*\) .*/\1/p' | grep -vx census)
+. "$(dirname "${BASH_SOURCE[0]}")/lib.sh"
+census manual | cmp - "$top/docs/census.1"
+version=$(sed -n 's/^## //p' "$top/CHANGELOG.md" | head -n 1)
+[ "$(census --version)" = "census $version" ]
+commands=$(census --help | sed -n 's/^  \([a-z]*\) .*/\1/p' | grep -vx census)
 for shell in bash zsh fish; do
-  ./census completion "$shell" >/dev/null
+  census completion "$shell" >/dev/null
   for command in $commands; do
-    ./census completion "$shell" | grep -qw -- "$command"
+    census completion "$shell" | grep -qw -- "$command"
   done
 done
-bash -n <(./census completion bash)
+bash -n <(census completion bash)
 echo "manual: docs/census.1 is the page that the program prints, which is version $version, and shells complete its commands"

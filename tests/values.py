@@ -1,6 +1,7 @@
 #!/usr/bin/env python3
-"""Times how long oct_mex computes the first 65,536 nim-values of sixty games. This is a benchmark and no test: it prints each
-code with a checksum of the values and the processor seconds, and says only where two trees differ in a checksum.
+"""Times how long oct_mex computes the first 65,536 nim-values of the sixty games of values/checksums.txt. This is a benchmark and
+no test: it prints each code with a checksum of the values and the processor seconds, and says only where two trees differ in a
+checksum.
 
     values.py [TREE ..]           a tree is a checkout of this repository; this one where none is named
 
@@ -18,13 +19,8 @@ import tempfile
 HERE = os.path.dirname(os.path.abspath(__file__))
 CRATES = "oct_code:\noct_mex: oct_code\nvalues: oct_mex oct_code\n"
 RUNS = 3
-CODES = (
-    "0.77 0.07 0.6 0.007 0.106 0.16 0.04 0.06 0.36 0.37 0.64 0.74 0.76 4.7 0.7777 "
-    "0.017 0.056 0.14 0.104 0.114 0.165 0.205 0.54 0.055 0.644 0.356 0.45 0.142 0.336 4.07 "
-    "4.004 4.1 4.36 4.65 4.321 4.7531 0.7777777777777777 4.7777777777777777 0.4444444444444444 0.1234567 "
-    "0.600000000006 0.2043 0.3166 0.3644 0.434 0.435 0.56 0.563 0.131607 0.2462 0.6575 0.432315 0.627 "
-    "0.711 0.36671 0.6427 0.236 0.7243 0.655 4.0352"
-).split()
+with open(os.path.join(HERE, "values", "checksums.txt"), encoding="utf-8") as table:
+    CODES = [row.split()[0] for row in table if not row.startswith("#")]
 
 
 def built(tree, room):

@@ -1,14 +1,11 @@
 #!/usr/bin/env bash
 # Whether ./census runs the released executable for exactly the sources that it was made from, and dist/check finds what differs: on
-# a copy of the sources, with a word of its own in place of the kit and of the executable, so that nothing is proved. Takes seconds.
-set -Eeuo pipefail
+# a copy of the sources, with a word of its own in place of the kit and of the executable, so that nothing is proved.
+# Also whether make test builds nothing, but says that make would.
+. "$(dirname "${BASH_SOURCE[0]}")/lib.sh"
 shopt -s nullglob
-top=$(cd "$(dirname "${BASH_SOURCE[0]}")/.." && pwd)
-room=$(mktemp -d)
-trap 'rm -rf "$room"' EXIT
-trap 'echo "released: this failed, at line $LINENO: $BASH_COMMAND" >&2' ERR
 cd "$top"
-cp -a --parents census crates.txt Makefile docs/census.1 dist crates/*/{src,specs,proofs} "$room"
+cp -a --parents census crates.txt Makefile docs/census.1 dist tests/{run,parts.sh} crates/*/{src,specs,proofs} "$room"
 cd "$room"
 rm -f dist/census-x86_64-linux dist/sources.sha256 dist/kit
 
@@ -29,18 +26,26 @@ chmod +x bin/rt
 export PATH=$room/bin:$PATH ROOM=$room
 echo 'a kit' >kit
 
-# Fails where the command succeeds; what it says is in the file said.
-refused() {
+# The command fails; what it says is in the file said.
+fails() {
   if "$@" >said 2>&1; then
     echo "released: $* should have failed" >&2
     false
   fi
 }
 
+# Whether the tests say that nothing is there to run, and how it is built; they ask no kit.
+nothing_to_test() {
+  rm -f asked
+  fails tests/run
+  test "$(cat said)" = 'census: there is no executable for these sources; make proves and builds one, with the Rattle kit'
+  test ! -e asked
+}
+
 # Whether ./census does not run the released executable, but asks the kit for a build, and dist/check finds the difference.
 out_of_date() {
-  rm -f asked
-  refused ./census show
+  nothing_to_test
+  fails ./census show
   grep -q . asked
   checked_as_different
 }
@@ -48,7 +53,7 @@ out_of_date() {
 # Whether dist/check, after a build of these sources, says that dist/ is out of date, and what mends it.
 checked_as_different() {
   build
-  refused dist/check
+  fails dist/check
   grep -q 'make dist' said
   rm -rf crates/*/out
 }
@@ -81,11 +86,15 @@ build() {
 up_to_date() {
   rm -f asked
   test "$(./census show)" = 'built show'
+  test "$(dist/program --ready)" = "$PWD/dist/census-x86_64-linux"
   test ! -e asked
 }
 
+nothing_to_test
+if command -v make >/dev/null; then fails make test; fi
+
 # A build that fails shows the last lines of its log; one that works names each crate that the program stands on, and then none.
-refused ./census show
+fails ./census show
 grep -q '^rt lib in oct_code$' said
 grep -q 'oct_code was not proved' said
 touch works
@@ -95,6 +104,7 @@ test "$(tail -n 1 asked)" = census
 dist/build 2>said
 test ! -s said
 test "$(./census show)" = 'built show'
+test "$(dist/program --ready)" = "$PWD/crates/census/out/census"
 rm works
 
 # The release, and the program without a build.
@@ -132,7 +142,7 @@ up_to_date
 # One byte of the released executable is another, and the kit is that of the release: refused. Nothing is built: refused.
 sed -i 's/built/boilt/' dist/census-x86_64-linux
 checked_as_different
-refused dist/check
+fails dist/check
 grep -q 'no build of these sources' said
 
 # The kit is of another day. The same bytes pass, and both kits are named; other bytes pass as not vouched for; sources that are
@@ -150,6 +160,6 @@ echo 'a kit' >kit
 # The machine is another one.
 printf '#!/bin/sh\necho Linux aarch64\n' >bin/uname
 chmod +x bin/uname
-refused ./census show
+fails ./census show
 grep -q . asked
 echo "the released executable is run for its own sources alone, and what differs is found"

@@ -1,29 +1,19 @@
 #!/usr/bin/env python3
 """Wrong inputs, and what the program says of them: the line of the fault alone where standard error is no terminal, and behind it
-what was wrong and what to do with --explain, with CENSUS_EXPLAIN=1 and on a terminal. Takes seconds; connections are on the
-loopback, on free ports.
-
-    faults.py [PROGRAM [WORD ..]]          the program is the one that ../census runs where none is named
+what was wrong and what to do with --explain, with CENSUS_EXPLAIN=1 and on a terminal. Connections are on the loopback, on free
+ports.
 """
 
 import os
 import pty
 import re
-import select
-import shutil
 import socket
-import subprocess
-import sys
-import tempfile
 import threading
 
-TOP = os.path.dirname(os.path.dirname(os.path.realpath(__file__)))
-PROGRAM = sys.argv[1:] or [subprocess.check_output([os.path.join(TOP, "dist", "program")], text=True).strip()]
-PROGRAM[0] = os.path.abspath(shutil.which(PROGRAM[0]) or PROGRAM[0])
+from lib import ASKING, TOP, done, expect, finish, folder, free_port, read, run, start, watched, write
+
 SECONDS = 20
 MOST = 300
-SILENT = {name: text for name, text in os.environ.items() if name != "CENSUS_EXPLAIN"}
-ASKING = dict(SILENT, CENSUS_EXPLAIN="1")
 FORM = '{"code":"0.77","start":0,"values":['
 
 # Words of the command line; the line of the fault, behind `census: `; its exit status; and what must stand behind it.
@@ -107,51 +97,19 @@ CASES = [
     ("sync a.state 127.0.0.1:MUTE --patience 1", "Sync Read", 3, ["127.0.0.1:MUTE: the other side was silent for too long", "--patience"]),
 ]
 
-failures = []
-
-
-def need(holds, what):
-    if not holds:
-        failures.append(what)
-        print(f"faults: {what}", file=sys.stderr)
-
-
-def run(words, env=SILENT, given=b""):
-    """The status, the output and the errors of the words, with no terminal."""
-    ran = subprocess.run(PROGRAM + words, input=given, capture_output=True, env=env, timeout=SECONDS)
-    return ran.returncode, ran.stdout, ran.stderr
-
-
-def watched(words):
-    """The status and the errors of the words, where standard error is a terminal."""
-    master, slave = pty.openpty()
-    program = subprocess.Popen(PROGRAM + words, stdin=subprocess.DEVNULL, stdout=subprocess.DEVNULL, stderr=slave, env=SILENT)
-    os.close(slave)
-    said = b""
-    while select.select([master], [], [], SECONDS)[0]:
-        try:
-            piece = os.read(master, 65536)
-        except OSError:  # the other end is closed
-            break
-        said += piece
-    os.close(master)
-    status = program.wait(SECONDS)
-    # What shows how far a command is takes its line away again.
-    said = re.sub(rb"\r[^\r\n]*\x1b\[K", b"", said.replace(b"\r\n", b"\n"))
-    return status, said
-
-
-def explained(what, line, texts, said, status, wanted):
+def explained(what, line, texts, answer, wanted):
     """The errors are the line of the fault, and behind it one to three lines with these texts."""
-    need(status == wanted, f"{what}: the status is {status}, and not {wanted}")
-    front = f"census: {line}\n".encode()
-    need(said.startswith(front), f"{what}: {said!r} does not begin with {front!r}")
-    lines = said[len(front):].decode().splitlines()
-    need(1 <= len(lines) <= 3 and all(line.startswith("  ") for line in lines), f"{what}: {lines}")
-    need(len(said) - len(front) <= MOST, f"{what}: {len(said) - len(front)} bytes")
-    need(not re.search(rb"[\x00-\x09\x0b-\x1f\x7f]", said), f"{what}: control characters in {said!r}")
+    said = answer.err
+    expect(answer.status == wanted, f"{what}: the status is {answer.status}, and not {wanted}")
+    front = f"census: {line}\n"
+    expect(said.startswith(front), f"{what}: {said!r} does not begin with {front!r}")
+    behind = said[len(front) :]
+    lines = behind.splitlines()
+    expect(1 <= len(lines) <= 3 and all(line.startswith("  ") for line in lines), f"{what}: {lines}")
+    expect(len(behind.encode()) <= MOST, f"{what}: {len(behind.encode())} bytes")
+    expect(not re.search(r"[\x00-\x09\x0b-\x1f\x7f]", said), f"{what}: control characters in {said!r}")
     for text in texts:
-        need(text in " ".join(lines), f"{what}: `{text}` is not in {lines}")
+        expect(text in " ".join(lines), f"{what}: `{text}` is not in {lines}")
 
 
 def peer(answer):
@@ -173,28 +131,13 @@ def peer(answer):
     return str(listener.getsockname()[1])
 
 
-def free_port():
-    with socket.create_server(("127.0.0.1", 0)) as listener:
-        return str(listener.getsockname()[1])
-
-
-def write(name, given):
-    with open(name, "wb") as file:
-        file.write(given)
-
-
 def make_files():
     """The files that the table names."""
     for words in ("init a.state 1", "compute a.state 0.77 5", "note a.state early x", "unnote a.state early", "delta a.state a.delta"):
-        status, _, errors = run(words.split())
-        need(status == 0, f"{words}: {errors!r}")
-    run("search 70000 0.16 --window --save a.search".split())
-    with open("a.search", "rb") as file:
-        write("cut.search", file.read()[:100])
-    with open("a.state", "rb") as file:
-        state = file.read()
-    with open("a.delta", "rb") as file:
-        delta = file.read()
+        done(*words.split())
+    done(*"search 70000 0.16 --window --save a.search".split())
+    write("cut.search", read("a.search")[:100])
+    state, delta = read("a.state"), read("a.delta")
     os.mkdir("folder")
     os.mkfifo("pipe")
     os.symlink("loop", "loop")
@@ -224,7 +167,7 @@ def try_table():
         "STRANGE": peer(b"HTTP/1.1 400 Bad Request\r\n\r\n"),
         "SHUT": peer(b""),
         "MUTE": peer(None),
-        "PORT": free_port(),
+        "PORT": str(free_port()),
     }
 
     def named(text):
@@ -233,80 +176,85 @@ def try_table():
         return text
 
     for case, line, wanted, texts in CASES:
-        if line is None:
-            continue
-        words, texts = named(case).split(" "), [named(text) for text in texts]
-        status, _, said = run(words)
-        if words[0] == "hub":
-            explained(case, line, texts, said, status, wanted)
-        else:
-            need((status, said) == (wanted, f"census: {line}\n".encode()), f"{case}: {status}, {said!r}")
-        status, output, said = run(["--explain", *words])
-        explained(f"--explain {case}", line, texts, said, status, wanted)
-        if words[0] != "sync":
-            status, _, again = run(words, ASKING)
-            need((status, again) == (wanted, said), f"CENSUS_EXPLAIN=1 {case}: {again!r}, and not {said!r}")
-        status, seen = watched(words)
-        explained(f"on a terminal {case}", line, texts, seen, status, wanted)
+        try_case(named(case), line, wanted, [named(text) for text in texts])
+
+
+def try_case(case, line, wanted, texts):
+    """A case, of whose words each stands for itself. A hub explains its faults always."""
+    words = case.split(" ")
+    alone = run(*words, seconds=SECONDS)
+    if words[0] == "hub":
+        explained(case, line, texts, alone, wanted)
+    else:
+        expect((alone.status, alone.err) == (wanted, f"census: {line}\n"), f"{case}: {alone}")
+    asked = run("--explain", *words, seconds=SECONDS)
+    explained(f"--explain {case}", line, texts, asked, wanted)
+    if words[0] != "sync":
+        again = run(*words, env=ASKING, seconds=SECONDS)
+        expect((again.status, again.err) == (wanted, asked.err), f"CENSUS_EXPLAIN=1 {case}: {again.err!r}, and not {asked.err!r}")
+    explained(f"on a terminal {case}", line, texts, watched(*words), wanted)
 
 
 def try_streams():
-    """Standard input and output in place of files, and a reader that closes its end."""
-    with open("a.delta", "rb") as file:
-        delta = file.read()
-    need(run(["delta", "a.state", "-"]) == (0, delta, b""), "delta to standard output")
-    need(run(["union", "-", "-", "a.delta"], given=delta) == (0, delta, b""), "union of standard input to standard output")
-    need(run(["init", "b.state", "2"])[0] == 0, "init")
-    need(run(["merge", "b.state", "-"], given=delta) == (0, b"new 3\n", b""), "merge of standard input")
-    need(run(["check", "0.77", "-"], given=b"0 0\n1 1\n") == (0, b"2 values, all right\n", b""), "check of standard input")
-    need(run(["claim", "b.state", "0.77", "-"], given=b"0 0\n1 1\n") == (0, b"issued 2.1\n", b""), "claim of standard input")
-    need(run(["import", "--quiet", "b.state", "-"], given=FORM.encode() + b"0]}") == (0, b"", b""), "import of standard input, quiet")
-    need(not os.path.exists("-"), "a file was made that is called -")
-    need(run(["delta", "a.state", "./-"])[:2] == (0, b"operations 3\n") and os.path.exists("-"), "delta to ./-")
-    status, _, said = run(["--explain", "merge", "b.state", "-"], given=b"OGS1")
-    explained("merge of a state from standard input", "Merge Version", ["standard input is a state"], said, status, 1)
-    # Much output into a pipe that nobody reads: on a terminal nothing stands behind the line.
-    need(run("extend b.state 60000 0.77".split())[0] == 0, "extend")
+    """Standard input and output in place of files."""
+    delta = read("a.delta")
+    for words, given, out in (
+        ("delta a.state -", b"", delta),
+        ("union - - a.delta", delta, delta),
+        ("init b.state 2", b"", b"author 2\n"),
+        ("merge b.state -", delta, b"new 3\n"),
+        ("check 0.77 -", b"0 0\n1 1\n", b"2 values, all right\n"),
+        ("claim b.state 0.77 -", b"0 0\n1 1\n", b"issued 2.1\n"),
+        ("import --quiet b.state -", FORM.encode() + b"0]}", b""),
+    ):
+        answer = run(*words.split(), given=given, text=False)
+        expect(answer == (0, out, b""), f"{words}: {answer}")
+    expect(not os.path.exists("-"), "a file was made that is called -")
+    expect(done("delta", "a.state", "./-") == "operations 3\n" and os.path.exists("-"), "delta to ./-")
+    answer = run("--explain", "merge", "b.state", "-", given=b"OGS1")
+    explained("merge of a state from standard input", "Merge Version", ["standard input is a state"], answer, 1)
+
+
+def try_closed_reader():
+    """Much output into a pipe that nobody reads: on a terminal nothing stands behind the line."""
+    done(*"extend b.state 60000 0.77".split())
     master, slave = pty.openpty()
     reads, writes = os.pipe()
     os.close(reads)
-    program = subprocess.Popen(PROGRAM + ["show", "b.state"], stdout=writes, stderr=slave, env=SILENT)
+    running = start("show", "b.state", stdout=writes, stderr=slave)
     os.close(writes)
     os.close(slave)
-    need(program.wait(SECONDS) == 3, "show into a closed pipe has another status than 3")
-    need(os.read(master, 65536) == b"census: Write\r\n", "show into a closed pipe says something else")
+    expect(running.wait(SECONDS) == 3, "show into a closed pipe has another status than 3")
+    expect(os.read(master, 65536) == b"census: Write\r\n", "show into a closed pipe says something else")
     os.close(master)
 
 
 def try_list():
     """`census explain` and the manual have each fault of the documents."""
-    with open(os.path.join(TOP, "docs", "FORMATS.md")) as file:
+    with open(TOP / "docs" / "FORMATS.md", encoding="utf-8") as file:
         rows = re.findall(r"^\| `([A-Za-z]+)` \| (.*) \| ([1-4]) \|$", file.read().split("## Faults")[1], re.M)
-    need(len(rows) > 30, f"docs/FORMATS.md has {len(rows)} faults")
-    listed = run(["explain"])[1].decode()
-    page = run(["manual"])[1].decode()
+    expect(len(rows) > 30, f"docs/FORMATS.md has {len(rows)} faults")
+    listed = done("explain")
+    page = done("manual")
     for name, causes, status in rows:
         for cause in re.findall(r"`([A-Z][A-Za-z]+)(?: L)?`", causes) or [""]:
             called = f"{name} {cause}".strip()
-            need(f"{called}, status {status}\n  " in listed, f"census explain does not list {called}, status {status}")
-            need(f'"{called}" " (status {status})"' in page, f"the manual does not list {called}")
-            said = run(["explain", *called.split()])
-            need(said[0] == 0 and said[1].decode().startswith(f"{called}, status {status}\n"), f"explain {called}: {said}")
+            expect(f"{called}, status {status}\n  " in listed, f"census explain does not list {called}, status {status}")
+            expect(f'"{called}" " (status {status})"' in page, f"the manual does not list {called}")
+            said = done("explain", *called.split())
+            expect(said.startswith(f"{called}, status {status}\n"), f"explain {called}: {said}")
     for entry in re.split(r"(?m)^(?=\S)", listed)[1:]:
-        need(len(entry.split("\n", 1)[1]) <= MOST, f"over {MOST} bytes: {entry}")
+        expect(len(entry.split("\n", 1)[1]) <= MOST, f"over {MOST} bytes: {entry}")
 
 
 def main():
-    with tempfile.TemporaryDirectory() as room:
-        os.chdir(room)
-        make_files()
-        try_table()
-        try_streams()
-        try_list()
-        os.chdir("/")
-    if failures:
-        sys.exit(f"faults: {len(failures)} failed")
-    print(f"faults: each of {len(CASES)} wrong inputs is explained where it should be, and only there")
+    make_files()
+    try_table()
+    try_streams()
+    try_closed_reader()
+    try_list()
+    finish(f"faults: each of {len(CASES)} wrong inputs is explained where it should be, and only there")
 
 
-main()
+with folder():
+    main()

@@ -1,10 +1,8 @@
 #!/usr/bin/env python3
 """Has states and deltas stand where files get lost: behind links in folders whose names or depth no path can have, under two
 names, under a lock or a delta that is a link, a pipe or a device, and where a call of the system fails. Says whether each file is
-the old one or the new one after each command, and whether what would be lost is refused. Takes some seconds; the failing calls are
-left out where there is no strace.
-
-    files.py [PROGRAM [WORD ..]]          the program is the one that ../census runs where none is named
+the old one or the new one after each command, and whether what would be lost is refused. The failing calls are left out where
+there is no strace.
 """
 
 import fcntl
@@ -13,59 +11,33 @@ import random
 import resource
 import select
 import shutil
-import struct
 import subprocess
-import sys
-import tempfile
 import time
 
-HERE = os.path.dirname(os.path.abspath(__file__))
-CENSUS = sys.argv[1:] or [subprocess.check_output([os.path.join(HERE, "..", "dist", "program")], text=True).strip()]
+import lib
+from lib import ASKING, delta, folder, need, note, read, start, write
+
 SECONDS = 10
 SEED = 1949
 KILLED = 100  # deltas that are killed
 NOTES = 1000  # in the deltas that are killed
-# What else is on the environment would ask for advice.
-QUIET = {name: value for name, value in os.environ.items() if name != "CENSUS_EXPLAIN"}
 
 
-def need(right, why):
-    if not right:
-        raise SystemExit(f"files: {why}")
-
-
-def run(*words, stdin=subprocess.DEVNULL, explain=False, before=(), **more):
-    """The exit status of a command, and what it printed to each stream. It may wait for nothing."""
-    environment = dict(QUIET, CENSUS_EXPLAIN="1") if explain else QUIET
-    ran = subprocess.run(
-        [*before, *CENSUS, *words], stdin=stdin, capture_output=True, timeout=SECONDS, env=environment, check=False, **more
-    )
-    return ran.returncode, ran.stdout.decode(), ran.stderr.decode()
+def run(*words, **more):
+    """What a command answers, which may wait for nothing."""
+    return lib.run(*words, seconds=SECONDS, **more)
 
 
 def done(*words, **more):
     """What a command printed that is done, and says nothing else."""
-    status, out, err = run(*words, **more)
-    need(status == 0 and err == "", f"{words} answered {status}, {err!r}")
-    return out
+    return lib.done(*words, seconds=SECONDS, **more)
 
 
-def refused(fault, status, *words, **more):
-    """A command that is refused by this fault, and changes no file here."""
+def refused(status, fault, *words, **more):
+    """A command that is refused, and changes no file here."""
     before = files()
-    answer = run(*words, **more)
-    need(answer == (status, "", f"census: {fault}\n"), f"{words} answered {answer}, not {fault}")
+    lib.refused(status, fault, *words, seconds=SECONDS, **more)
     need(files() == before, f"{words} was refused, and left other files")
-
-
-def read(path):
-    with open(path, "rb") as file:
-        return file.read()
-
-
-def write(path, content):
-    with open(path, "wb") as file:
-        file.write(content)
 
 
 def files():
@@ -86,16 +58,6 @@ def notes(state):
     return shown.count("\nnote ")
 
 
-def aside(case):
-    """Does a case in an empty folder of its own."""
-    with tempfile.TemporaryDirectory() as room:
-        os.chdir(room)
-        try:
-            case()
-        finally:
-            os.chdir("/")
-
-
 def issue_through_a_link():
     done("init", "a.state", "1")
     os.symlink("a.state", "near")
@@ -113,9 +75,9 @@ def unreadable_name():
     os.chdir(b"\xff\xfe")
     issue_through_a_link()
     os.symlink(os.path.join(os.getcwdb(), b"a.state"), b"whole")
-    refused("File", 3, "note", "whole", "n", "t")
+    refused(3, "File", "note", "whole", "n", "t")
     os.symlink(b"a\xff", b"named")
-    refused("File", 3, "note", "named", "n", "t")
+    refused(3, "File", "note", "named", "n", "t")
 
 
 def deep_folder():
@@ -134,17 +96,17 @@ def closed_folder():
     done("init", "closed/a.state", "1")
     os.symlink("closed/a.state", "link")
     os.chmod("closed", 0)
-    refused("File", 3, "note", "link", "n", "t")
-    refused("File", 3, "init", "closed/a.state", "1")
+    refused(3, "File", "note", "link", "n", "t")
+    refused(3, "File", "init", "closed/a.state", "1")
     os.chmod("closed", 0o700)
 
 
 def links_that_lead_nowhere():
     os.symlink("self", "self")
-    refused("File", 3, "note", "self", "n", "t")
+    refused(3, "File", "note", "self", "n", "t")
     os.symlink("absent", "link")
-    refused("File", 3, "note", "link", "n", "t")
-    refused("Exists", 3, "init", "link", "1")
+    refused(3, "File", "note", "link", "n", "t")
+    refused(3, "Exists", "init", "link", "1")
     done("init", "a.state", "1")
     need(done("delta", "a.state", "link") == "operations 0\n", "no delta through a link")
     need(os.readlink("link") == "absent" and read("absent")[:3] == b"OGD", "the delta is not where the link leads")
@@ -152,7 +114,7 @@ def links_that_lead_nowhere():
 
 def two_names():
     """A state with two names: a change leaves the other name as it was, and is warned of."""
-    for explained, more in ((("--explain",), {}), ((), {"explain": True}), ((), {})):
+    for explained, more in ((("--explain",), {}), ((), {"env": ASKING}), ((), {})):
         for words in (["note", "b.state", "n", "t"], ["extend", "b.state", "9", "0.77"]):
             for name in ("a.state", "b.state"):
                 if os.path.exists(name):
@@ -189,12 +151,12 @@ def deltas_over_others():
     write("cut", read("a.delta")[:-1])
     os.symlink("b.state", "link")
     for name in ("a.state", "./a.state"):
-        refused("Same", 3, "delta", "a.state", name)
-        refused("Same", 3, "delta", "a.state", name, "--replace")
+        refused(3, "Same", "delta", "a.state", name)
+        refused(3, "Same", "delta", "a.state", name, "--replace")
     for name in ("b.state", "link", "text", "cut", "b.state.lock", "b.state.new", "a.delta.new"):
         kept = files()
-        refused("Occupied", 3, "delta", "a.state", name)
-        refused("Occupied", 3, "union", name, "a.delta", "b.delta")
+        refused(3, "Occupied", "delta", "a.state", name)
+        refused(3, "Occupied", "union", name, "a.delta", "b.delta")
         out = os.readlink(name) if name == "link" else name
         forced(out, "delta", "a.state", name)
         forced(out, "union", name, "a.delta", "b.delta")
@@ -204,17 +166,17 @@ def deltas_over_others():
         for changed, content in kept.items():
             if not os.path.islink(changed):
                 write(changed, content)
-    refused("Union 1 Version", 1, "union", "text", "text", "a.delta")
+    refused(1, "Union 1 Version", "union", "text", "text", "a.delta")
     os.mkdir("folder")
-    refused("File", 3, "delta", "a.state", "folder", "--replace")
-    refused("File", 3, "union", "folder", "a.delta", "--replace")
+    refused(3, "File", "delta", "a.state", "folder", "--replace")
+    refused(3, "File", "union", "folder", "a.delta", "--replace")
 
 
 def deltas_over_deltas():
     """What delta and union write over: deltas, files without bytes, streams; and a delta that is not among those of a union."""
     three_states()
-    refused("Occupied", 3, "union", "a.delta", "b.delta")
-    refused("Occupied", 3, "union", "a.delta", "b.delta", "c.delta")
+    refused(3, "Occupied", "union", "a.delta", "b.delta")
+    refused(3, "Occupied", "union", "a.delta", "b.delta", "c.delta")
     need(done("union", "a.delta", "a.delta", "b.delta") == "operations 2\n", "no union in place")
     os.symlink("a.delta", "link")
     need(done("union", "link", "c.delta", "./a.delta") == "operations 3\n", "no union through a link")
@@ -235,18 +197,16 @@ def deltas_over_deltas():
 def killed_deltas():
     """Deltas that are killed leave the old file or the new one."""
     done("init", "a.state", "1")
-    texts = [b"\x03\x05other" + bytes([200]) + b"x" * 200] * NOTES
-    dots = (struct.pack(">II", 2, number) for number in range(1, NOTES + 1))
-    write("large", b"OGD2" + struct.pack(">I", NOTES) + b"".join(dot + text for dot, text in zip(dots, texts)))
+    write("large", delta(*(note(2, number, b"other", b"x" * 200) for number in range(1, NOTES + 1))))
     done("merge", "a.state", "large")
     before = time.monotonic()
     done("delta", "a.state", "out")
     whole, takes = read("out"), time.monotonic() - before
-    old = b"OGD1" + struct.pack(">I", 0)
+    old = delta(edition=1)
     dice, killed, news = random.Random(SEED), 0, 0
     while killed < KILLED:
         write("out", old)
-        running = subprocess.Popen([*CENSUS, "delta", "a.state", "out"], stdout=subprocess.DEVNULL, env=QUIET)
+        running = start("delta", "a.state", "out", stdout=subprocess.DEVNULL, stderr=None)
         time.sleep(dice.uniform(0, 1.1 * takes))
         running.kill()
         killed += running.wait() == -9
@@ -262,19 +222,19 @@ def no_files():
     os.mkfifo("pipe")
     os.mkdir("folder")
     for name in ("pipe", "/dev/null", "/dev/zero", "folder"):
-        refused("File", 3, "show", name)
-        refused("File", 3, "note", name, "n", "t")
-        refused("File", 3, "extend", name, "9", "0.77")
-        refused("File", 3, "merge", "a.state", name)
-        refused("File", 3, "claim", "a.state", "0.77", name)
-        refused("File", 3, "union", "out", "a.delta", name)
+        refused(3, "File", "show", name)
+        refused(3, "File", "note", name, "n", "t")
+        refused(3, "File", "extend", name, "9", "0.77")
+        refused(3, "File", "merge", "a.state", name)
+        refused(3, "File", "claim", "a.state", "0.77", name)
+        refused(3, "File", "union", "out", "a.delta", name)
     need(done("merge", "a.state", "/dev/stdin", stdin=pipe_of(read("b.delta"))) == "new 1\n", "no delta from a pipe")
     need(done("union", "out", "a.delta", "/dev/stdin", stdin=pipe_of(read("b.delta"))) == "operations 2\n", "no union of a pipe")
     need(done("claim", "a.state", "0.77", "/dev/stdin", stdin=pipe_of(b"0 0\n1 1\n2 2\n")) == "issued 1.2\n", "no b-file of a pipe")
     need(done("show", "/dev/stdin", stdin=pipe_of(read("a.state"))) == done("show", "a.state"), "no state from a pipe")
     with open("b.delta", "rb") as file:
         need(done("merge", "c.state", "/dev/stdin", stdin=file) == "new 1\n", "no delta from a file of the shell")
-    refused("File", 3, "note", "/dev/stdin", "n", "t", stdin=pipe_of(read("a.state")))
+    refused(3, "File", "note", "/dev/stdin", "n", "t", stdin=pipe_of(read("a.state")))
 
 
 def pipe_of(content):
@@ -296,7 +256,7 @@ def locks_that_are_none():
         lambda: os.mkdir("a.state.lock"),
     ):
         make()
-        refused("File", 3, "note", "a.state", "n", "t")
+        refused(3, "File", "note", "a.state", "n", "t")
         os.rmdir("a.state.lock") if os.path.isdir("a.state.lock") else os.remove("a.state.lock")
     write("a.state.lock", b"")  # what a stop left
     os.symlink("victim", "a.state.new")
@@ -309,10 +269,10 @@ def read_only():
     three_states()
     for name in ("a.state", "a.delta"):
         os.chmod(name, 0o444)
-    refused("File", 3, "note", "a.state", "n", "t")
-    refused("File", 3, "merge", "a.state", "b.delta")
-    refused("File", 3, "delta", "b.state", "a.delta")
-    refused("File", 3, "union", "a.delta", "a.delta", "b.delta")
+    refused(3, "File", "note", "a.state", "n", "t")
+    refused(3, "File", "merge", "a.state", "b.delta")
+    refused(3, "File", "delta", "b.state", "a.delta")
+    refused(3, "File", "union", "a.delta", "a.delta", "b.delta")
     need(done("page", "a.state", "0") != "", "a state that is read-only can't be read")
 
 
@@ -321,8 +281,7 @@ def held_lock():
     done("init", "a.state", "1")
     with open("a.state.lock", "wb") as lock:
         fcntl.flock(lock, fcntl.LOCK_EX)
-        words = [*CENSUS, "note", "a.state", "n", "t", "--explain"]
-        waiting = subprocess.Popen(words, stdout=subprocess.PIPE, stderr=subprocess.PIPE, env=QUIET)
+        waiting = start("note", "a.state", "n", "t", "--explain")
         said = select.select([waiting.stderr], [], [], SECONDS)[0] and waiting.stderr.readline()
     out, err = waiting.communicate(timeout=SECONDS)
     need(waiting.returncode == 0 and (out, err) == (b"issued 1.1\n", b""), f"a command that waited answered {err!r}")
@@ -395,18 +354,16 @@ def can_trace():
 
 
 def main():
-    CENSUS[0] = os.path.abspath(shutil.which(CENSUS[0]) or CENSUS[0])
-    done("--help")  # builds the program, where it was not built
     cases = [unreadable_name, deep_folder, closed_folder, links_that_lead_nowhere, two_names, deltas_over_others, deltas_over_deltas]
     cases += [killed_deltas, no_files, locks_that_are_none, read_only, held_lock, small_limit]
     if can_trace():
         cases.append(failing_calls)
     for case in cases:
-        aside(case)
+        with folder():
+            case()
     print("links, names, locks, pipes, deltas over other files, kills and limits: no file is lost, and each is the old or the new one")
     if failing_calls not in cases:
         print("files: strace is not there or may not trace, so failing calls of the system were left out")
 
 
-if __name__ == "__main__":
-    main()
+main()

@@ -1,62 +1,17 @@
 #!/usr/bin/env bash
 # Two states that used one number twice: `sync` says `done` and leaves them apart; `sync --all` brings both to one set, in which the
 # fork shows. And a `serve` whose state can't be saved: its `sync` is not told `done`, and the state is as it was.
-# Takes some seconds, and never more than half a minute; the connections are on the loopback, on free ports.
-#
-#     all.sh [PROGRAM [WORD ..]]          the program is the one that ../census runs where none is named
-set -Eeuo pipefail
-top=$(cd "$(dirname "${BASH_SOURCE[0]}")/.." && pwd)
-census=("${@:-$("$top/dist/program")}")
-census[0]=$(command -v "${census[0]}") && census[0]=$(realpath -s "${census[0]}")
-"${census[@]}" --help >/dev/null # builds the program, where it was not built
-
-# Each background job has a process group of its own, so that it ends as a whole.
-set -m
-room=$(mktemp -d)
-cd "$room"
-clean() {
-  local job
-  for job in $(jobs -p); do kill -KILL -- "-$job" || true; done 2>/dev/null
-  wait 2>/dev/null || true
-  rm -rf "$room"
-}
-trap clean EXIT
-trap 'echo "all: this failed, at line $LINENO: $BASH_COMMAND" >&2; tail served synced >&2 2>/dev/null' ERR
-trap 'echo "all: it took more than 30 seconds" >&2; exit 1' TERM
-(sleep 30 && kill -TERM $$) &
-
-census() {
-  "${census[@]}" "$@"
-}
-
-# Whether somebody listens on the port.
-listens() {
-  grep -qi ": 0100007F:$(printf %04X "$1") [0-9A-F:]* 0A" /proc/net/tcp
-}
-
-# A port on which nobody listens.
-free_port() {
-  local port
-  for port in {42310..42400}; do
-    if ! listens "$port"; then
-      echo "$port"
-      return
-    fi
-  done
-  return 1
-}
+# The connections are on the loopback, on free ports.
+. "$(dirname "${BASH_SOURCE[0]}")/lib.sh"
 
 # A session of the state that serves with the one that connects, which has more words. What both say is in `served` and `synced`,
 # and what their exit statuses are in $serve and $sync.
 session() {
   local port job
   port=$(free_port)
-  "${census[@]}" serve "$1" "127.0.0.1:$port" >served 2>&1 &
+  "${program[@]}" serve "$1" "127.0.0.1:$port" >served 2>&1 & # it may be refused
   job=$!
-  until listens "$port"; do
-    kill -0 "$job"
-    sleep 0.05
-  done
+  await_port "$port" "$job"
   sync=0 serve=0
   census sync "${@:3}" "$2" "127.0.0.1:$port" >synced 2>&1 || sync=$?
   wait "$job" || serve=$?

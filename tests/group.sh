@@ -2,46 +2,25 @@
 # Six people issue notes, blocks and removals, each on a state of their own, and exchange with one hub while the others do so too;
 # each goes on issuing while the own exchange runs, and notes are issued on the hub's state while it serves. After one last round
 # all seven hold the same: equal catalogues, each operation that a command said it issued, none besides, and no fork.
-# Takes some seconds, and never more than a minute; the connections are on the loopback, on a free port.
-#
-#     group.sh [PROGRAM [WORD ..]]          the program is the one that ../census runs where none is named
-set -Eeuo pipefail
-top=$(cd "$(dirname "${BASH_SOURCE[0]}")/.." && pwd)
-census=("${@:-$("$top/dist/program")}")
-census[0]=$(command -v "${census[0]}") && census[0]=$(realpath -s "${census[0]}")
-"${census[@]}" --help >/dev/null # builds the program, where it was not built
+# The connections are on the loopback, on a free port.
+. "$(dirname "${BASH_SOURCE[0]}")/lib.sh"
 people=(1 2 3 4 5 6)
 turns=10
 sessions=$((${#people[@]} * (turns + 2)))
 
-# Each background job has a process group of its own, so that it ends as a whole.
-set -m
-room=$(mktemp -d)
-cd "$room"
-clean() {
-  local job
-  for job in $(jobs -p); do kill -KILL -- "-$job" || true; done 2>/dev/null
-  wait 2>/dev/null || true
-  rm -rf "$room"
-}
-trap clean EXIT
-trap 'echo "group: this failed, at line $LINENO: $BASH_COMMAND" >&2; cat faults >&2 2>/dev/null' ERR
-trap 'echo "group: it took more than 55 seconds" >&2; exit 1' TERM
-(sleep 55 && kill -TERM $$) &
-
 # Runs a command that issues an operation, and keeps what it says.
 issue() {
-  "${census[@]}" "$@" >>"issued.$2"
+  census "$@" >>"issued.$2"
 }
 
 # Takes back the notes of a name that all use, unless another has done so.
 take_back() {
-  "${census[@]}" unnote "$1" "$2" >>"issued.$1" 2>"refused.$1" || grep -qx 'census: Removal NoNote' "refused.$1"
+  census unnote "$1" "$2" >>"issued.$1" 2>"refused.$1" || grep -qx 'census: Removal NoNote' "refused.$1"
 }
 
 # Exchanges all that is new with the hub.
 exchange() {
-  "${census[@]}" sync "$1" "$address" >"synced.$1" && grep -qx 'done' "synced.$1"
+  census sync "$1" "$address" >"synced.$1" && grep -qx 'done' "synced.$1"
 }
 
 # What one person does: in each turn an exchange, and four or five operations meanwhile.
@@ -64,15 +43,9 @@ host() {
   for ((turn = 1; turn <= 2 * turns; turn++)); do issue note 7 hub "turn $turn"; done
 }
 
-"${census[@]}" init 7 7 >/dev/null
-for who in "${people[@]}"; do "${census[@]}" init "$who" "$who" >/dev/null; done
-"${census[@]}" hub 7 127.0.0.1:0 --peers "$sessions" --patience 20 >served 2>faults &
-hub=$!
-until grep -q '^listening on ' served; do
-  kill -0 "$hub"
-  sleep 0.05
-done
-address=$(sed -n 's/^listening on //p' served)
+census init 7 7 >/dev/null
+for who in "${people[@]}"; do census init "$who" "$who" >/dev/null; done
+start_hub 7 --peers "$sessions" --patience 20
 
 jobs=()
 for who in "${people[@]}"; do
@@ -89,12 +62,12 @@ wait "$hub"
 test ! -s faults
 test "$(grep -cE '^[0-9-]+T[0-9:]+Z peer 127.0.0.1:[0-9]+ new [0-9]+ operations [0-9]+ digest [0-9a-f]{8}($|;)' served)" = "$sessions"
 for who in 7 "${people[@]}"; do
-  "${census[@]}" show "$who" >"catalogue.$who"
+  census show "$who" >"catalogue.$who"
   cmp catalogue.7 "catalogue.$who"
 done
 if grep -E '^fork | refuted | pending' catalogue.7; then exit 1; fi
 all=$(cat issued.* | wc -l)
-test "$("${census[@]}" delta 7 delta)" = "operations $all"
+test "$(census delta 7 delta)" = "operations $all"
 for who in 7 "${people[@]}"; do
   count=$(wc -l <"issued.$who")
   seq -f "issued $who.%.0f" "$count" | diff - <(sort -V "issued.$who")

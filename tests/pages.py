@@ -4,9 +4,7 @@ is drawn with the known values, each number and each status of the pages, that a
 text, and that the name of an author stands behind each of its dots. Also whether each text has contrast enough to what it stands
 on, whether pictures and pages are well-formed XML with no script and nothing from outside, whether each link of the site leads
 somewhere, which folders a site is not written to, and, where there is a Chromium, that no part of a page is wider than the window
-at 360, 400, 768 and 1,280 pixels but those that scroll by themselves. Takes some seconds.
-
-    pages.py [PROGRAM [WORD ..]]          the program is the one that ../census runs where none is named
+at 360, 400, 768 and 1,280 pixels but those that scroll by themselves.
 """
 
 import json
@@ -14,13 +12,10 @@ import os
 import re
 import shutil
 import subprocess
-import sys
-import tempfile
 import xml.etree.ElementTree as xml
 
-HERE = os.path.dirname(os.path.abspath(__file__))
-CENSUS = sys.argv[1:] or [subprocess.check_output([os.path.join(HERE, "..", "dist", "program")], text=True).strip()]
-SECONDS = 60
+import lib
+from lib import done, fail, refused, same
 
 SVG = "{http://www.w3.org/2000/svg}"
 HTML = "{http://www.w3.org/1999/xhtml}"
@@ -28,53 +23,41 @@ NAME = 'Anna "A\\B" <Berg>'
 MARKS = "<script src=\"http://example.org/x.js\">alert('x') && 1 < 2</script>"
 
 
-def census(*words):
-    ran = subprocess.run([*CENSUS, *words], capture_output=True, timeout=SECONDS)
-    if ran.returncode:
-        sys.exit(f"pages: {' '.join(words)} ended with {ran.returncode}: {ran.stderr.decode()}")
-    return ran.stdout.decode()
-
-
-def same(what, found, due):
-    if found != due:
-        sys.exit(f"pages: {what}: {found!r}, and not {due!r}")
-
-
 # ---- the table, and what `show` says of it
 
 
-def note(room, name, author, text):
+def note(name, author, text):
     """The file of one note, in a state of its own."""
-    state = f"{room}/{name}.state"
-    census("init", state, author)
-    census("note", state, "read-me", text)
-    census("delta", state, f"{room}/{name}.delta")
-    return f"{room}/{name}.delta"
+    state = f"{name}.state"
+    done("init", state, author)
+    done("note", state, "read-me", text)
+    done("delta", state, f"{name}.delta")
+    return f"{name}.delta"
 
 
-def claim(room, state, code, start, values):
-    with open(f"{room}/block.json", "w", encoding="utf-8") as file:
+def claim(state, code, start, values):
+    with open("block.json", "w", encoding="utf-8") as file:
         json.dump({"code": code, "start": start, "values": values}, file)
-    census("import", state, f"{room}/block.json")
+    done("import", state, "block.json")
 
 
-def table(room):
+def table():
     """A state with a proved period, a refuted and a pending claim, refuted and pending blocks, marks in a note, and a fork."""
-    state, other = f"{room}/pages.state", f"{room}/other.state"
-    census("init", state, "1")
-    census("extend", state, "3000", "0.77", "0.07")
-    census("compute", state, "0.3", "6")
+    state, other = "pages.state", "other.state"
+    done("init", state, "1")
+    done("extend", state, "3000", "0.77", "0.07")
+    done("compute", state, "0.3", "6")
     for period in (("0.77", "71", "12"), ("0.77", "1", "5"), ("0.07", "2900", "700"), ("0.3", "1", "2")):
-        census("period", state, *period)
-    census("note", state, "marks", MARKS)
-    census("note", state, "author-name", "Anna")
-    census("note", state, "author-name", NAME)
-    census("init", other, "2")
-    claim(room, other, "0.77", 5, [4, 3, 9, 1])
-    claim(room, other, "0.137", 5000, [1, 2])
-    census("delta", other, f"{room}/other.delta")
-    for file in (f"{room}/other.delta", note(room, "first", "3", "one"), note(room, "second", "3", "another")):
-        census("merge", state, file)
+        done("period", state, *period)
+    done("note", state, "marks", MARKS)
+    done("note", state, "author-name", "Anna")
+    done("note", state, "author-name", NAME)
+    done("init", other, "2")
+    claim(other, "0.77", 5, [4, 3, 9, 1])
+    claim(other, "0.137", 5000, [1, 2])
+    done("delta", other, "other.delta")
+    for file in ("other.delta", note("first", "3", "one"), note("second", "3", "another")):
+        done("merge", state, file)
     return state
 
 
@@ -114,18 +97,18 @@ def is_closed(what, root, near=()):
     same(f"{what}: ids that come twice", len(ids), len(set(ids)))
     for element in root.iter():
         if element.tag in (f"{HTML}script", f"{SVG}script", f"{SVG}image", f"{SVG}use"):
-            sys.exit(f"pages: {what} has {element.tag}")
+            fail(f"{what} has {element.tag}")
         for name, value in element.attrib.items():
             if name in ("aria-labelledby", "aria-describedby") and value not in ids:
-                sys.exit(f"pages: {what} refers to {value}")
+                fail(f"{what} refers to {value}")
             if name.endswith("href") or name == "src":
                 file, _, place = value.partition("#")
                 if file and file not in near or place and not file and place not in ids:
-                    sys.exit(f"pages: {what} refers to {value}")
+                    fail(f"{what} refers to {value}")
             if name.startswith("on") or "http" in value or "url(" in re.sub(r"url\(#([\w.-]+)\)", lambda part: "" if part[1] in ids else part[0], value):
-                sys.exit(f"pages: {what} has {name}={value!r}")
+                fail(f"{what} has {name}={value!r}")
         if element.tag.endswith("style") and re.search(r"url|@import|http|expression", element.text or ""):
-            sys.exit(f"pages: {what} has a style from outside")
+            fail(f"{what} has a style from outside")
 
 
 def points(values):
@@ -199,7 +182,7 @@ def is_readable(what, style):
         for text, ground in ((text, ground) for text in texts for ground in grounds):
             low, high = sorted((light(text), light(ground)))
             if (high + 0.05) / (low + 0.05) < 4.5:
-                sys.exit(f"pages: {what} has {text} on {ground}")
+                fail(f"{what} has {text} on {ground}")
         same(f"{what}: colours are there", bool(texts and grounds), True)
 
 
@@ -245,11 +228,11 @@ def is_run(what, root, caption, first, values, period):
         head, cell = row
         same(f"{what}: first heap of a row", int(head.text), heap)
         if heap not in begins:
-            sys.exit(f"pages: {what}: a row begins at {heap}")
+            fail(f"{what}: a row begins at {heap}")
         text = "".join(cell.itertext())
         shaded = "".join("".join(mark.itertext()) for mark in cell)
         if [mark.tag for mark in cell] not in ([], [f"{HTML}mark"]) or shaded and not text.startswith(shaded) or cell.text and shaded:
-            sys.exit(f"pages: {what}: the shade of the row at {heap}")
+            fail(f"{what}: the shade of the row at {heap}")
         places = [text[at:at + wide] for at in range(0, len(text), wide)]
         for at, place in enumerate(places):
             same(f"{what}: heap {heap}", place, str(values[heap - first]).rjust(wide))
@@ -277,7 +260,7 @@ def is_game(what, root, code, game, names, brief):
     """What a page shows of a game below its picture."""
     values, period = game["values"], proved(game)
     if sentence(game) not in [element.text for element in root.iter(HTML + "p")]:
-        sys.exit(f"pages: {what} does not say {sentence(game)}")
+        fail(f"{what} does not say {sentence(game)}")
     shown = front(game) if brief else len(values)
     back = 100 if brief and not period and len(values) > 1100 else 0
     run = (*period, True) if period else (0, 20, False)
@@ -291,7 +274,7 @@ def is_game(what, root, code, game, names, brief):
     same(f"{code}: claims", rows(root, "Period claims"), claims)
     same(f"{code}: refuted claims", rows(root, "Refuted period claims"), [claim for claim in claims if claim[3].startswith("refuted")])
     if root.find(f".//*[@id='refuted-{code}']") is None:
-        sys.exit(f"pages: {what} has no place of what is refuted")
+        fail(f"{what} has no place of what is refuted")
 
 
 def is_landmarked(what, root):
@@ -300,7 +283,7 @@ def is_landmarked(what, root):
         same(f"{what}: {tag}", len(list(root.iter(HTML + tag))), 1)
     for head in root.iter(HTML + "th"):
         if head.get("scope") not in ("row", "col"):
-            sys.exit(f"pages: {what} has a head without a scope")
+            fail(f"{what} has a head without a scope")
 
 
 def is_index(what, root, games, notes, forks, authors, names):
@@ -317,7 +300,7 @@ def is_index(what, root, games, notes, forks, authors, names):
     known = sum(len(game["values"]) for game in games.values())
     totals = f"{len(games)} games, {len(by_period)} with a proved period; {known} values known."
     if totals not in [element.text for element in root.iter(HTML + "p")]:
-        sys.exit(f"pages: {what} does not say {totals}")
+        fail(f"{what} does not say {totals}")
     same(f"{what}: notes", rows(root, "Notes"), [(name, called(dot, names), text) for name, dot, text in notes])
     same(f"{what}: forks", rows(root, "Forks"), [(called(dot, names), contents) for dot, contents in forks])
     same(f"{what}: authors", rows(root, "Authors"), [(author, names.get(author, ""), *rest) for author, *rest in authors])
@@ -349,7 +332,7 @@ def is_site(folder, state, games, notes, forks, authors, names):
     due = {"census-site", "index.html", "style.css"} | {code + end for code in games for end in (".html", ".svg", ".txt", ".json")}
     same("files of the site", set(files), due)
     if re.search(r"url|@import|http|expression", files["style.css"]):
-        sys.exit("pages: the style sheet has a style from outside")
+        fail("the style sheet has a style from outside")
     is_readable("the style sheet", files["style.css"])
     for code in games:
         is_readable(f"the picture of {code}", xml.fromstring(files[f"{code}.svg"]).find(SVG + "style").text)
@@ -359,52 +342,52 @@ def is_site(folder, state, games, notes, forks, authors, names):
             is_closed(name, root, due)
             is_landmarked(name, root)
     is_index("the index", xml.fromstring(files["index.html"]), games, notes, forks, authors, names)
-    whole = json.loads(census("json", state))
+    whole = json.loads(done("json", state))
     for code, game in games.items():
         root = xml.fromstring(files[f"{code}.html"])
         same(f"{code}: heading", root.find(f".//{HTML}h1").text, code)
         (image,) = root.iter(HTML + "img")
         same(f"{code}: words for the picture", image.get("alt"), f"{title(code, game)}. {sentence(game)}")
         is_game(f"the page of {code}", root, code, game, names, True)
-        same(f"{code}: picture", files[f"{code}.svg"], census("plot", state, code))
-        same(f"{code}: b-file", files[f"{code}.txt"], census("bfile", state, code))
+        same(f"{code}: picture", files[f"{code}.svg"], done("plot", state, code))
+        same(f"{code}: b-file", files[f"{code}.txt"], done("bfile", state, code))
         same(f"{code}: JSON", json.loads(files[f"{code}.json"]), next(row for row in whole["games"] if row["code"] == code))
     for element in xml.fromstring(files["index.html"]).iter(HTML + "a"):
         file, _, place = element.get("href").partition("#")
         if file and place and f'id="{place}"' not in files[file]:
-            sys.exit(f"pages: {element.get('href')} leads nowhere")
+            fail(f"{element.get('href')} leads nowhere")
 
 
-def refused(folder, state, fault):
+def is_refused(folder, state, fault):
+    """A folder that is not written to, and stays as it is."""
     before = sorted(os.listdir(folder)) if os.path.isdir(folder) else None
-    ran = subprocess.run([*CENSUS, "site", state, folder], capture_output=True, timeout=SECONDS)
-    same(f"{folder} is refused", ran.stderr.decode(), f"census: {fault}\n")
+    refused(1 if fault == "Load Version" else 3, fault, "site", state, folder)
     same(f"{folder} stays", sorted(os.listdir(folder)) if os.path.isdir(folder) else None, before)
 
 
-def sites(room, state, told):
+def sites(state, told):
     """A site that is made, made again, replaced by a smaller one, and folders that are not written to."""
-    folder = f"{room}/site"
-    census("site", state, folder)
+    folder = "site"
+    done("site", state, folder)
     is_site(folder, state, *told)
     first = files_in(folder)
-    census("site", state, folder)
+    done("site", state, folder)
     same("the site a second time", files_in(folder), first)
-    census("site", f"{room}/other.state", folder)
-    is_site(folder, f"{room}/other.state", *catalogue(census("show", f"{room}/other.state")), {})
+    done("site", "other.state", folder)
+    is_site(folder, "other.state", *catalogue(done("show", "other.state")), {})
     with open(f"{folder}/thesis.txt", "w", encoding="utf-8") as file:
         file.write("mine")
-    refused(folder, state, "Occupied")
-    os.mkdir(f"{room}/mine")
-    with open(f"{room}/mine/index.html", "w", encoding="utf-8") as file:
+    is_refused(folder, state, "Occupied")
+    os.mkdir("mine")
+    with open("mine/index.html", "w", encoding="utf-8") as file:
         file.write("mine")
-    refused(f"{room}/mine", state, "Occupied")
-    refused(state, state, "Occupied")
-    refused(f"{room}/none", f"{room}/block.json", "Load Version")
-    os.mkdir(f"{room}/empty")
-    census("site", state, f"{room}/empty")
-    same("a site in an empty folder", files_in(f"{room}/empty"), first)
-    return f"{room}/empty"
+    is_refused("mine", state, "Occupied")
+    is_refused(state, state, "Occupied")
+    is_refused("none", "block.json", "Load Version")
+    os.mkdir("empty")
+    done("site", state, "empty")
+    same("a site in an empty folder", files_in("empty"), first)
+    return "empty"
 
 
 # ---- a browser
@@ -454,13 +437,13 @@ def looks(folder, pages):
             file.write(f"<pre id='told'></pre><script>onmessage = m => told.append(m.data + '\\n');</script>{frames}")
         ran = subprocess.run(
             [browser, "--headless", "--no-sandbox", "--disable-gpu", "--hide-scrollbars", "--allow-file-access-from-files",
-             "--virtual-time-budget=5000", "--window-size=1600,4000", "--dump-dom", f"file://{folder}/frames.html"], capture_output=True, timeout=SECONDS)
+             "--virtual-time-budget=5000", "--window-size=1600,4000", "--dump-dom", f"file://{os.path.abspath(folder)}/frames.html"], capture_output=True, timeout=60, check=False)
         told = re.search(r"<pre id=\"told\">(.*?)</pre>", ran.stdout.decode(), re.S)
         lines = sorted(told[1].split("\n")) if told else []
         same(f"{page}: windows that were seen", len([line for line in lines if line]), 4)
         for line in lines:
             if line and not line.endswith(":"):
-                sys.exit(f"pages: {page} in a browser: {line}")
+                fail(f"{page} in a browser: {line}")
         os.remove(f"{folder}/seen-{page}")
         os.remove(f"{folder}/frames.html")
     return True
@@ -471,8 +454,8 @@ def looks(folder, pages):
 
 def is_told(state, games, names):
     """The lines of what is refuted, as words and as objects, with the names of authors."""
-    lines = census("games", state, "--refuted").splitlines()
-    objects = [json.loads(line) for line in census("games", state, "--refuted", "--json").splitlines()]
+    lines = done("games", state, "--refuted").splitlines()
+    objects = [json.loads(line) for line in done("games", state, "--refuted", "--json").splitlines()]
     due = []
     for code, game in games.items():
         for kind, rows_of in (("block", game["blocks"]), ("period", game["periods"])):
@@ -518,29 +501,34 @@ def is_json(text, games, notes, forks, authors, names):
     same("names in JSON", {str(row["author"]): row["name"] for row in found["authors"] if "name" in row}, names)
 
 
+def is_listed(games):
+    """The b-file and the plot of each game."""
+    for code, game in games.items():
+        lines = [f"{heap} {value}\n" for heap, value in enumerate(game["values"])]
+        same(f"b-file of {code}", done("bfile", "pages.state", code), "".join(lines))
+        root = xml.fromstring(done("plot", "pages.state", code))
+        is_closed(f"the plot of {code}", root)
+        is_plot(f"the plot of {code}", root, code, game)
+
+
 def main():
-    with tempfile.TemporaryDirectory() as room:
-        state = table(room)
-        games, *others = catalogue(census("show", state))
-        names = {"1": NAME}
-        same("texts of notes", [text for name, _, text in others[0] if name == "marks"], [MARKS])
-        games_and_one = {**games, "0.6": {"values": [0], "blocks": [], "periods": []}}
-        for code, game in games_and_one.items():
-            lines = [f"{heap} {value}\n" for heap, value in enumerate(game["values"])]
-            same(f"b-file of {code}", census("bfile", state, code), "".join(lines))
-            root = xml.fromstring(census("plot", state, code))
-            is_closed(f"the plot of {code}", root)
-            is_plot(f"the plot of {code}", root, code, game)
-        is_page(census("report", state), games, *others, names, True)
-        is_page(census("report", state, "--values", "all"), games, *others, names, False)
-        is_json(census("json", state), games, *others, names)
-        same("what is refuted", is_told(state, games, names), 2)
-        folder = sites(room, state, (games, *others, names))
-        with open(f"{folder}/report.html", "w", encoding="utf-8") as file:
-            file.write(census("report", state))
-        seen = looks(folder, ["index.html", *(f"{code}.html" for code in games), "report.html"])
+    state = table()
+    games, *others = catalogue(done("show", state))
+    names = {"1": NAME}
+    same("texts of notes", [text for name, _, text in others[0] if name == "marks"], [MARKS])
+    games_and_one = {**games, "0.6": {"values": [0], "blocks": [], "periods": []}}
+    is_listed(games_and_one)
+    is_page(done("report", state), games, *others, names, True)
+    is_page(done("report", state, "--values", "all"), games, *others, names, False)
+    is_json(done("json", state), games, *others, names)
+    same("what is refuted", is_told(state, games, names), 2)
+    folder = sites(state, (games, *others, names))
+    with open(f"{folder}/report.html", "w", encoding="utf-8") as file:
+        file.write(done("report", state))
+    seen = looks(folder, ["index.html", *(f"{code}.html" for code in games), "report.html"])
     print(f"{len(games_and_one)} b-files and plots, two pages, a site and JSON, and each says what the catalogue says")
     print("a browser shows them at four widths" if seen else "no Chromium is here: how wide the pages are was left out")
 
 
-main()
+with lib.folder():
+    main()

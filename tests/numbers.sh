@@ -1,32 +1,7 @@
 #!/usr/bin/env bash
 # Numbers of authors, and digests: two states whose numbers are drawn; one that is put back from a copy, and goes on under another
 # number; digests that are the same where the operations are, whoever the authors are; and numbers that are refused.
-# Takes some seconds.
-#
-#     numbers.sh [PROGRAM [WORD ..]]      the program is the one that ../census runs where none is named
-set -Eeuo pipefail
-top=$(cd "$(dirname "${BASH_SOURCE[0]}")/.." && pwd)
-census=("${@:-$("$top/dist/program")}")
-census[0]=$(command -v "${census[0]}") && census[0]=$(realpath -s "${census[0]}")
-"${census[@]}" --help >/dev/null # builds the program, where it was not built
-
-room=$(mktemp -d)
-cd "$room"
-trap 'rm -rf "$room"' EXIT
-trap 'echo "numbers: this failed, at line $LINENO: $BASH_COMMAND" >&2' ERR
-
-census() {
-  "${census[@]}" "$@"
-}
-
-# The command is refused with this status and this line.
-refused() {
-  local status=0
-  census "${@:3}" >output 2>fault || status=$?
-  test "$status" = "$1"
-  test "$(cat fault)" = "census: $2"
-  test ! -s output
-}
+. "$(dirname "${BASH_SOURCE[0]}")/lib.sh"
 
 # The digits of a file's digest.
 digits() {

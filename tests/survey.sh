@@ -1,0 +1,53 @@
+#!/usr/bin/env bash
+# Surveys games with the program, and says whether the periods are those of the literature (Guy and Smith 1956; Winning Ways,
+# chapter 4; Flammenkamp's tables), that nothing is issued twice, and that a fault changes nothing.
+. "$(dirname "${BASH_SOURCE[0]}")/lib.sh"
+
+# The words print this text.
+prints() {
+  census "${@:2}" 2>&1 | diff <(echo "$1") -
+}
+
+# The words are refused, and leave the state as it is.
+changes_nothing() {
+  cp state before
+  refused "$@"
+  cmp state before
+}
+
+prints 'author 7' init state 7
+
+prints '0.77 period 12 from 71 needs 168 known 17000
+0.07 period 34 from 53 needs 176 known 17000
+0.137 period 34 from 52 needs 175 known 17000
+0.156 period 349 from 3479 needs 7659 known 17000
+0.055 period 148 from 259 needs 817 known 17000
+0.356 period 142 from 7315 needs 14917 known 17000
+0.644 period 442 from 3256 needs 7399 known 17000
+0.165 period 1550 from 5181 needs 13465 known 17000' \
+  survey state 17000 0.77 0.07 0.137 0.156 0.055 0.356 0.644 0.165
+
+# Nothing is issued twice, and what is found was claimed.
+prints '0.77 known 17000 issued 0
+0.6 known 1100 issued 2
+0.6 known 1100 issued 0' extend state 1100 0.77 0.6 .60
+prints '0.6 no period in 1100 values
+0.77 period 12 from 71 needs 168 known 17000' find state 0.6 0.77
+prints '{"code":"0.6","period":null,"known":1100}
+{"code":"0.77","period":12,"from":71,"needs":168,"known":17000}' find state 0.6 0.77 --json
+cp state before
+prints '0.77 period 12 from 71 needs 168 known 17000' survey state 17000 0.77
+prints '{"code":"0.77","period":12,"from":71,"needs":168,"known":17000}' survey state 17000 0.77 --json
+cmp state before
+
+# A fault changes nothing.
+changes_nothing 1 'Code Digit' extend state 1200 0.6 0.8
+changes_nothing 1 'Code Head' survey state 1200 0.6 5.7 0.8
+changes_nothing 1 'Code Digit' find state 0.6 0.8
+for count in 0 65537 x; do
+  changes_nothing 2 Number extend state "$count" 0.6
+  changes_nothing 2 Number survey state "$count" 0.6
+done
+refused 2 Number extend none 0 0.8
+test ! -e none
+echo 'survey: each line and each refusal is as it should be'
