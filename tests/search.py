@@ -1,14 +1,12 @@
 #!/usr/bin/env python3
-"""Searches for periods far beyond 65,536 heaps. The periods of published tables are found, each with its least heap
-and by as many values as prove it; with `--window`, which keeps few values, the same ones are found. The values that
-`--at` gives at great heaps are those that the rule of the period gives from the values that `--bfile` lists. The first
-values of sixty games are those that the rule of the games gives in this script, and 20,000 of each have the checksums
-of values/checksums.txt. For all three-digit games of Winning Ways, chapter 4, the same periods are found as a survey
-finds.
+"""Searches for periods far beyond 65,536 heaps. The periods of published tables are found, each with its least heap and by as many
+values as prove it; with `--window`, which keeps few values, the same ones are found. The values that `--at` gives at great heaps
+are those that the rule of the period gives from the values that `--bfile` lists. The first values of sixty games are those that the
+rule of the games gives, and 20,000 of each have the checksums of values/checksums.txt. For all three-digit games of Winning Ways,
+chapter 4, the same periods are found as a survey finds.
 
-With --long all of this, which takes two minutes and more: the period of 0.354 begins past ten million heaps, and all options of
-20,000 heaps are walked for each of sixty games. Else the two periods past two million heaps are left out, every third of the sixty
-games is looked at, and every fourth of the three-digit games.
+With --long all of this, which takes two minutes and more, most of it for the two periods that begin past two and past ten million
+heaps. Else these two are left out, and every third of the sixty games and every fourth of the three-digit games is looked at.
 """
 
 import json

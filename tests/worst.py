@@ -2,8 +2,8 @@
 """Hands the program inputs made to be slow or large, and says whether each answer is right and comes within the processor time
 and the memory that stand beside it.
 
-With --long they are as large as they can be. This takes twenty seconds and more, since inputs of up to a gigabyte are
-read. Else they are a tenth of that, within a tenth of the time, and of the greatest files there is only the one that is too long.
+With --long they are as large as they can be. This takes twenty seconds and more, since inputs of up to a gigabyte are read. Else
+they are a tenth of that, within a tenth of the time, and of the greatest files there is only the one that is too long.
 """
 
 import os
