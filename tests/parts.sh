@@ -1,8 +1,9 @@
 # What tests/run and .ci/run share: the list of the tests, and how parts are run one after another.
 
-# The tests that run the program, a line each. The last three have a short form, and a long one, which they take where the word
-# here is --long.
+# The tests that need no kit, a line each: two of what the documents name, and those that run the program. The last three have a
+# short form, and a long one, which they take where the word here is --long.
 tests_of() {
+  printf '%s\n' 'tests/contracts.py --check' tests/cited.py
   printf '%s\n' tests/{session,survey,at_once,group,hub,all,numbers,manual,released,git}.sh
   printf '%s\n' tests/{saved,files,faults,verdicts,crowd,hostile,resumed,moves,pages,bfiles,stopped}.py
   printf '%s\n' tests/{crash,worst,search}.py"${1:+ $1}"
