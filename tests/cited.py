@@ -45,10 +45,11 @@ def clauses_by_name(names):
             known[front + name] = set()
             for method_name, method in crate.methods(module, declared):
                 known[f"{front}{name}::{method_name}"] = {clause for _, clause in method.clauses}
-        for path in exported.passed_on:
+        for path, shown in exported.passed_on:
+            known[front + shown] = set()
             passed_on = {name: clauses for name, clauses in known.items() if f"{name}::".startswith(f"{path}::")}
             for name, clauses in passed_on.items():
-                known[front + path.split("::")[-1] + name[len(path) :]] = clauses
+                known[front + shown + name[len(path) :]] = clauses
         for name, further in exported.modules:
             known[front + name] = set()
             add(crate, f"{front}{name}::", further)

@@ -295,7 +295,8 @@ def parted(text):
 
 @dataclass
 class Exported:
-    """What a crate exports: functions, each under its name; types, each under its name, with its module; modules; what is of others."""
+    """What a crate exports: functions, each under its name; types, each under its name, with its module; modules; what is of others,
+    by its path there, with its name here."""
 
     functions: list = field(default_factory=list)
     types: list = field(default_factory=list)
@@ -341,7 +342,7 @@ class Crate:
         """Adds what a path leads to: something of a module, which may have it from another one, or of another crate."""
         module, name = self.module_of(path), path[-1]
         if module is None:
-            found.passed_on.append("::".join(path))
+            found.passed_on.append(("::".join(path), shown))
             return
         source = self.sources[module]
         functions = [function for function in source.functions if function.name == name]
@@ -466,6 +467,11 @@ def in_words(names):
     return ", ".join(f"`{name}`" for name in names)
 
 
+def passed_on(path, shown):
+    """What is of another crate, and the name that it has here where that is another one."""
+    return f"`{path}`" if shown == last_name(path) else f"`{path}` as `{shown}`"
+
+
 def section(crate, exported):
     """The part of a crate: what stands under its own name, and then its modules."""
     lines = [f"## {crate.name}", "", wrapped(first_sentence(crate.root.head())), ""]
@@ -495,7 +501,7 @@ def exports(crate, exported, said):
     if alone:
         lines += [wrapped(f"Beside these: {in_words(alone)}."), ""]
     if exported.passed_on:
-        lines += [wrapped(f"Passed on: {in_words(exported.passed_on)}."), ""]
+        lines += [wrapped(f"Passed on: {', '.join(passed_on(path, shown) for path, shown in exported.passed_on)}."), ""]
     return lines
 
 
