@@ -20,7 +20,7 @@ use Rattle.oct_ops.specs.Valid.{IsOp}
 use Rattle.oct_record.specs.Valid.{AreValid}
 use Rattle.oct_record.specs.declared.error.TakeError.{TakeError}
 use Rattle.oct_record.specs.declared.error.TakeError.TheVariants.{Version, Refused, OutOfMemory}
-use Rattle.oct_replica.proofs.Members.{Has-empty, Has-listed, In, In-listed, all_in}
+use Rattle.oct_ops.proofs.Members.{Has-empty, Has-listed, In, In-listed, all_in}
 use Rattle.census_core.specs.Asking.{delta_of}
 use Rattle.census_core.specs.States.{delta_refusal}
 use Rattle.census_core.specs.Steps.{◌>>=◌, unless}

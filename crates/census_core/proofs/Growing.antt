@@ -20,11 +20,11 @@ use Rattle.oct_ops.specs.declared.limits.TheConstants.{MAX_ITEMS}
 use Rattle.oct_pages.specs.Catalogue.{block_in, blocks_of, if_some, under}
 use Rattle.oct_pages.proofs.Members.{any-listed, any-map}
 use Rattle.oct_replica.specs.Beside.{content_in}
-use Rattle.oct_replica.specs.Computing.{next_block}
+use Rattle.oct_period.specs.Computing.{next_block}
 use Rattle.oct_record.specs.Content.{RecordContent}
 use Rattle.oct_record.specs.Taking.{has_number, next_op}
 use Rattle.oct_record.specs.declared.error.IssueError.TheVariants as issue
-use Rattle.oct_replica.proofs.Members.{any-In, any_source, Has-listed, In-listed, insert-keeps}
+use Rattle.oct_ops.proofs.Members.{any-In, any_source, Has-listed, In-listed, insert-keeps}
 use Rattle.oct_replica.proofs.Settled.{In-filter_map, In-filter_map_source}
 use Rattle.oct_verify.specs.Filing.{Filing, blocks_in}
 use Rattle.oct_verify.specs.FilingLaws.{filing_cmp_total, filing_cmp_exact}

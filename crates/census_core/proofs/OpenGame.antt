@@ -19,7 +19,7 @@ use Rattle.oct_period.specs.GameContent.{GameContent, ledger_of, with_body as wi
 use Rattle.oct_record.specs.Content.{RecordContent}
 use Rattle.oct_record.specs.Taking.{has_number, next_op}
 use Rattle.oct_record.specs.declared.error.IssueError.TheVariants.{LastNumber}
-use Rattle.oct_replica.specs.Computing.{next_block}
+use Rattle.oct_period.specs.Computing.{next_block}
 use Rattle.oct_replica.proofs.Beside.{content-insert}
 use Rattle.oct_replica.proofs.Inserting.{insert_option}
 use Rattle.oct_verify.specs.Filing.{blocks_in}

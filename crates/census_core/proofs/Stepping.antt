@@ -9,8 +9,8 @@ use Rattle.oct_ops.specs.Operation.{Dot, removing}
 use Rattle.oct_ops.specs.Operations.{insert, listed}
 use Rattle.oct_ops.specs.declared.error.NoteError.{NoteError}
 use Rattle.oct_ops.specs.declared.error.NoteError.TheVariants as note
-use Rattle.oct_replica.specs.declared.error.ComputeError.{ComputeError}
-use Rattle.oct_replica.specs.declared.error.ComputeError.TheVariants as compute
+use Rattle.oct_period.specs.declared.computing.ComputeError.{ComputeError}
+use Rattle.oct_period.specs.declared.computing.ComputeError.TheVariants as compute
 use Rattle.oct_record.specs.Removals.{RefusesRemoval}
 use Rattle.oct_record.specs.Content.{RecordContent}
 use Rattle.oct_record.specs.Taking.{issue_error}

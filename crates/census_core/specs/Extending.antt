@@ -9,7 +9,7 @@ use Rattle.oct_ops.specs.Operations.{Operations}
 use Rattle.oct_ops.specs.declared.limits.TheConstants.{MAX_ITEMS}
 use Rattle.oct_pages.specs.Catalogue.{Text, labelled}
 use Rattle.oct_replica.specs.Beside.{content_in}
-use Rattle.oct_replica.specs.Computing.{next_block}
+use Rattle.oct_period.specs.Computing.{next_block}
 use Rattle.oct_record.specs.Content.{RecordContent}
 use Rattle.oct_verify.specs.Filing.{blocks_in}
 use Rattle.oct_verify.specs.Known.{known}

@@ -7,8 +7,8 @@ use Rattle.oct_ops.specs.declared.error.NoteError.TheVariants as note
 use Rattle.oct_ops.specs.declared.error.PeriodError.{PeriodError}
 use Rattle.oct_ops.specs.declared.error.PeriodError.TheVariants as period
 use Rattle.oct_pages.specs.Catalogue.{Text, labelled}
-use Rattle.oct_replica.specs.declared.error.ComputeError.{ComputeError}
-use Rattle.oct_replica.specs.declared.error.ComputeError.TheVariants as compute
+use Rattle.oct_period.specs.declared.computing.ComputeError.{ComputeError}
+use Rattle.oct_period.specs.declared.computing.ComputeError.TheVariants as compute
 use Rattle.oct_record.specs.declared.error.IssueError.{IssueError}
 use Rattle.oct_record.specs.declared.error.IssueError.TheVariants as issue
 use Rattle.oct_record.specs.declared.error.LoadError.{LoadError}

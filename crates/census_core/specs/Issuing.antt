@@ -10,7 +10,7 @@ use Rattle.oct_ops.specs.Faults.{note_fault, period_fault}
 use Rattle.oct_ops.specs.Operation.{Block, Period, Note, Removal, noted, removing, repeating}
 use Rattle.oct_ops.specs.Operations.{insert, listed}
 use Rattle.oct_replica.specs.Beside.{content_in}
-use Rattle.oct_replica.specs.Computing.{compute_fault, next_block}
+use Rattle.oct_period.specs.Computing.{compute_fault, next_block}
 use Rattle.oct_record.specs.Removals.{removal_fault}
 use Rattle.oct_record.specs.Content.{RecordContent}
 use Rattle.oct_record.specs.Taking.{has_number, next_op}

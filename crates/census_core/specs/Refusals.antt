@@ -3,8 +3,8 @@ use Rattle.oct_delta.specs.declared.error.EncodeError.{EncodeError}
 use Rattle.oct_delta.specs.declared.error.EncodeError.TheVariants as encode
 use Rattle.oct_ops.specs.declared.error.NoteError.{NoteError}
 use Rattle.oct_ops.specs.declared.error.NoteError.TheVariants as note
-use Rattle.oct_replica.specs.declared.error.ComputeError.{ComputeError}
-use Rattle.oct_replica.specs.declared.error.ComputeError.TheVariants as compute
+use Rattle.oct_period.specs.declared.computing.ComputeError.{ComputeError}
+use Rattle.oct_period.specs.declared.computing.ComputeError.TheVariants as compute
 use Rattle.oct_record.specs.declared.error.IssueError.{IssueError}
 use Rattle.oct_record.specs.declared.error.IssueError.TheVariants as issue
 use Rattle.oct_record.specs.declared.error.LoadError.{LoadError}

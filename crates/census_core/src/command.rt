@@ -56,11 +56,7 @@ pub fn perform_watched<P: Progress>(
         Request::Survey { count, codes, form } => {
             give_turns(alloc, state, *count, codes, Aim::Survey(*form), progress)
         }
-        Request::Period {
-            code,
-            start,
-            period,
-        } => crate::issuing::period(alloc, state, code, *start, *period),
+        Request::Period { code, e, p } => crate::issuing::period(alloc, state, code, *e, *p),
         Request::Note { name, text } => note(alloc, state, name, text),
         Request::Unnote { name } => unnote(alloc, state, name),
         Request::Merge => merge(alloc, state, file),

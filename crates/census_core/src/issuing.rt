@@ -14,8 +14,8 @@ use crate::states::{load, save};
 use crate::texts::issued_line;
 use oct_ops::{Block, Body, Note, Period};
 use oct_pages::game_of;
+use oct_period::next_block;
 use oct_record::Record;
-use oct_replica::next_block;
 use serde_json::Value;
 use std::alloc::Global;
 

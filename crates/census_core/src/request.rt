@@ -42,11 +42,11 @@ pub enum Request {
         codes: Vec<Vec<u8>>,
         form: Form,
     },
-    /// Issues the claim that a code's nim-values repeat from a heap on.
+    /// Issues the claim that a code's nim-values repeat from the heap `e` on, with the period `p`.
     Period {
         code: Vec<u8>,
-        start: u32,
-        period: u32,
+        e: u32,
+        p: u32,
     },
     /// Issues a note.
     Note {

@@ -13,7 +13,7 @@ use crate::asking::delta_reply;
 use crate::fault::Fault;
 use crate::reply::Reply;
 use oct_delta::laws::texts_are_read;
-use oct_delta::{DeltaError, read_ops};
+use oct_delta::{DeltaFault, read_ops};
 use oct_record::{Record, TakeError};
 use std::alloc::{AllocError, Allocator, Global};
 
@@ -57,9 +57,8 @@ fn check_file(file: &[u8]) -> Result<(), TakeError>
 {
     match read_ops(file) {
         Ok(_) => Ok(()),
-        Err(DeltaError::Version) => Err(TakeError::Version),
-        Err(DeltaError::Refused) => Err(TakeError::Refused),
-        Err(DeltaError::Failed | DeltaError::OutOfMemory) => unreachable!(),
+        Err(DeltaFault::Version) => Err(TakeError::Version),
+        Err(DeltaFault::Refused) => Err(TakeError::Refused),
     }
 }
 

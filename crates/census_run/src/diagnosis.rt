@@ -105,11 +105,7 @@ fn of_words(alloc: Global, fault: Fault, request: &Request) -> Failure {
         | Request::Find { codes, .. }
         | Request::Survey { codes, .. } => of_codes(alloc, fault, codes),
         Request::Compute { code, count } => of_compute(alloc, fault, code, *count),
-        Request::Period {
-            code,
-            start,
-            period,
-        } => of_period(alloc, fault, code, *start, *period),
+        Request::Period { code, e, p } => of_period(alloc, fault, code, *e, *p),
         Request::Note { name, text } => of_note(alloc, fault, name, text),
         Request::Unnote { name } => of_name(alloc, fault, name),
         Request::Page { number } => of_page(alloc, fault, *number),

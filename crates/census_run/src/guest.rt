@@ -6,7 +6,7 @@ use crate::kept::{Kept, Settled};
 use census_core::Fault;
 use mio::net::TcpStream;
 use mio::{Interest, Registry, Token};
-use oct_sync::{Session, Stage, SyncError};
+use oct_sync::{Progress, Session, SyncError};
 use std::alloc::{AllocError, Global};
 use std::fs::File;
 use std::io::{self, ErrorKind, Read, Write};
@@ -197,7 +197,7 @@ impl Guest {
         if kept.said.len() != before {
             self.has_brought = true;
         }
-        if let Stage::Done = fed? {
+        if let Progress::Done = fed? {
             self.settled = Some(kept.settle(rt, state)?);
         }
         Ok(())

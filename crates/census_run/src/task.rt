@@ -407,8 +407,8 @@ fn survey(alloc: Global, found: &ArgMatches<'_>) -> Result<Request, Failure> {
 
 fn period(alloc: Global, found: &ArgMatches<'_>) -> Result<Request, Failure> {
     Ok(Request::Period {
-        start: number_of(alloc, found, words::E, HEAPS)?,
-        period: number_of(alloc, found, words::P, HEAPS)?,
+        e: number_of(alloc, found, words::E, HEAPS)?,
+        p: number_of(alloc, found, words::P, HEAPS)?,
         code: bytes(alloc, found, words::CODE)?,
     })
 }

@@ -34,7 +34,7 @@ fn status_of<A: Allocator + Copy>(
     requires { block.code ≡ game.old.code }
 {
     let again = block.copy(alloc).ok()?;
-    match game.insert_block(dot, block) {
+    match game.add_block(dot, block) {
         Ok(()) => Some(game.block_status(&dot, &again)),
         Err(_) => None,
     }
@@ -49,7 +49,7 @@ fn claim_status<A: Allocator + Copy>(
     length: u32,
 ) -> Option<PeriodStatus> {
     let period = Period::new(game.code(), start, length).expect(rt, "a claim");
-    match game.insert_period(dot, period) {
+    match game.add_period(dot, period) {
         Ok(()) => Some(period_status(game.ledger(), &period)),
         Err(_) => None,
     }

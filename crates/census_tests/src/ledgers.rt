@@ -346,7 +346,7 @@ fn status<A: Allocator + Copy>(
     let dot = dot(rt, 1, row.number);
     let block = block(alloc, ledger.code(), row.start, row.values)?;
     let again = block.copy(alloc).ok()?;
-    match ledger.insert(dot, block) {
+    match ledger.add(dot, block) {
         Ok(()) => Some(ledger.status(&dot, &again)),
         Err(_) => None,
     }

@@ -28,6 +28,8 @@ mod search;
 #[cfg(test)]
 mod stores;
 #[cfg(test)]
+mod surface;
+#[cfg(test)]
 mod values;
 #[cfg(test)]
 mod vectors;

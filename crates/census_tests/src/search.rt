@@ -58,7 +58,7 @@ fn are_found<A: Allocator + Copy>(rt: &impl Abort, game: &Game<A>) {
 fn outcomes_are_those_of_a_plain_search(rt: HostRuntime) {
     let mut game = Game::new(rt.alloc(), code(&rt, "0.77"));
     let block = block(rt.alloc(), game.code(), 0, &[0, 1, 2, 3, 1]).expect(&rt, "a block");
-    let added = game.insert_block(dot(&rt, 1, 1), block);
+    let added = game.add_block(dot(&rt, 1, 1), block);
     assert!(rt; added.is_ok());
     are_found(&rt, &game);
 }

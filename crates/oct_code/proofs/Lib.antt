@@ -1,5 +1,6 @@
 pub mod Accepted
 pub mod CodeLaws
+pub mod Members
 mod Parsed
 mod Reading
 mod Spelled

@@ -21,3 +21,7 @@ mod text;
 pub use code::Code;
 pub use error::{CodeError, DigitsError};
 pub use limits::{LIMIT, MAX_DIGITS, OLD_LIMIT};
+
+/// The refusal of a call that can want nothing but memory: std's own error, under the name that it has as a case of other
+/// errors.
+pub use std::alloc::AllocError as OutOfMemory;

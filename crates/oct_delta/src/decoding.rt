@@ -5,7 +5,7 @@ ghost use Rattle.oct_ops.specs.Body.{Operation};
 ghost use Rattle.oct_delta.specs.Delta.{IsDeltaText};
 ghost use Rattle.oct_delta.specs.Decoding.{format_at, read_delta};
 
-use crate::error::DeltaError;
+use crate::error::{DeltaError, DeltaFault};
 use crate::text_ops::{made, read_ops};
 use oct_ops::OpList;
 use std::alloc::Allocator;
@@ -26,7 +26,8 @@ pub fn decode<A: Allocator + Copy>(alloc: A, bytes: &[u8]) -> Result<OpList<A>, 
 {
     let left = match read_ops(bytes) {
         Ok(left) => left,
-        Err(refused) => return Err(refused),
+        Err(DeltaFault::Version) => return Err(DeltaError::Version),
+        Err(DeltaFault::Refused) => return Err(DeltaError::Refused),
     };
     let Ok(ops) = made(alloc, left) else {
         return Err(DeltaError::OutOfMemory);

@@ -4,7 +4,16 @@ ghost use Rattle.std.specs.Prelude.{◌≡◌};
 
 use std::alloc::AllocError;
 
-/// Why bytes are no delta.
+/// What is wrong with bytes that are no delta.
+#[derive(Clone, Copy, PartialEq, Eq)]
+pub enum DeltaFault {
+    /// The first four bytes are no tag of a delta, or are missing.
+    Version,
+    /// The bytes begin with a tag, and are no text of a list.
+    Refused,
+}
+
+/// Why no list of operations was read.
 #[derive(Clone, Copy, PartialEq, Eq)]
 pub enum DeltaError {
     /// The first four bytes are no tag of a delta, or are missing.

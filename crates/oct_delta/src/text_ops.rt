@@ -6,7 +6,7 @@ ghost use Rattle.oct_delta.specs.Delta.{IsDeltaText, IsList};
 ghost use Rattle.oct_delta.specs.Decoding.{format_at, read_delta};
 
 use crate::checking::check_list;
-use crate::error::DeltaError;
+use crate::error::DeltaFault;
 use crate::fault::ReadError;
 use crate::format::split_tag;
 use crate::input::Input;
@@ -86,22 +86,20 @@ impl<'a> TextOps<'a> {
 /// The operations that the bytes spell, in either format, to be made one by one. The bytes are checked as a whole, and nothing
 /// grows. The answer is `Version` exactly where the first four bytes are no tag, and `Refused` for any other bytes that are no
 /// delta.
-pub fn read_ops(bytes: &[u8]) -> Result<TextOps<'_>, DeltaError>
+pub fn read_ops(bytes: &[u8]) -> Result<TextOps<'_>, DeltaFault>
     ensures ok { IfOk result (λ ops. IsDeltaText bytes.now ops) }
     ensures read { IfOk result (λ ops. read_delta bytes.now ≡ Some ops) }
-    ensures version { IsErrOf result DeltaError.Version ↔ (format_at bytes.now ≡ None) }
+    ensures version { IsErrOf result DeltaFault.Version ↔ (format_at bytes.now ≡ None) }
     // The first four bytes are a tag, and the bytes are the text of no list.
-    ensures refused { IsErrOf result DeltaError.Refused ↔ (IsSome (format_at bytes.now) × ((ops : List Operation) → ¬ IsDeltaText bytes.now ops)) }
-    ensures unread { IsErrOf result DeltaError.Refused → read_delta bytes.now ≡ None }
-    ensures memory { ¬ IsErrOf result DeltaError.OutOfMemory }
-    ensures failed { ¬ IsErrOf result DeltaError.Failed }
+    ensures refused { IsErrOf result DeltaFault.Refused ↔ (IsSome (format_at bytes.now) × ((ops : List Operation) → ¬ IsDeltaText bytes.now ops)) }
+    ensures unread { IsErrOf result DeltaFault.Refused → read_delta bytes.now ≡ None }
 {
     let Some((edition, list)) = split_tag(bytes) else {
-        return Err(DeltaError::Version);
+        return Err(DeltaFault::Version);
     };
     let limit = edition.limit();
     if check_list(limit, list).is_err() {
-        return Err(DeltaError::Refused);
+        return Err(DeltaFault::Refused);
     }
     Ok(TextOps::new(limit, list))
 }

@@ -25,6 +25,7 @@ mod shared_ops;
 
 pub use clock::Clock;
 pub use join::{Join, gather};
+pub use oct_code::OutOfMemory;
 pub use op_set::OpSet;
 pub use ops::Ops;
 pub use shared_ops::SharedOps;

@@ -38,6 +38,7 @@ mod values;
 pub use cell::Cell;
 pub use difference::first_difference;
 pub use mask::{Mask, NO_MASK};
+pub use oct_code::OutOfMemory;
 pub use period::{SeenPeriod, expected_period, find_period, find_shown};
 pub use rare::Rare;
 pub use row::Row;

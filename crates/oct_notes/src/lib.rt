@@ -22,3 +22,4 @@ mod removed;
 mod row;
 
 pub use notes::Notes;
+pub use oct_code::OutOfMemory;

@@ -30,6 +30,7 @@ pub use dot::Dot;
 pub use error::{BlockError, DotError, ListError, NoteError, PeriodError, RemovalError};
 pub use limits::{MAX_ITEMS, MAX_NAME, MAX_TEXT};
 pub use note::{Note, is_name, is_text};
+pub use oct_code::OutOfMemory;
 pub use op::{Body, Op};
 pub use op_list::OpList;
 pub use period::Period;

@@ -26,7 +26,7 @@ use std::collections::BTreeMap;
 /// Appends the catalogue of what was said to `out`, as `specs/Catalogue` spells it. The games that are kept have exactly their blocks
 /// and claims; any other is built when its lines are due, and let go after them. The one error is that memory is refused, and
 /// then `out` stays as it is.
-pub fn write_catalogue<A: Allocator + Copy>(
+pub fn write_catalogue_with<A: Allocator + Copy>(
     said: &Record<A>,
     kept: &BTreeMap<Code, Game<A>, A>,
     out: &mut Vec<u8, A>,
@@ -40,7 +40,7 @@ pub fn write_catalogue<A: Allocator + Copy>(
 
 /// Appends one page of that catalogue, its lines from `64 * page` on, at most 64 of them, and says whether there is
 /// such a page. Without one, and where memory is refused, `out` stays as it is.
-pub fn write_page<A: Allocator + Copy>(
+pub fn write_page_with<A: Allocator + Copy>(
     said: &Record<A>,
     kept: &BTreeMap<Code, Game<A>, A>,
     page: u32,
@@ -66,7 +66,7 @@ pub fn write_catalogue_of<A: Allocator + Copy>(
     ensures ok { OnOk result (out.new.items ≡ out.old.items ++ catalogue (listed said.now.ops)) }
     ensures err { OnErr result (out.new.items ≡ out.old.items) }
 {
-    write_catalogue(said, &BTreeMap::new(said.allocator()), out)
+    write_catalogue_with(said, &BTreeMap::new(said.allocator()), out)
 }
 
 /// Appends one page of that catalogue, its lines from `64 * page` on, at most 64 of them, and says whether there is
@@ -81,7 +81,7 @@ pub fn write_page_of<A: Allocator + Copy>(
     ensures none { IfOk result (λ found. found ≡ false → out.new.items ≡ out.old.items) }
     ensures err { OnErr result (out.new.items ≡ out.old.items) }
 {
-    write_page(said, &BTreeMap::new(said.allocator()), page, out)
+    write_page_with(said, &BTreeMap::new(said.allocator()), page, out)
 }
 
 // Appends what is shown of all lines. Where memory is refused, `out` stays as it is.

@@ -13,8 +13,9 @@
 //! Each game comes with its known nim-values, its blocks and its period claims, each with its status. Then come the
 //! live notes by name, the dots that came with several contents, and the authors. A page is 64 lines of it.
 //!
-//! - `write_catalogue` appends the text of a record of what was said, `write_page` one page of it, for whoever keeps games; one
-//!   that is not kept is built when its lines are due, and let go after them.
+//! - `write_catalogue` appends the text of a set of operations and what is kept beside it, its `Parts`; `write_page` one page of it.
+//! - `write_catalogue_with` and `write_page_with` do so of a record of what was said, for whoever keeps games; one that is not kept
+//!   is built when its lines are due, and let go after them.
 //! - `write_catalogue_of` and `write_page_of` do so where no game is kept. `game_of` builds one.
 //! - `GameSheet` is what the lines of a game tell, and what other views show of it: its known nim-values, its blocks and its
 //!   claims with their statuses. It is read off a game once.
@@ -33,14 +34,17 @@ mod game_sheet;
 mod games;
 mod line;
 mod notes;
+mod parts;
 mod statuses;
 mod values;
 mod window;
 mod words;
 
 pub use built::game_of;
-pub use catalogue::{write_catalogue, write_catalogue_of, write_page, write_page_of};
+pub use catalogue::{write_catalogue_of, write_catalogue_with, write_page_of, write_page_with};
 pub use game::GameSheet;
+pub use oct_code::OutOfMemory;
+pub use parts::{Parts, write_catalogue, write_page};
 pub use statuses::{BlockRow, PeriodRow};
 pub use words::{
     append_dot, append_labelled, append_labelled_dot, append_labelled_text, append_number,

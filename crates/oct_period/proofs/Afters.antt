@@ -9,7 +9,7 @@ use Rattle.std.specs.Option.{is_some}
 use Rattle.oct_code.specs.Code.{Code, len}
 use Rattle.oct_mex.specs.Moves.{Heaps, IsMove, leavings, moves}
 use Rattle.oct_mex.specs.NimValues.{nim_value, position_value as nim_sum}
-use Rattle.oct_mex.proofs.Members.{In, In-append_cases, In-flat_map_source, In-map_source, In-range_bounds}
+use Rattle.oct_code.proofs.Members.{In, In-append_cases, In-flat_map_source, In-map_source, In-range_bounds}
 use Rattle.oct_mex.proofs.Moves.{In-if_source, leavings_source}
 use Rattle.oct_period.specs.Moving.{move_with, moves_removing, moves_at, moves_from, moves_in, position_after, first_winning_move, has_value, IsMoveIn, IsWinningAnswer, IsWinningMove}
 use Rattle.oct_period.specs.Winning.{Position, positions_after, wins}

@@ -5,7 +5,7 @@ use Rattle.std.proofs.lemmas.Simd.{map-map}
 use Rattle.std.specs.List.{find, flat_map, range_with_len}
 use Rattle.oct_code.specs.Code.{Code, len, allows}
 use Rattle.oct_mex.specs.Moves.{Heaps, IsMove, leavings, splits}
-use Rattle.oct_mex.proofs.Members.{In, Contains-from_In, In-from_Contains, In-append_cases, In-append_left, In-append_right, In-flat_map, In-flat_map_source, In-map, In-map_source, In-range, In-range_bounds}
+use Rattle.oct_code.proofs.Members.{In, Contains-from_In, In-from_Contains, In-append_cases, In-append_left, In-append_right, In-flat_map, In-flat_map_source, In-map, In-map_source, In-range, In-range_bounds}
 use Rattle.oct_mex.proofs.Moves.{In-if, In-leavings}
 use Rattle.oct_period.specs.MoveLaws.{IsBefore, MovesInAreTheMoves, MovesLeaveThePositionsAfter, NoneWinsBefore, NoneWinsAtZero}
 use Rattle.oct_period.specs.Moving.{move_with, moves_removing, moves_at, moves_from, moves_in, position_after, IsMoveIn}

@@ -7,7 +7,7 @@ use Rattle.std.specs.List.{list_any}
 use Rattle.oct_code.specs.Code.{Code}
 use Rattle.oct_mex.specs.Moves.{Heaps, moves}
 use Rattle.oct_mex.specs.NimValues.{nim_value, position_value as nim_sum}
-use Rattle.oct_mex.proofs.Members.{In, In-append_left, In-append_right, In-append_cases, In-map, In-map_source}
+use Rattle.oct_code.proofs.Members.{In, In-append_left, In-append_right, In-append_cases, In-map, In-map_source}
 use Rattle.oct_mex.proofs.Moves.{parts, In-moves, moves_source}
 use Rattle.oct_mex.proofs.NimValues.{nim_sequence}
 use Rattle.oct_period.specs.Laws.{NextPlayerWins, WinsAboveZero, OutcomeByValue}

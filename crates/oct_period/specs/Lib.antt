@@ -4,6 +4,7 @@ pub use Rattle.oct_ops.specs.Operation
 pub use Rattle.oct_verify.specs.Known
 pub mod ClaimLaws
 pub mod Claims
+pub mod Computing
 pub mod FarBlocks
 pub mod FarLaws
 pub mod Found

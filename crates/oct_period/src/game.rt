@@ -35,8 +35,8 @@ use std::collections::{BTreeSet, btree_set};
 use std::marker::Model;
 use std::rc::Rc;
 
-/// The blocks and the period claims of one game, each under its dot, with what is known from them. Only `insert_block`,
-/// `insert_period` and `share` ask for memory.
+/// The blocks and the period claims of one game, each under its dot, with what is known from them. Only `add_block`,
+/// `add_period` and `share` ask for memory.
 #[derive(Drop)]
 pub struct Game<A: Allocator + Copy> {
     ledger: Ledger<A>,
@@ -77,19 +77,19 @@ impl<A: Allocator + Copy> Game<A> {
 
     /// Puts in a block of the game under its dot. A pair that is there changes nothing, and asks for no memory. Where memory is
     /// refused, nothing changes, and the block is handed back.
-    pub fn insert_block(&mut self, dot: Dot, block: Block<A>) -> Result<(), (AllocError, Block<A>)>
+    pub fn add_block(&mut self, dot: Dot, block: Block<A>) -> Result<(), (AllocError, Block<A>)>
         requires { block.code ≡ self.old.code }
         ensures ok { OnOk result (self.new ≡ record self.old { blocks = sets.insert self.old.blocks (dot, block) }) }
         ensures err { OnErr result (self.new ≡ self.old) }
         ensures absent { OnErr result (sets.contains self.old.blocks (dot, block) ≡ false) }
         ensures returned { IfErr result (λ refused. refused.1 ≡ block) }
     {
-        self.ledger.insert(dot, block)
+        self.ledger.add(dot, block)
     }
 
     /// Puts in a claim of the game under its dot. A pair that is there changes nothing, and asks for no memory. Where memory is
     /// refused, nothing changes, and the claim is handed back.
-    pub fn insert_period(&mut self, dot: Dot, period: Period) -> Result<(), (AllocError, Period)>
+    pub fn add_period(&mut self, dot: Dot, period: Period) -> Result<(), (AllocError, Period)>
         requires { period.code ≡ self.old.code }
         ensures ok { OnOk result (self.new ≡ record self.old { claims = sets.insert self.old.claims (dot, period) }) }
         ensures err { OnErr result (self.new ≡ self.old) }
@@ -102,7 +102,7 @@ impl<A: Allocator + Copy> Game<A> {
         }
     }
 
-    /// Puts in the block or the claim of an operation of the game, which is shared, as `insert_block` and `insert_period` do. One
+    /// Puts in the block or the claim of an operation of the game, which is shared, as `add_block` and `add_period` do. One
     /// that is there changes nothing, and asks for no memory. Where memory is refused, nothing changes.
     pub fn share(&mut self, op: &Rc<Op<A>, A>) -> Result<(), AllocError>
         requires { game_of op.now.value ≡ Some self.old.code }
@@ -112,7 +112,7 @@ impl<A: Allocator + Copy> Game<A> {
     {
         match op.body() {
             Body::Block(_) => self.ledger.share(op),
-            Body::Period(period) => match self.insert_period(op.dot(), *period) {
+            Body::Period(period) => match self.add_period(op.dot(), *period) {
                 Ok(()) => Ok(()),
                 Err((refusal, _)) => Err(refusal),
             },

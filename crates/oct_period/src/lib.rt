@@ -5,8 +5,8 @@
 //! (Guy and Smith, 1956), so the value of a heap of 10^9 beans may be read off the first period.
 //!
 //!     let mut game = Game::new(alloc, code);      // 0.3: one bean may be removed
-//!     game.insert_block(first, values)?;          // 0 1 0 1 0 1 0 at 0
-//!     game.insert_period(second, repeats)?;       // from 1 by 2: proved
+//!     game.add_block(first, values)?;          // 0 1 0 1 0 1 0 at 0
+//!     game.add_period(second, repeats)?;       // from 1 by 2: proved
 //!     game.heap_value(1_000_000_001)              // Some(1)
 //!     game.outcome(&[1, 1_000_000_001])           // NextLoses
 //!     game.winning_move(&[1_000_000_001])         // Some: of heap 0 remove 1 bean
@@ -16,6 +16,7 @@
 //!   that breaks it, or pending.
 //! - `period_status`, `heap_value`, `position_value` and `outcome` answer for a ledger and a list of claims. No answer takes
 //!   memory.
+//! - `next_block` computes the block of the next nim-values of a ledger.
 //! - `find_period` looks for the claim of the least period that a ledger proves, which need not have been made.
 //! - `Move` is a move in a position; `Game::winning_move` looks for the first one after which the next player loses.
 //! - `outcome_of` says who wins a position of a nim-value that is known already.
@@ -26,6 +27,7 @@
 
 mod breaks;
 mod claim;
+mod computing;
 mod far;
 mod found;
 mod game;
@@ -40,9 +42,11 @@ mod winning;
 
 pub use breaks::period_status;
 pub use claim::PeriodClaim;
+pub use computing::{ComputeError, next_block};
 pub use found::find_period;
 pub use game::Game;
 pub use moving::Move;
+pub use oct_code::OutOfMemory;
 pub use status::PeriodStatus;
 pub use unknown::Unknown;
 pub use values::{heap_value, position_value};

@@ -21,7 +21,7 @@ use Rattle.oct_delta.specs.Delta.{IsDeltaText}
 use Rattle.oct_delta.specs.Decoding.{read_delta}
 use Rattle.oct_delta.specs.Taken.{operations_of, set_of_read}
 use Rattle.oct_delta.proofs.Deltas.{text_rising}
-use Rattle.oct_delta.specs.declared.error.DeltaError.{DeltaError}
+use Rattle.oct_delta.specs.declared.error.DeltaFault.{DeltaFault}
 use Rattle.oct_record.specs.Taking.{with_all, unheld, count_new, IsCut, IsCutBy, LeavesAt}
 use Rattle.oct_record.specs.declared.error.TakeError.{TakeError}
 use Rattle.oct_record.specs.declared.error.TakeError.TheVariants.{Version, Refused, OutOfMemory}
@@ -192,12 +192,9 @@ memory_no_version done P none = (λ e. cc, λ p. absurd (none p))
 pub memory_no_refusal : (done : ℕ) (P : Type 0) → ¬ P → IsErrOf {T = ℕ} (Err (OutOfMemory done)) Refused ↔ P
 memory_no_refusal done P none = (λ e. cc, λ p. absurd (none p))
 
--- what is read is no error, and an error of the decoder is one alone
-pub read_no_error : (ops : List Operation) (e : DeltaError) → IsErrOf {T = List Operation} (Ok ops) e → ⊥
+-- what is read is no error
+pub read_no_error : (ops : List Operation) (e : DeltaFault) → IsErrOf {T = List Operation} (Ok ops) e → ⊥
 read_no_error ops e is = cc
-
-pub one_error : (x e other : DeltaError) → x ≡ e → (e ≡ other → ⊥) → IsErrOf {T = List Operation} (Err x) other → ⊥
-one_error x e other is apart both = apart (cc)
 
 -- ---- the operations of a text
 

@@ -10,7 +10,7 @@ ghost use Rattle.oct_record.specs.States.{has_tag, state_text, IsAuthored, IsHea
 
 use crate::error::LoadError;
 use byteorder::{BigEndian, ByteOrder};
-use oct_delta::{DeltaError, EncodeError, TextOps, encode_each, put_bytes, put_u32, read_ops};
+use oct_delta::{DeltaFault, EncodeError, TextOps, encode_each, put_bytes, put_u32, read_ops};
 use oct_join::Ops;
 use std::alloc::Allocator;
 
@@ -92,7 +92,6 @@ fn read_list(bytes: &[u8]) -> Result<TextOps<'_>, LoadError>
 {
     match read_ops(bytes) {
         Ok(ops) => Ok(ops),
-        Err(DeltaError::Version | DeltaError::Refused) => Err(LoadError::Refused),
-        Err(DeltaError::OutOfMemory | DeltaError::Failed) => unreachable!(),
+        Err(DeltaFault::Version | DeltaFault::Refused) => Err(LoadError::Refused),
     }
 }

@@ -1,6 +1,6 @@
 //! Operations that are taken in by whoever holds some, and that are issued.
 
-ghost use Rattle.std.specs.Prelude.{◌≡◌, ◌↔◌, ◌≤◌, ◌<◌, ◌+◌, ◌^◌, not, length, true, false, None, List, IsSome, IfSome, IfOk, IfErr, OnOk, OnErr, IsErrOf};
+ghost use Rattle.std.specs.Prelude.{◌≡◌, ◌↔◌, ◌≤◌, ◌<◌, ◌+◌, ◌^◌, not, length, true, false, None, List, ℕ, take as front_of, IsSome, IfSome, IfOk, IfErr, OnOk, OnErr, IsErrOf};
 ghost use Rattle.std.specs.Option.{is_some};
 ghost use Rattle.oct_ops.specs.Body.{Operation};
 ghost use Rattle.oct_ops.specs.Operation.{dot_of};
@@ -16,9 +16,11 @@ ghost use Rattle.oct_record.specs.Taking.{count_new, has_number, issue_error, ne
 use crate::error::{IssueError, TakeError};
 use crate::holder::Holder;
 use crate::record::Record;
-use oct_delta::{DeltaError, TextOps, read_ops};
+use oct_delta::{DeltaFault, TextOps, read_ops};
 use oct_ops::{Body, Dot, Op, OpList};
+use oct_store::Store;
 use std::alloc::{AllocError, Allocator};
+use std::mem;
 use std::rc::Rc;
 
 /// Takes in the operations that the bytes spell, and says how many of them are new. The answer is `Version` exactly
@@ -38,9 +40,8 @@ pub fn take<A: Allocator + Copy, H: Holder<A>>(
 {
     match read_ops(bytes) {
         Ok(ops) => take_each(holder, ops),
-        Err(DeltaError::Version) => Err(TakeError::Version),
-        Err(DeltaError::Refused) => Err(TakeError::Refused),
-        Err(DeltaError::Failed | DeltaError::OutOfMemory) => unreachable!(),
+        Err(DeltaFault::Version) => Err(TakeError::Version),
+        Err(DeltaFault::Refused) => Err(TakeError::Refused),
     }
 }
 
@@ -68,6 +69,25 @@ pub fn take_list<A: Allocator + Copy, H: Holder<A>>(
         done += 1;
     }
     Ok(new)
+}
+
+/// Moves the operations in; the author stays. After a refusal the first so many are in, and no other.
+pub fn take_ops<A: Allocator + Copy, H: Holder<A>>(
+    holder: &mut H,
+    ops: &mut Vec<Op<A>, A>,
+) -> Result<(), AllocError>
+    requires rises { IsRising ops.old.items }
+    requires few { length ops.old.items < 2 ^ 32 }
+    ensures ok { OnOk result ((H.content holder.new).ops ≡ union (H.content holder.old).ops (set_of ops.old.items)) }
+    ensures err { OnErr result ((count : ℕ) × ((H.content holder.new).ops ≡ union (H.content holder.old).ops (set_of (front_of count ops.old.items)))) }
+    ensures author { (H.content holder.new).author ≡ (H.content holder.old).author }
+{
+    let empty = Vec::new(*ops.allocator());
+    let list = OpList::of_rising(mem::replace(ops, empty));
+    match take_list(holder, list) {
+        Ok(_) => Ok(()),
+        Err(_) => Err(AllocError),
+    }
 }
 
 /// Takes in the operations of a text, each as it is made, and says how many of them are new. Where memory is refused, the
@@ -113,7 +133,21 @@ pub fn join<A: Allocator + Copy, H: Holder<A>>(
     ensures between { IsBetween IsSubset (H.content holder.old).ops (H.content holder.new).ops (union (H.content holder.old).ops other.now.ops) }
     ensures absent { OnErr result (¬ IsSubset other.now.ops (H.content holder.old).ops) }
 {
-    for op in other.store().iter_shared() {
+    share_all(holder, other.store())
+}
+
+/// Takes in the operations of a store, which both hold then; the author stays. After a refusal the set is one between the old
+/// set and the union. Memory can be refused only where the store has an operation that is not here.
+pub fn share_all<A: Allocator + Copy, H: Holder<A>>(
+    holder: &mut H,
+    store: &Store<A>,
+) -> Result<(), AllocError>
+    ensures ok { OnOk result ((H.content holder.new).ops ≡ union (H.content holder.old).ops store.now) }
+    ensures author { (H.content holder.new).author ≡ (H.content holder.old).author }
+    ensures between { IsBetween IsSubset (H.content holder.old).ops (H.content holder.new).ops (union (H.content holder.old).ops store.now) }
+    ensures absent { OnErr result (¬ IsSubset store.now (H.content holder.old).ops) }
+{
+    for op in store.iter_shared() {
         holder.share(op)?;
     }
     Ok(())

@@ -13,7 +13,7 @@ use Rattle.std.proofs.Math.Dec.{ltb}
 use Rattle.oct_code.specs.Code.{Code, code_eq}
 use Rattle.oct_code.specs.CodeOrder.{code_cmp_total}
 use Rattle.oct_mex.specs.NimValues.{nim_values}
-use Rattle.oct_mex.proofs.Members as members
+use Rattle.oct_code.proofs.Members as members
 use Rattle.oct_mex.proofs.NimValues.{nim_values-length}
 use Rattle.oct_ops.specs.Body as kind
 use Rattle.oct_ops.specs.Body.{Operation}
@@ -41,7 +41,7 @@ use Rattle.oct_replica.specs.Complete.{AuthorsAreShown, BlocksAreShown, ClaimsAr
 use Rattle.oct_replica.specs.Settled.{blocks_in, claims_in}
 use Rattle.oct_replica.specs.Shown.{Has}
 use Rattle.oct_replica.proofs.Lines.{In-arranged, In-games}
-use Rattle.oct_replica.proofs.Members.{In, among-In, In-filter, In-filter_source, In-listed, In-map, Has-listed, any-In, any_source}
+use Rattle.oct_ops.proofs.Members.{In, among-In, In-filter, In-filter_source, In-listed, In-map, Has-listed, any-In, any_source}
 use Rattle.oct_replica.proofs.Settled.{In-contains, In-filter_map, In-filter_map_source}
 use Rattle.oct_replica.proofs.Shown.{block_so, claim_of_op, claim_so, values_row}
 

@@ -1,11 +1,9 @@
-pub mod Authors
 pub mod Beside
 mod Complete
 mod Deliveries
 pub mod Headline
 pub mod Inserting
 mod Lines
-pub mod Members
 mod Places
 mod Rows
 mod Schedules

@@ -9,7 +9,7 @@ use Rattle.std.proofs.lemmas.Cmp.{tied_itself}
 use Rattle.oct_code.specs.Code.{Code, code_cmp, code_eq}
 use Rattle.oct_code.specs.CodeOrder.{code_cmp_total, code_cmp_exact}
 use Rattle.oct_mex.specs.NimValues.{nim_values}
-use Rattle.oct_mex.proofs.Members as members
+use Rattle.oct_code.proofs.Members as members
 use Rattle.oct_ops.specs.Arranged.{arranged}
 use Rattle.oct_ops.specs.Operation.{Dot, Block, Period}
 use Rattle.oct_ops.specs.Operations.{listed}
@@ -25,7 +25,7 @@ use Rattle.oct_period.proofs.FarLaws as far
 use Rattle.oct_period.proofs.Statuses.{settled_claims_stay}
 use Rattle.oct_pages.specs.Catalogue.{Text, games, if_some, under, block_in, claim_in, blocks_of, claims_of, block_line, period_line, block_text, period_text, values_lines, game_text, heading, ending, game_lines, note_line, fork_line, author_line, lines}
 use Rattle.oct_replica.specs.Settled.{blocks_in, claims_in, BlockLinesStay, ClaimLinesStay}
-use Rattle.oct_replica.proofs.Members.{In, In-among, among-In, In-map, In-listed, Has-listed, any_source, any-In}
+use Rattle.oct_ops.proofs.Members.{In, In-among, among-In, In-map, In-listed, Has-listed, any_source, any-In}
 use Rattle.oct_replica.proofs.Settled.{In-filter_map, In-filter_map_source, blocks_grow, claims_grow, claims_later, start_some}
 
 -- a list in order has what the list has

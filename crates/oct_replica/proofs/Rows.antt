@@ -14,11 +14,11 @@ use Rattle.oct_ops.specs.SetLaws as laws
 use Rattle.oct_ops.specs.Body.{Body, Operation}
 use Rattle.oct_join.specs.Clock.{Clock, covers}
 use Rattle.oct_store.specs.Summary.{last, beyond}
-use Rattle.oct_replica.specs.Computing.{compute_fault, next_block}
+use Rattle.oct_period.specs.Computing.{compute_fault, next_block}
 use Rattle.oct_replica.specs.World.{World, Local, start, with_replica, is_own_saved, step, after}
 use Rattle.oct_record.specs.Taking.{last_number}
 use Rattle.oct_replica.specs.World.Event.{Issue, Save, Send, Deliver, Restart}
-use Rattle.oct_replica.specs.declared.error.ComputeError.TheVariants.{Zero, TooMany, AtLimit}
+use Rattle.oct_period.specs.declared.computing.ComputeError.TheVariants.{Zero, TooMany, AtLimit}
 
 no_clock : Clock
 no_clock = finmap.empty

@@ -9,9 +9,9 @@ use Rattle.oct_store.specs.Summary.{last, beyond}
 use Rattle.oct_replica.specs.World.{World, Local, Event, start, with_replica, is_own_saved, issue, send, step, after, IsReplica, IsAnywhere, IsIssued, IsAbroad}
 use Rattle.oct_record.specs.Taking.{next_op, has_number}
 use Rattle.oct_replica.specs.World.Event.{Issue, Save, Send, Deliver, Restart}
-use Rattle.oct_replica.proofs.Members.{Has, In, In-among, among-In, In-take, any-In, Has-listed, In-listed, Has-empty, Has-insert, insert-keeps, Has-insert_all, insert_all-keeps, Has-keep}
+use Rattle.oct_ops.proofs.Members.{Has, In, In-among, among-In, In-take, any-In, Has-listed, In-listed, Has-empty, Has-insert, insert-keeps, Has-insert_all, insert_all-keeps, Has-keep}
 use Rattle.oct_replica.proofs.Places.{get-push, at_start, replica_here, replica_there, one_replica, replica_cases, on_replica_keeps, on_packet_keeps}
-use Rattle.oct_replica.proofs.Authors.{last-greatest}
+use Rattle.oct_store.proofs.Authors.{last-greatest}
 
 -- the author has saved the operation
 abbrev pub IsHome : World → Operation → Type 0

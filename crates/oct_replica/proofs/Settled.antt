@@ -9,7 +9,7 @@ use Rattle.oct_ops.specs.Operations.{Operations, IsSubset, listed}
 use Rattle.oct_ops.specs.Body.{Body, Operation}
 use Rattle.oct_ops.specs.Body as kind
 use Rattle.oct_ops.specs.Valid.{IsBody, IsPeriod}
-use Rattle.oct_mex.proofs.Members as members
+use Rattle.oct_code.proofs.Members as members
 use Rattle.oct_verify.specs.Laws.{AreAmong}
 use Rattle.oct_verify.specs.declared.status.Status.TheVariants as of_block
 use Rattle.oct_period.specs.FarLaws.{ClaimsAreAmong}
@@ -20,7 +20,7 @@ use Rattle.oct_period.proofs.Statuses as claims
 use Rattle.oct_pages.specs.Catalogue.{block_in, blocks_of, claim_in, claims_of, if_some, under}
 use Rattle.oct_record.specs.Valid.{AreValid}
 use Rattle.oct_replica.specs.Settled.{blocks_in, claims_in, SettledBlocksStay, SettledClaimsStay}
-use Rattle.oct_replica.proofs.Members.{In, In-among, among-In, In-map, Has-listed, In-listed, all_in}
+use Rattle.oct_ops.proofs.Members.{In, In-among, among-In, In-map, Has-listed, In-listed, all_in}
 
 -- ---- parts of lists
 

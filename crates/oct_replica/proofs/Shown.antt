@@ -6,7 +6,7 @@ use Rattle.std.proofs.lemmas.Bool.{leb-true}
 use Rattle.std.proofs.lemmas.List.{get_or-take, get_or-drop, length-take, length-drop}
 use Rattle.oct_code.specs.Code.{Code, code_eq}
 use Rattle.oct_mex.specs.NimValues.{nim_value, nim_values}
-use Rattle.oct_mex.proofs.Members as members
+use Rattle.oct_code.proofs.Members as members
 use Rattle.oct_mex.proofs.NimValues.{nim_values-at, nim_values-length}
 use Rattle.oct_ops.specs.Operation.{Dot, Block, Period}
 use Rattle.oct_ops.specs.Operations.{Operations, contains, listed}
@@ -36,7 +36,7 @@ use Rattle.oct_replica.specs.Shown.{BlockIsSo, ClaimIsSo, GameLinesAreSo, GameTe
 use Rattle.oct_replica.specs.Shown as shown
 use Rattle.oct_replica.proofs.Headline.{refuted_at_first_wrong, refuted_at_first_break, proved_periods_hold}
 use Rattle.oct_replica.proofs.Lines.{same_code}
-use Rattle.oct_replica.proofs.Members.{In, In-among, among-In, Has-listed}
+use Rattle.oct_ops.proofs.Members.{In, In-among, among-In, Has-listed}
 use Rattle.oct_replica.proofs.Settled.{claim_is_valid, contains-In, In-filter_map_source}
 
 -- ---- what was taken from an operation

@@ -8,8 +8,8 @@ use Rattle.oct_store.specs.Summary.{last, clock_of}
 use Rattle.oct_join.specs.Clock.{covers}
 use Rattle.oct_replica.specs.World.{World, Local, Event, after, IsReplica, IsAnywhere, IsIssued, HasNoGaps, EachIsIssued, NoForks, EqualClocksEqualSets, EqualClocksEqualCatalogues, AbroadIsSaved}
 use Rattle.oct_record.specs.Taking.{last_number}
-use Rattle.oct_replica.proofs.Members.{Has, Has-listed, same_set}
-use Rattle.oct_replica.proofs.Authors.{clock-has, covered}
+use Rattle.oct_ops.proofs.Members.{Has, Has-listed, same_set}
+use Rattle.oct_store.proofs.Authors.{clock-has, covered}
 use Rattle.oct_replica.proofs.Places.{one_replica}
 use Rattle.oct_replica.proofs.Schedules.{Kept, IsHome, kept}
 

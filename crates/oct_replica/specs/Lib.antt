@@ -6,9 +6,9 @@ pub use Rattle.oct_record.specs.States
 pub use Rattle.oct_record.specs.Taking
 pub mod Beside
 pub mod Complete
-pub mod Computing
 pub mod Headline
 pub mod Kept
+pub mod Queries
 pub mod Settled
 pub mod Shown
 pub mod World

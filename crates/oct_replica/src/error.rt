@@ -1,14 +1,8 @@
 //! Why a call was refused.
 
-/// Why no values were computed.
+/// Why a position was given no nim-value.
 #[derive(Clone, Copy, Debug, PartialEq, Eq)]
-pub enum ComputeError {
-    /// None are asked for.
-    Zero,
-    /// More than 1,024 are asked for.
-    TooMany,
-    /// The values of all heaps up to the limit are known.
-    AtLimit,
-    /// A request for memory was refused.
-    OutOfMemory,
+pub enum QueryError {
+    /// The nim-value of the heap at the place `index`, counted from 0, is not known, and those of the heaps before it are.
+    Unknown { index: usize },
 }

@@ -25,13 +25,14 @@
 //! and that replicas which took the same operations print the same bytes.
 #![tactic(auto)]
 
-mod computing;
 mod error;
 mod games;
 pub mod laws;
+mod peer;
 mod replica;
 
-pub use computing::next_block;
-pub use error::ComputeError;
+pub use error::QueryError;
+pub use oct_code::OutOfMemory;
+pub use oct_period::{ComputeError, next_block};
 pub use oct_record::{AuthorError, IssueError, LoadError, RemovalError, TakeError};
 pub use replica::Replica;

@@ -26,22 +26,22 @@ ghost use Rattle.oct_period.specs.Outcomes.{outcome, IsOutcomeOf};
 ghost use Rattle.oct_period.specs.Periods.{position_value};
 ghost use Rattle.oct_pages.specs.Catalogue.{catalogue, has_page, page as page_text};
 ghost use Rattle.oct_replica.specs.Beside.{content_in, game_in};
-ghost use Rattle.oct_replica.specs.Computing.{compute_fault, next_block as block_after};
+ghost use Rattle.oct_period.specs.Computing.{compute_fault, next_block as block_after};
+ghost use Rattle.oct_replica.specs.Queries.{queried};
 ghost use Rattle.oct_record.specs.Removals.{removal_fault, RefusesRemoval};
 ghost use Rattle.oct_record.specs.Valid.{AreValid};
 ghost use Rattle.oct_record.specs.States.{state_text, RefusesState};
 ghost use Rattle.oct_record.specs.Taking.{count_new, issue_error, with_all, IsCutBy, LeavesAt};
 ghost use Rattle.oct_record.specs.Taking.{has_number, next_op};
 
-use crate::computing::next_block;
-use crate::error::ComputeError;
+use crate::error::QueryError;
 use crate::games::file;
 use oct_code::Code;
 use oct_delta::EncodeError;
 use oct_join::Clock;
 use oct_ops::{Block, Body, Dot, Op, OpList, Period, Removal};
-use oct_pages::{write_catalogue, write_page};
-use oct_period::{Game, Move, Outcome, Unknown};
+use oct_pages::{write_catalogue_with, write_page_with};
+use oct_period::{ComputeError, Game, Move, Outcome, Unknown, next_block};
 use oct_record::taking::{issue, join, take, take_each, take_list};
 use oct_record::{
     AuthorError, Holder, IssueError, LoadError, Record, RemovalError, TakeError, read_state,
@@ -238,18 +238,15 @@ impl<A: Allocator + Copy> Replica<A> {
         }
     }
 
-    /// The exclusive or of the nim-values of a position's heaps, or the first heap whose nim-value is not known. Takes no
-    /// memory.
-    pub fn value(&self, code: Code, heaps: &[u64]) -> Result<u32, Unknown>
-        ensures value { result ≡ position_value code (blocks_in (content_in self.now.ops code).blocks) (claims_in (content_in self.now.ops code).claims) heaps.now }
+    /// The exclusive or of the nim-values of a position's heaps. The one refusal is `Unknown`, with the first heap whose nim-value
+    /// is not known. Takes no memory.
+    pub fn value(&self, code: Code, heaps: &[u64]) -> Result<u32, QueryError>
+        ensures value { result ≡ queried (position_value code (blocks_in (content_in self.now.ops code).blocks) (claims_in (content_in self.now.ops code).claims) heaps.now) }
         ensures right { IfOk result (λ value. value ≡ nim_sum code heaps.now) }
     {
-        match self.game(code) {
-            Some(game) => game.position_value(heaps),
-            None => {
-                let game = Game::new(self.said.allocator(), code);
-                game.position_value(heaps)
-            }
+        match self.position_value(code, heaps) {
+            Ok(value) => Ok(value),
+            Err(Unknown { index }) => Err(QueryError::Unknown { index }),
         }
     }
 
@@ -320,7 +317,7 @@ impl<A: Allocator + Copy> Replica<A> {
         ensures ok { OnOk result (out.new.items ≡ out.old.items ++ catalogue (listed self.now.ops)) }
         ensures err { OnErr result (out.new.items ≡ out.old.items) }
     {
-        write_catalogue(&self.said, &self.games, out)
+        write_catalogue_with(&self.said, &self.games, out)
     }
 
     /// Appends one page of that catalogue, its lines from `64 * number` on, at most 64 of them, and says whether there is
@@ -331,7 +328,7 @@ impl<A: Allocator + Copy> Replica<A> {
         ensures none { IfOk result (λ found. found ≡ false → out.new.items ≡ out.old.items) }
         ensures err { OnErr result (out.new.items ≡ out.old.items) }
     {
-        write_page(&self.said, &self.games, number, out)
+        write_page_with(&self.said, &self.games, number, out)
     }
 
     /// Appends the text of the replica to `out`: `OGS1`, the author, and the delta of all operations. The answer is
@@ -366,6 +363,20 @@ impl<A: Allocator + Copy> Replica<A> {
     {
         let Replica { said, .. } = self;
         said
+    }
+
+    // The exclusive or of the nim-values of a position's heaps, or the first heap whose nim-value is not known.
+    fn position_value(&self, code: Code, heaps: &[u64]) -> Result<u32, Unknown>
+        ensures value { result ≡ position_value code (blocks_in (content_in self.now.ops code).blocks) (claims_in (content_in self.now.ops code).claims) heaps.now }
+        ensures right { IfOk result (λ value. value ≡ nim_sum code heaps.now) }
+    {
+        match self.game(code) {
+            Some(game) => game.position_value(heaps),
+            None => {
+                let game = Game::new(self.said.allocator(), code);
+                game.position_value(heaps)
+            }
+        }
     }
 
     // Puts in an operation that others hold too, and says whether it is new. The record and the operation's game share it. Memory

@@ -1,3 +1,4 @@
+pub mod Authors
 mod Counts
 mod Groups
 mod Kept

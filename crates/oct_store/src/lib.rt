@@ -21,4 +21,5 @@ mod store;
 
 pub use author::Author;
 pub use fork::Fork;
+pub use oct_code::OutOfMemory;
 pub use store::Store;

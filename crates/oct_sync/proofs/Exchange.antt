@@ -21,8 +21,8 @@ use Rattle.oct_ops.specs.SetLaws as laws
 use Rattle.oct_ops.specs.Valid.{IsOp}
 use Rattle.oct_store.specs.Summary.{beyond, not_covered}
 use Rattle.oct_record.specs.Valid.{AreValid}
-use Rattle.oct_replica.proofs.Authors.{clock-has}
-use Rattle.oct_replica.proofs.Members.{Has, Has-empty, Has-keep, Has-listed, In, In-listed, keep-has, same_set, In-filter_source, all_in}
+use Rattle.oct_store.proofs.Authors.{clock-has}
+use Rattle.oct_ops.proofs.Members.{Has, Has-empty, Has-keep, Has-listed, In, In-listed, keep-has, same_set, In-filter_source, all_in}
 use Rattle.oct_sync.specs.Driven.{after, begun}
 use Rattle.oct_sync.specs.Exchange.{AllIsExchanged, BothEndWithAll, EachHoldsAll, EachIsAnswered, EachTakesMissing, HasNoForks, sent_clock}
 use Rattle.oct_sync.specs.Frames.{Frame, Split, delta_tag, end_frame, frame_bytes, pack_length, split_frames}

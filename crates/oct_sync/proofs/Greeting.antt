@@ -27,8 +27,8 @@ use Rattle.oct_store.specs.Summary.{clock_of, positive, through as through_of}
 use Rattle.oct_store.proofs.Greatest.{clock_of-is}
 use Rattle.oct_store.proofs.Throughs.{is_through}
 use Rattle.oct_record.specs.Valid.{AreValid}
-use Rattle.oct_replica.proofs.Authors.{has_dot_source}
-use Rattle.oct_replica.proofs.Members.{Has-listed}
+use Rattle.oct_store.proofs.Authors.{has_dot_source}
+use Rattle.oct_ops.proofs.Members.{Has-listed}
 use Rattle.oct_sync.specs.Exchange.{sent_clock}
 use Rattle.oct_sync.specs.Frames.{clock_tag, frame_bytes, max_frame}
 use Rattle.oct_sync.specs.Session.{clock_frame, empty_clock_frame, max_authors}

@@ -10,10 +10,10 @@ use Rattle.oct_sync.specs.Driven.{Breaks, Completes, Concludes, IsOutside, RunsO
 use Rattle.written.specs.Output.{AppendsPrefix}
 use Rattle.oct_sync.specs.Session.{Phase, AwaitsClock, AwaitsDeltas, AwaitsEnd, IsDone, HasFailed, Session, Point, fed, wanted}
 use Rattle.oct_sync.specs.SessionState.{IsOpenPhase}
-use Rattle.oct_sync.specs.Standing.{Ends, HasNotFailed, IsAt, Standing, StandsAt, StandsSound, StopsShort, TakesFirst, at_start, ended, stage_in, stage_of}
+use Rattle.oct_sync.specs.Standing.{Ends, HasNotFailed, IsAt, Standing, StandsAt, StandsSound, StopsShort, TakesFirst, at_start, ended, progress_in, progress_of}
 use Rattle.oct_sync.specs.declared.error.SyncError.{SyncError}
 use Rattle.oct_sync.specs.declared.error.SyncError.TheVariants as fault
-use Rattle.oct_sync.specs.declared.stage.Stage.TheVariants.{Done}
+use Rattle.oct_sync.specs.declared.progress.Progress.TheVariants.{Done}
 use Rattle.oct_sync.specs.declared.role.Role.{Role}
 use Rattle.oct_sync.specs.declared.role.Role.TheVariants.{Client, ClientOfAll, Server}
 use Rattle.oct_sync.proofs.Cutting.{any_cutting}
@@ -52,26 +52,26 @@ held_at : (role : Role) (s : Option Standing) (held : Operations) (sent : Bytes)
 held_at role None held sent p at = absurd at
 held_at role (Some s) held sent p at = (ap (λ (t : Session). t.held) at.session, ap (λ (t : Session). t.sent) at.session)
 
-done_phase : (phase : Phase) → stage_in phase ≡ Done → phase ≡ IsDone
+done_phase : (phase : Phase) → progress_in phase ≡ Done → phase ≡ IsDone
 done_phase AwaitsClock e = cc
 done_phase (AwaitsDeltas t) e = cc
 done_phase AwaitsEnd e = cc
 done_phase IsDone e = refl
 done_phase (HasFailed f) e = cc
 
-done_at : (role : Role) (s : Option Standing) (held : Operations) (sent : Bytes) (p : Point) → stage_of s ≡ Done → StandsAt role s held sent p → p.session.phase ≡ IsDone
+done_at : (role : Role) (s : Option Standing) (held : Operations) (sent : Bytes) (p : Point) → progress_of s ≡ Done → StandsAt role s held sent p → p.session.phase ≡ IsDone
 done_at role None held sent p done at = absurd at
 done_at role (Some s) held sent p done at = ap (λ (t : Session). t.phase) at.session ∙ done_phase s.phase done
 
 -- a frame is due
-open_phase : (phase : Phase) → HasNotFailed phase → (stage_in phase ≡ Done → ⊥) → IsOpenPhase phase
+open_phase : (phase : Phase) → HasNotFailed phase → (progress_in phase ≡ Done → ⊥) → IsOpenPhase phase
 open_phase AwaitsClock sound more = tt
 open_phase (AwaitsDeltas t) sound more = tt
 open_phase AwaitsEnd sound more = tt
 open_phase IsDone sound more = absurd (more refl)
 open_phase (HasFailed f) sound more = absurd sound
 
-open_at : (role : Role) (s : Option Standing) (held : Operations) (sent : Bytes) (p : Point) → StandsAt role s held sent p → StandsSound s → (stage_of s ≡ Done → ⊥) → IsOpenPhase p.session.phase
+open_at : (role : Role) (s : Option Standing) (held : Operations) (sent : Bytes) (p : Point) → StandsAt role s held sent p → StandsSound s → (progress_of s ≡ Done → ⊥) → IsOpenPhase p.session.phase
 open_at role None held sent p at sound more = absurd at
 open_at role (Some s) held sent p at sound more = subst IsOpenPhase (sym (ap (λ (t : Session). t.phase) at.session)) (open_phase s.phase sound more)
 
@@ -128,7 +128,7 @@ module _ (role : Role) (r r' w w' : Option Bytes) (before : Operations) (s : Opt
   }
 
   -- the reader fails, and keeps what it has
-  pub Breaks-reading : StandsSound s → (stage_of s ≡ Done → ⊥) → (e : SyncError) → IsOutside e → (r'' : Option Bytes) → Keeps r' r'' → Breaks role e r r'' w w' before held
+  pub Breaks-reading : StandsSound s → (progress_of s ≡ Done → ⊥) → (e : SyncError) → IsOutside e → (r'' : Option Bytes) → Keeps r' r'' → Breaks role e r r'' w w' before held
   Breaks-reading sound more e outside r'' kept = record {
     bytes = running.bytes;
     read = Consumes-kept r r' r'' running.bytes running.read kept;
@@ -261,7 +261,7 @@ module _ (role : Role) (r r' r'' w w' : Option Bytes) (before : Operations) (s :
   }
 
   -- with this piece the session is done, and what it sends for it is owed
-  pub concluded : (s' : Option Standing) (held' : Operations) (owed : Bytes) → ((t : Role) (p : Point) → StandsAt t s held none p → StandsAt t s' held' owed (fed t p piece)) → StandsSound s → (stage_of s ≡ Done → ⊥) → stage_of s' ≡ Done
+  pub concluded : (s' : Option Standing) (held' : Operations) (owed : Bytes) → ((t : Role) (p : Point) → StandsAt t s held none p → StandsAt t s' held' owed (fed t p piece)) → StandsSound s → (progress_of s ≡ Done → ⊥) → progress_of s' ≡ Done
       → Concludes role r r'' w w' before held' owed
   unfolding IsRunning-fed
   concluded s' held' owed feeds sound more done =

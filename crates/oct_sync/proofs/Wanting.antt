@@ -4,8 +4,8 @@ use Rattle.std.proofs.lemmas.Bool.{and_parts, leb-true, leb-false, le-leb}
 use Rattle.oct_sync.specs.Frames.{is_length, length_field, max_frame}
 use Rattle.oct_sync.specs.Session.{AwaitsClock, AwaitsDeltas, AwaitsEnd, IsDone, Phase, missing_bytes}
 use Rattle.oct_sync.specs.SessionState.{IsIncoming, IsSessionState, missing_of, phase_of, wanted_by, wanted_in}
-use Rattle.oct_sync.specs.Standing.{stage_in}
-use Rattle.oct_sync.specs.declared.stage.Stage.TheVariants.{More}
+use Rattle.oct_sync.specs.Standing.{progress_in}
+use Rattle.oct_sync.specs.declared.progress.Progress.TheVariants.{More}
 use Rattle.oct_sync.specs.declared.state.Due.{Due}
 use Rattle.oct_sync.specs.declared.state.Due.TheVariants as due
 use Rattle.oct_sync.specs.declared.state.Incoming.{Incoming}
@@ -13,13 +13,13 @@ use Rattle.oct_sync.specs.declared.state.Incoming.TheVariants as incoming
 use Rattle.oct_sync.specs.declared.state.SessionState.{SessionState}
 use Rattle.oct_sync.proofs.Stepping.{done_from, faultless_head, not_less}
 
-pub some_wanted : {A : Type 0} (s : SessionState A) → IsSessionState s → stage_in (phase_of s.due) ≡ More → 1 ≤ wanted_by s
+pub some_wanted : {A : Type 0} (s : SessionState A) → IsSessionState s → progress_in (phase_of s.due) ≡ More → 1 ≤ wanted_by s
 some_wanted s valid more = elim (leb 1 (wanted_by s)) as (λ b. leb 1 (wanted_by s) ≡ b → 1 ≤ wanted_by s) [
   | true ↦ λ e. leb-true 1 (wanted_by s) e
   | false ↦ λ e.
       let none = leb-false 1 (wanted_by s) e in
       let done : phase_of s.due ≡ IsDone = done_from s valid (omega (arith, none)) in
-      absurd (cc (ap stage_in done, more))
+      absurd (cc (ap progress_in done, more))
 ] refl
 
 length_most : (n : ℕ) → is_length n ≡ true → n ≤ max_frame

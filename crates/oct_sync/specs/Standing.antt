@@ -16,8 +16,8 @@ use Rattle.oct_sync.specs.declared.error.SyncError.{SyncError}
 use Rattle.oct_sync.specs.declared.error.SyncError.TheVariants as fault
 use Rattle.oct_sync.specs.declared.role.Role.{Role}
 use Rattle.oct_sync.specs.declared.role.Role.TheVariants.{Client, ClientOfAll, Server}
-use Rattle.oct_sync.specs.declared.stage.Stage.{Stage}
-use Rattle.oct_sync.specs.declared.stage.Stage.TheVariants.{More, Done}
+use Rattle.oct_sync.specs.declared.progress.Progress.{Progress}
+use Rattle.oct_sync.specs.declared.progress.Progress.TheVariants.{More, Done}
 
 -- what is kept of a frame: all bytes that came; or, of a delta frame whose payload begins no delta, those before the payload and how many of it are missing
 pub data Kept : Type 0 where
@@ -58,16 +58,16 @@ abbrev pub StandsAt : Role → Option Standing → Operations → Bytes → Poin
 StandsAt role None held sent p = ⊥
 StandsAt role (Some s) held sent p = IsAt role s held sent p
 
-abbrev pub stage_in : Phase → Stage
-stage_in AwaitsClock = More
-stage_in (AwaitsDeltas t) = More
-stage_in AwaitsEnd = More
-stage_in IsDone = Done
-stage_in (HasFailed f) = More
+abbrev pub progress_in : Phase → Progress
+progress_in AwaitsClock = More
+progress_in (AwaitsDeltas t) = More
+progress_in AwaitsEnd = More
+progress_in IsDone = Done
+progress_in (HasFailed f) = More
 
-abbrev pub stage_of : Option Standing → Stage
-stage_of None = More
-stage_of (Some s) = stage_in s.phase
+abbrev pub progress_of : Option Standing → Progress
+progress_of None = More
+progress_of (Some s) = progress_in s.phase
 
 -- no fault was shown
 abbrev pub HasNotFailed : Phase → Type 0

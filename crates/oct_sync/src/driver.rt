@@ -8,9 +8,9 @@ ghost use Rattle.oct_sync.specs.Standing.{at_start};
 
 use crate::error::SyncError;
 use crate::peer::Peer;
+use crate::progress::Progress;
 use crate::role::Role;
 use crate::session::Session;
-use crate::stage::Stage;
 use std::alloc::{AllocError, Allocator};
 use std::io::{Read, Write};
 use written::{Unwritten, write_out};
@@ -106,8 +106,8 @@ fn take_turns<A: Allocator + Copy, P: Peer<A>, R: Read, W: Write>(
         send(writer, owed)?;
         let count = receive(reader, buffer, session.wanted())?;
         let piece = &buffer[..count];
-        let stage = session.feed(peer, piece, owed)?;
-        if let Stage::Done = stage {
+        let progress = session.feed(peer, piece, owed)?;
+        if let Progress::Done = progress {
             return Ok(());
         }
     }

@@ -16,7 +16,7 @@
 //! in pieces of any size: what a side holds and sends follows from the bytes alone, and not from how they were cut.
 //!
 //! - `Session` is one side, which is fed the other side's bytes and appends what it sends to a vector.
-//! - `Peer` is whoever a side speaks for: it keeps a set of operations, as a `Replica` does.
+//! - `Peer` is whoever a side speaks for: it keeps a set of operations, as a `Record` does.
 //! - `drive` runs a session to its end over a reader and a writer; `converse` does so too, and leaves its last answer to the
 //!   caller.
 //! - `SyncError` says why a session ended early, and `laws` what holds of all sessions: bytes may be cut anywhere, and two
@@ -33,16 +33,17 @@ mod frame;
 mod heads;
 pub mod laws;
 mod peer;
+mod progress;
 mod receiving;
 mod role;
 mod sending;
 mod session;
-mod stage;
 mod state;
 
 pub use driver::{MAX_READS, converse, drive};
 pub use error::SyncError;
+pub use oct_code::OutOfMemory;
 pub use peer::Peer;
+pub use progress::Progress;
 pub use role::Role;
 pub use session::Session;
-pub use stage::Stage;

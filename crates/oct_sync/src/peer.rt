@@ -7,11 +7,9 @@ ghost use Rattle.oct_store.specs.Summary as summary;
 
 use oct_join::Clock;
 use oct_ops::{Op, OpList};
-use oct_record::taking::take_list;
-use oct_record::{Holder, Record};
-use oct_replica::Replica;
+use oct_record::Record;
+use oct_record::taking::take_ops;
 use std::alloc::{AllocError, Allocator};
-use std::mem;
 
 /// Keeps a finite set of operations under an author, says by a clock what it holds, and takes operations in.
 pub trait Peer<A: Allocator + Copy> {
@@ -38,24 +36,6 @@ pub trait Peer<A: Allocator + Copy> {
         ensures author { author self.new ≡ author self.old };
 }
 
-impl<A: Allocator + Copy> Peer<A> for Replica<A> {
-    ghost held = { λ replica. replica.ops };
-
-    ghost author = { λ replica. replica.author };
-
-    fn clock(&self) -> Result<Clock<A>, AllocError> {
-        Replica::clock(self)
-    }
-
-    fn beyond(&self, clock: &Clock<A>) -> Result<OpList<A>, AllocError> {
-        Replica::beyond(self, clock)
-    }
-
-    fn take_ops(&mut self, ops: &mut Vec<Op<A>, A>) -> Result<(), AllocError> {
-        move_in(self, ops)
-    }
-}
-
 impl<A: Allocator + Copy> Peer<A> for Record<A> {
     ghost held = { λ said. said.ops };
 
@@ -70,25 +50,6 @@ impl<A: Allocator + Copy> Peer<A> for Record<A> {
     }
 
     fn take_ops(&mut self, ops: &mut Vec<Op<A>, A>) -> Result<(), AllocError> {
-        move_in(self, ops)
-    }
-}
-
-// Moves the operations into whoever holds some.
-fn move_in<A: Allocator + Copy, H: Holder<A>>(
-    holder: &mut H,
-    ops: &mut Vec<Op<A>, A>,
-) -> Result<(), AllocError>
-    requires rises { IsRising ops.old.items }
-    requires few { length ops.old.items < 2 ^ 32 }
-    ensures ok { OnOk result ((H.content holder.new).ops ≡ union (H.content holder.old).ops (set_of ops.old.items)) }
-    ensures err { OnErr result ((count : ℕ) × ((H.content holder.new).ops ≡ union (H.content holder.old).ops (set_of (take count ops.old.items)))) }
-    ensures author { (H.content holder.new).author ≡ (H.content holder.old).author }
-{
-    let empty = Vec::new(*ops.allocator());
-    let list = OpList::of_rising(mem::replace(ops, empty));
-    match take_list(holder, list) {
-        Ok(_) => Ok(()),
-        Err(_) => Err(AllocError),
+        take_ops(self, ops)
     }
 }

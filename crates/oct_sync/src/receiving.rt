@@ -7,15 +7,15 @@ ghost use Rattle.oct_sync.specs.Frames.{clock_tag, end_tag, length_field, max_fr
 ghost use Rattle.oct_sync.specs.Session as session;
 ghost use Rattle.oct_sync.specs.Session.{Phase, Point, missing_bytes};
 ghost use Rattle.oct_sync.specs.SessionState.{IsCounted, IsDeltaFront, IsOpenPhase, IsShort, IsSessionState, IsWholeFrame, Steps, kept_of, kept_of_delta, phase_of, point, standing_of, wanted_by};
-ghost use Rattle.oct_sync.specs.Standing.{Ends, IsAt, IsRest, Known, stage_in};
+ghost use Rattle.oct_sync.specs.Standing.{Ends, IsAt, IsRest, Known, progress_in};
 
 use crate::error::SyncError;
 use crate::frame::{CLOCK, DELTA};
 use crate::heads::{first_fault, length_field};
 use crate::peer::Peer;
+use crate::progress::Progress;
 use crate::role::Role;
 use crate::sending::{send_answer, send_end, send_missing};
-use crate::stage::Stage;
 use crate::state::{Delta, Due, Incoming, SessionState};
 use oct_delta::laws::texts_are_read;
 use oct_delta::{ClockError, DeltaError, Reader, decode_clock};
@@ -243,7 +243,7 @@ pub(crate) fn wanted<A: Allocator + Copy>(state: &SessionState<A>) -> usize
     requires { IsSessionState state.now }
     ensures value { result ≡ wanted_by state.now }
     ensures open { 0 < result → IsOpenPhase (phase_of state.now.due) }
-    ensures some { stage_in (phase_of state.now.due) ≡ Stage.More → 1 ≤ result }
+    ensures some { progress_in (phase_of state.now.due) ≡ Progress.More → 1 ≤ result }
     ensures most { result ≤ max_frame }
 {
     match &state.due {

@@ -6,15 +6,15 @@ ghost use Rattle.oct_ops.specs.Operations.{Operations};
 ghost use Rattle.oct_sync.specs.Frames.{max_frame};
 ghost use Rattle.oct_sync.specs.Session.{Point, clock_frame, empty_clock_frame, fed, wanted};
 ghost use Rattle.oct_sync.specs.SessionState.{phase_of};
-ghost use Rattle.oct_sync.specs.Standing.{Ends, StandsAt, StandsSound, at_start, stage_in, stage_of};
+ghost use Rattle.oct_sync.specs.Standing.{Ends, StandsAt, StandsSound, at_start, progress_in, progress_of};
 ghost use Rattle.oct_sync.specs.declared.role.Role.TheVariants as roles;
 
 use crate::error::SyncError;
 use crate::peer::Peer;
+use crate::progress::Progress;
 use crate::receiving;
 use crate::role::Role;
 use crate::sending::{send_clock, send_empty_clock};
-use crate::stage::Stage;
 use crate::state::{Due, SessionState};
 use std::alloc::{AllocError, Allocator};
 use std::marker::Model;
@@ -100,9 +100,9 @@ impl<A: Allocator + Copy> Session<A> {
         peer: &mut P,
         piece: &[u8],
         out: &mut Vec<u8, A>,
-    ) -> Result<Stage, SyncError>
+    ) -> Result<Progress, SyncError>
         ensures ok { OnOk result ((role : Role) (p : Point) → StandsAt role self.old (P.held peer.old) out.old.items p → StandsAt role self.new (P.held peer.new) out.new.items (fed role p piece.now)) }
-        ensures stage { IfOk result (λ stage. stage ≡ stage_of self.new) }
+        ensures progress { IfOk result (λ progress. progress ≡ progress_of self.new) }
         ensures sound { OnOk result (StandsSound self.new) }
         ensures err { IfErr result (λ e. (role : Role) (p : Point) → StandsAt role self.old (P.held peer.old) out.old.items p → Ends role p piece.now e (P.held peer.new) out.new.items) }
         ensures author { P.author peer.new ≡ P.author peer.old }
@@ -116,9 +116,9 @@ impl<A: Allocator + Copy> Session<A> {
         };
         match receiving::advance(self.alloc, self.role, state, peer, piece, out) {
             Ok(state) => {
-                let stage = stage_of(&state);
+                let progress = progress_of(&state);
                 self.state = Some(state);
-                Ok(stage)
+                Ok(progress)
             }
             Err(fault) => Err(fault),
         }
@@ -129,7 +129,7 @@ impl<A: Allocator + Copy> Session<A> {
     pub fn wanted(&self) -> usize
         ensures value { (role : Role) (held : Operations) (sent : Bytes) (p : Point) → StandsAt role self.now held sent p → result ≡ wanted p }
         ensures failed { self.now ≡ None → result ≡ 0 }
-        ensures some { IfSome self.now (λ session. stage_in session.phase ≡ Stage.More → 1 ≤ result) }
+        ensures some { IfSome self.now (λ session. progress_in session.phase ≡ Progress.More → 1 ≤ result) }
         ensures most { result ≤ max_frame }
     {
         match &self.state {
@@ -140,11 +140,11 @@ impl<A: Allocator + Copy> Session<A> {
 }
 
 // Whether a frame is due.
-fn stage_of<A: Allocator + Copy>(state: &SessionState<A>) -> Stage
-    ensures { result ≡ stage_in (phase_of state.now.due) }
+fn progress_of<A: Allocator + Copy>(state: &SessionState<A>) -> Progress
+    ensures { result ≡ progress_in (phase_of state.now.due) }
 {
     match &state.due {
-        Due::Nothing => Stage::Done,
-        _ => Stage::More,
+        Due::Nothing => Progress::Done,
+        _ => Progress::More,
     }
 }

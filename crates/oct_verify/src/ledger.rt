@@ -17,7 +17,7 @@ use std::alloc::{AllocError, Allocator};
 use std::marker::Model;
 use std::rc::Rc;
 
-/// A finite set of blocks of one game, each under its dot, with what is known from them. Only `insert` and `share`
+/// A finite set of blocks of one game, each under its dot, with what is known from them. Only `add` and `share`
 /// ask for memory to keep.
 #[derive(Drop)]
 pub struct Ledger<A: Allocator + Copy> {
@@ -58,7 +58,7 @@ impl<A: Allocator + Copy> Ledger<A> {
     /// Puts in a block of the game under its dot, and settles blocks that waited until none of them starts at or below the known
     /// length. A pair that is there changes nothing, and asks for no memory. All memory is asked for first: where it is
     /// refused, nothing changes, and the block is handed back.
-    pub fn insert(&mut self, dot: Dot, block: Block<A>) -> Result<(), (AllocError, Block<A>)>
+    pub fn add(&mut self, dot: Dot, block: Block<A>) -> Result<(), (AllocError, Block<A>)>
         requires { block.code ≡ self.old.code }
         ensures ok { OnOk result (self.new ≡ record self.old { blocks = sets.insert self.old.blocks (dot, block) }) }
         ensures err { OnErr result (self.new ≡ self.old) }
@@ -68,7 +68,7 @@ impl<A: Allocator + Copy> Ledger<A> {
         self.shelf.insert(dot, block)
     }
 
-    /// Puts in the block of an operation of the game, which is shared, as `insert` does. One that is there changes nothing, and
+    /// Puts in the block of an operation of the game, which is shared, as `add` does. One that is there changes nothing, and
     /// asks for no memory. Where memory is refused, nothing changes.
     pub fn share(&mut self, op: &Rc<Op<A>, A>) -> Result<(), AllocError>
         requires block { IsSome (block_of op.now.value.body) }

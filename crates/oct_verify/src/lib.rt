@@ -5,8 +5,8 @@
 //! in turn. What the ledger says is that of its set of blocks alone, whatever their order:
 //!
 //!     let mut ledger = Ledger::new(alloc, kayles);
-//!     ledger.insert(far, at_7)?;        // waits: known 1
-//!     ledger.insert(near, at_1_to_6)?;  // settles both: known 8
+//!     ledger.add(far, at_7)?;        // waits: known 1
+//!     ledger.add(near, at_1_to_6)?;  // settles both: known 8
 //!     ledger.status(&far, &at_7)        // Proved
 //!
 //! - `Ledger` is a code and a finite set of pairs of a dot and a block. A block may be shared with who has its operation.
@@ -22,4 +22,5 @@ mod shelf;
 mod status;
 
 pub use ledger::Ledger;
+pub use oct_code::OutOfMemory;
 pub use status::Status;

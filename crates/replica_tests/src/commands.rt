@@ -118,8 +118,8 @@ fn request_of(alloc: Global, ask: Ask) -> Result<Request, AllocError> {
             let code = Vec::from_slice(alloc, code.as_bytes())?;
             Request::Period {
                 code,
-                start,
-                period: 1,
+                e: start,
+                p: 1,
             }
         }
         Ask::Note(text) => {

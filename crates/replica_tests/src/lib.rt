@@ -22,6 +22,8 @@ mod resumed;
 #[cfg(test)]
 mod runs;
 #[cfg(test)]
+mod surface;
+#[cfg(test)]
 mod sync;
 #[cfg(test)]
 mod texts;

@@ -14,7 +14,7 @@ use oct_join::Clock;
 use oct_ops::{Block, Body, Note};
 use oct_period::Outcome;
 use oct_replica::{
-    AuthorError, ComputeError, IssueError, LoadError, RemovalError, Replica, TakeError,
+    AuthorError, ComputeError, IssueError, LoadError, QueryError, RemovalError, Replica, TakeError,
 };
 use std::alloc::{Allocator, Global};
 use std::process::Abort;
@@ -225,7 +225,7 @@ fn value_of<A: Allocator + Copy>(
 ) -> Result<u32, usize> {
     match replica.value(code, heaps) {
         Ok(value) => Ok(value),
-        Err(unknown) => Err(unknown.index),
+        Err(QueryError::Unknown { index }) => Err(index),
     }
 }
 

@@ -11,7 +11,7 @@ use crate::texts::{
 };
 use metered::Metered;
 use oct_replica::Replica;
-use oct_sync::{MAX_READS, Role, Session, Stage, SyncError, converse, drive};
+use oct_sync::{MAX_READS, Progress, Role, Session, SyncError, converse, drive};
 use std::alloc::{Allocator, Global};
 use std::process::Abort;
 
@@ -226,10 +226,10 @@ fn session_of<A: Allocator + Copy>(
 }
 
 // The name of what a session answers.
-fn answer_name(answer: Result<Stage, SyncError>) -> Result<&'static str, SyncError> {
+fn answer_name(answer: Result<Progress, SyncError>) -> Result<&'static str, SyncError> {
     match answer {
-        Ok(Stage::More) => Ok("more"),
-        Ok(Stage::Done) => Ok("done"),
+        Ok(Progress::More) => Ok("more"),
+        Ok(Progress::Done) => Ok("done"),
         Err(fault) => Err(fault),
     }
 }
@@ -241,8 +241,8 @@ fn feed_pieces<A: Allocator + Copy>(
     bytes: &[u8],
     size: usize,
     out: &mut Vec<u8, A>,
-) -> Result<Stage, SyncError> {
-    let mut answer = Ok(Stage::More);
+) -> Result<Progress, SyncError> {
+    let mut answer = Ok(Progress::More);
     for piece in bytes.chunks(size.max(1)) {
         if answer.is_ok() {
             answer = session.feed(replica, piece, out);

@@ -2,8 +2,8 @@ use Rattle.std.proofs.Common.{◌≡◌, None, ap, subst, sym, ◌∙◌}
 use Rattle.std.specs.Prelude.{unwrap_or}
 use Rattle.std.proofs.lemmas.Result.{IfErr-weaker, IfOk-weaker, err_from_is_err_and}
 use Rattle.oct_period.specs.GameContent.{ledger_of}
-use Rattle.oct_replica.specs.Computing.{compute_fault, next_block}
-use Rattle.oct_replica.specs.declared.error.ComputeError.TheVariants.{OutOfMemory}
+use Rattle.oct_period.specs.Computing.{compute_fault, next_block}
+use Rattle.oct_period.specs.declared.computing.ComputeError.TheVariants.{OutOfMemory}
 use Rattle.oct_verify.specs.Filing.{GameBlocks, blocks_in}
 use Rattle.oct_verify.specs.Known.{known}
 use Rattle.census_core.specs.Issuing.{computed}

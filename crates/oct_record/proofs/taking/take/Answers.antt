@@ -5,7 +5,7 @@ use Rattle.oct_delta.specs.Taken.{operations_of}
 use Rattle.oct_record.specs.Taking.{count_new, IsCutBy, LeavesAt, with_all}
 use Rattle.oct_record.proofs.Along.{cut_is_no_version, cut_is_no_refusal, cut_leaves, not_refused, read_list, read_no_error, read_set, text_few}
 use Rattle.oct_delta.proofs.Deltas.{text_rising}
-use Rattle.oct_delta.specs.declared.error.DeltaError.TheVariants as delta
+use Rattle.oct_delta.specs.declared.error.DeltaFault.TheVariants as delta
 use Rattle.std.specs.Option.{is_some}
 use Rattle.std.proofs.lemmas.Bool.{false≢true}
 use Rattle.oct_record.proofs.taking.take.Goals as goal

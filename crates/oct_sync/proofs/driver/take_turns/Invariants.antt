@@ -1,6 +1,6 @@
 use Rattle.std.proofs.Common.{◌≡◌, ◌<◌, length}
-use Rattle.oct_sync.specs.Standing.{StandsSound, stage_of}
-use Rattle.oct_sync.specs.declared.stage.Stage.TheVariants.{More}
+use Rattle.oct_sync.specs.Standing.{StandsSound, progress_of}
+use Rattle.oct_sync.specs.declared.progress.Progress.TheVariants.{More}
 use Rattle.oct_sync.proofs.Running.{IsRunning}
 use Rattle.oct_sync.proofs.driver.take_turns.Given as goal
 
@@ -10,6 +10,6 @@ invariant-loop g l = record {
       (g.P.Peer.held l.fn.peer) l.session (g.P.Peer.held l.peer) l.owed.items;
   author : g.P.Peer.author l.peer ≡ g.P.Peer.author l.fn.peer;
   sound : StandsSound l.session;
-  more : stage_of l.session ≡ More;
+  more : progress_of l.session ≡ More;
   room : 0 < length l.buffer;
 }

@@ -6,9 +6,9 @@ use Rattle.oct_record.specs.Content.{RecordContent}
 use Rattle.oct_replica.proofs.Beside.{are_in}
 use Rattle.oct_replica.proofs.replica.Replica.catalogue.Goals as goal
 
-pub write_catalogue-requires : goal.write_catalogue-requires
-write_catalogue-requires g c = are_in c.self.inside.said.ops c.self.inside.games c.self.invariant
+pub write_catalogue_with-requires : goal.write_catalogue_with-requires
+write_catalogue_with-requires g c = are_in c.self.inside.said.ops c.self.inside.games c.self.invariant
 
 pub returns-clause-ok : goal.returns-clause-ok
 returns-clause-ok g c =
-    subst (λ (r : RecordContent). OnOk c.write_catalogue.result (c.write_catalogue.new.out.items ≡ c.args.out.now.items ++ catalogue (listed r.ops))) c.self.view_is c.write_catalogue.ensures.ok
+    subst (λ (r : RecordContent). OnOk c.write_catalogue_with.result (c.write_catalogue_with.new.out.items ≡ c.args.out.now.items ++ catalogue (listed r.ops))) c.self.view_is c.write_catalogue_with.ensures.ok

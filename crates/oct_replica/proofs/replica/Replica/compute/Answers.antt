@@ -3,8 +3,8 @@ use Rattle.std.specs.Option.{unwrap_or}
 use Rattle.oct_verify.specs.Filing.{GameBlocks, blocks_in}
 use Rattle.oct_verify.specs.Known.{known}
 use Rattle.oct_period.specs.GameContent.{ledger_of}
-use Rattle.oct_replica.specs.Computing.{compute_fault, next_block}
-use Rattle.oct_replica.specs.declared.error.ComputeError.TheVariants.{OutOfMemory}
+use Rattle.oct_period.specs.Computing.{compute_fault, next_block}
+use Rattle.oct_period.specs.declared.computing.ComputeError.TheVariants.{OutOfMemory}
 use Rattle.oct_replica.proofs.Beside.{found_is, none_is}
 use Rattle.oct_replica.proofs.replica.Replica.compute.Goals as goal
 

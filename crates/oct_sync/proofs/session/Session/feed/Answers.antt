@@ -31,8 +31,8 @@ returns-in_default-clause-after g c = ap (standing_if c.self.inside.role) c.take
 pub returns-in-Ok-clause-ok : goal.returns-in-Ok-clause-ok
 returns-in-Ok-clause-ok g c = stands_on c.self.inside.role c.in-Some.state c.args.self.now (g.P.Peer.held c.args.peer.now) c.args.out.now.items (sym (ap (standing_if c.self.inside.role) (sym c.take.ensures.value ∙ c.in-Some.is)) ∙ c.self.view_is) c.in-Ok.state (g.P.Peer.held c.advance.new.peer) c.advance.new.out.items c.args.piece.now c.in-Ok.ensures.ok
 
-pub returns-in-Ok-clause-stage : goal.returns-in-Ok-clause-stage
-returns-in-Ok-clause-stage g c = c.stage_of-stage.ensures
+pub returns-in-Ok-clause-progress : goal.returns-in-Ok-clause-progress
+returns-in-Ok-clause-progress g c = c.progress_of-progress.ensures
 
 pub returns-in-Ok-clause-sound : goal.returns-in-Ok-clause-sound
 returns-in-Ok-clause-sound g c = due_sound c.in-Ok.state.due

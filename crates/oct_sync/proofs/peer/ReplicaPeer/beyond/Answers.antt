@@ -1,4 +1,0 @@
-use Rattle.oct_sync.proofs.peer.ReplicaPeer.beyond.Goals as goal
-
-pub returns : goal.returns
-returns g c = c.beyond.ensures
