@@ -40,6 +40,9 @@ AddsMarks-as x y P R p to from = record {
 pub pair_to : (g : ℕ → ℕ) (rest from end v : ℕ) {far : ℕ} (o : IsPairValue g rest from far v) → o.a < end → IsPairValue g rest from end v
 pair_to g rest from end v o low = record { a = o.a; b = o.b; high = o.high; low = low; ordered = o.ordered; total = o.total; is = o.is }
 
+pub pair_within : (g : ℕ → ℕ) (rest from end v : ℕ) {near far : ℕ} (o : IsPairValue g rest near far v) → from ≤ o.a → o.a < end → IsPairValue g rest from end v
+pair_within g rest from end v o high low = record { a = o.a; b = o.b; high = high; low = low; ordered = o.ordered; total = o.total; is = o.is }
+
 -- the next pair
 pub pairs_more : (g : ℕ → ℕ) (rest from a b : ℕ) (x y z : List Bool) → from ≤ a → a ≤ b → a + b ≡ rest
     → AddsMarks x y (IsPairValue g rest from a) → AddsMarks y z (λ v. v ≡ bit_xor (g a) (g b)) → AddsMarks x z (IsPairValue g rest from (a + 1))
@@ -53,6 +56,15 @@ pairs_more g rest from a b x y z high ordered total p q =
     ])
     (λ v o. pair_to g rest from (a + 1) v o (omega (arith, o.low)))
     (λ v e. record { a = a; b = b; high = high; low = omega arith; ordered = ordered; total = total; is = e })
+
+-- the pairs of the next range
+pub pair_ranges : (g : ℕ → ℕ) (rest from middle end : ℕ) (x y z : List Bool) → from ≤ middle → middle ≤ end
+    → AddsMarks x y (IsPairValue g rest from middle) → AddsMarks y z (IsPairValue g rest middle end) → AddsMarks x z (IsPairValue g rest from end)
+pair_ranges g rest from middle end x y z l h p q =
+    AddsMarks-then x y z (IsPairValue g rest from middle) (IsPairValue g rest middle end) (IsPairValue g rest from end) p q
+    (λ v o. elim (cases_lt o.a middle) [ inl lt ↦ inl (pair_to g rest from middle v o lt) | inr le ↦ inr (pair_within g rest middle end v o le o.low) ])
+    (λ v o. pair_to g rest from end v o (omega (arith, o.low)))
+    (λ v o. pair_within g rest from end v o (omega (arith, o.high)) o.low)
 
 -- the next heap of the list leaves a pair
 pub rare_more : (g : ℕ → ℕ) (heaps : List ℕ) (rest at b : ℕ) (x y z : List Bool) → 1 ≤ slice_index heaps at → 1 ≤ b → slice_index heaps at + b ≡ rest

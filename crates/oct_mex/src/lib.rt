@@ -12,9 +12,10 @@
 //! - In most games few heaps are rare under a mask, and the options with such a heap settle the mex: `rare`. The best
 //!   mask is found by a transform of the counts of the values: `mask`.
 //! - Where they don't settle it, other pairs are marked, and the few values that are still not marked are sought in
-//!   those that are left, many pairs at a time: `next`, `marks`, `pairs`.
-//! - A `Cell` holds a nim-value in 8, 16 or 32 bits, and a `Row` the values of a game in cells: the functions over
-//!   them are the same for each width, with clauses over the numbers in the cells.
+//!   those that are left, both many pairs at a time: `next`, `marks`, `pairs`.
+//! - A `Cell` holds a nim-value in 8, 16 or 32 bits, and a `Row` the values of a game in cells. What is done with many
+//!   pairs at a time is in `cell`, once for each width; all other functions over cells are the same for each, with
+//!   clauses over the numbers in the cells.
 //! - Where no large heap is rare, the next value is settled by those of the small heaps and of the last ones: `settled`.
 //! - Once they show a period that holds for ever, the further values are copied.
 //! - `find_period` looks for the least period that first nim-values show, and for the least heap from which on they do.
@@ -35,7 +36,7 @@ mod row;
 mod settled;
 mod values;
 
-pub use cell::Cell;
+pub use cell::{Cell, LANES};
 pub use difference::first_difference;
 pub use mask::{Mask, NO_MASK};
 pub use oct_code::OutOfMemory;

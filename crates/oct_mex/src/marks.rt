@@ -5,7 +5,7 @@ ghost use Rattle.oct_code.specs.Code as octal;
 ghost use Rattle.oct_mex.specs.Marks.{AddsMarks, IsBelow, IsMarked, IsOneHeapBy, IsPairBy, IsPairValue, IsRareBy, IsRarePair, IsTableFor};
 ghost use Rattle.oct_mex.specs.Rare.{AreBeside};
 
-use crate::cell::Cell;
+use crate::cell::{Cell, LANES};
 use oct_code::{Code, LIMIT};
 
 /// How long a table can get whose length is a power of two above the nim-values of the heaps up to a size.
@@ -100,8 +100,28 @@ fn mark_pairs<T: Cell>(values: &[T], rest: usize, from: usize, end: usize, marks
     requires table { IsTableFor (map T.number values.now) (length marks.old) }
     ensures { AddsMarks marks.old marks.new (IsPairValue (slice_index (map T.number values.now)) rest from end) }
 {
-    for a in from..end.min(rest / 2 + 1) {
+    let end = end.min(rest / 2 + 1);
+    let mut at = from;
+    while at < end && LANES <= end - at {
+        mark_lanes(values, rest, at, marks);
+        at += LANES;
+    }
+    for a in at..end {
         mark(marks, values[a].number() ^ values[rest - a].number());
+    }
+}
+
+// The same for `LANES` pairs.
+fn mark_lanes<T: Cell>(values: &[T], rest: usize, from: usize, marks: &mut [bool])
+    requires some { 1 ≤ from }
+    requires smaller { from + LANES ≤ rest / 2 + 1 }
+    requires held { rest ≤ length values.now }
+    requires table { IsTableFor (map T.number values.now) (length marks.old) }
+    ensures { AddsMarks marks.old marks.new (IsPairValue (slice_index (map T.number values.now)) rest from (from + LANES)) }
+{
+    let sums = T::nim_sums(values, rest, from);
+    for lane in 0..LANES {
+        mark(marks, sums[lane].number());
     }
 }
 

@@ -4,11 +4,8 @@ ghost use Rattle.std.specs.Prelude.{◌≡◌, ◌+◌, ◌/◌, ◌<◌, ◌≤
 ghost use Rattle.oct_mex.specs.Marks.{IsPairValue};
 ghost use Rattle.oct_mex.specs.Marked.{IsLatePair};
 
-use crate::cell::Cell;
+use crate::cell::{Cell, LANES};
 use oct_code::Code;
-
-// So many pairs are looked at before the walk may end.
-const BLOCK: usize = 256;
 
 /// Whether an option of the first heap that is not in the list leaves two heaps whose values have an exclusive or, the
 /// smaller one from `from` on.
@@ -32,28 +29,16 @@ fn is_met<T: Cell>(values: &[T], rest: usize, from: usize, value: T) -> bool
 {
     let end = rest / 2 + 1;
     let mut at = from;
-    while at < end {
-        let next = end.min(at + BLOCK);
-        if is_met_within(values, rest, at, next, value) {
+    while at < end && LANES <= end - at {
+        if T::has_nim_sum(values, rest, at, value) {
             return true;
         }
-        at = next;
+        at += LANES;
+    }
+    for a in at..end {
+        if values[a].number() ^ values[rest - a].number() == value.number() {
+            return true;
+        }
     }
     false
-}
-
-// The same for a range of the smaller heap. The values from its start on are compared with those before the rest, and with
-// no way out, so that many are compared at a time.
-fn is_met_within<T: Cell>(values: &[T], rest: usize, from: usize, end: usize, value: T) -> bool
-    requires some { 1 ≤ from }
-    requires ordered { from ≤ end }
-    requires smaller { end ≤ rest / 2 + 1 }
-    requires held { rest ≤ length values.now }
-    ensures { IsTrue result ↔ IsPairValue (slice_index (map T.number values.now)) rest from end (T.number value) }
-{
-    let mut met = false;
-    for a in from..end {
-        met |= values[a].number() ^ values[rest - a].number() == value.number();
-    }
-    met
 }

@@ -10,3 +10,6 @@ invariant-loop-at g l = record {
 
 abbrev pub decreases-loop-at : goal.decreases-loop-at
 decreases-loop-at g l = l.end - l.at
+
+abbrev pub invariant-loop-a : goal.invariant-loop-a
+invariant-loop-a g l = IsPairValue (slice_index (map g.T.Cell.number l.values)) l.rest l.from l.a (g.T.Cell.number l.value) → ⊥
