@@ -2,20 +2,21 @@
 use Rattle.std.specs.Prelude.{◌==◌, Option, Some, None, Result, map, if◌then◌else◌}
 use Rattle.std.specs.Result.{result_err}
 use Rattle.oct_delta.specs.Text.{Bytes}
-use Rattle.census_core.specs.Asking as asking
-use Rattle.census_core.specs.Claiming as claiming
-use Rattle.census_core.specs.Extending as extending
-use Rattle.census_core.specs.Finding as finding
-use Rattle.census_core.specs.Issuing as issuing
-use Rattle.census_core.specs.Moving as moving
-use Rattle.census_core.specs.Overview as overview
-use Rattle.census_core.specs.States as states
-use Rattle.census_core.specs.Viewing as viewing
-use Rattle.census_core.specs.Replies.{Answer}
-use Rattle.census_core.specs.declared.fault.Fault.{Fault}
-use Rattle.census_core.specs.declared.fault.Fault.TheVariants.{Zero}
-use Rattle.census_core.specs.declared.request.Request.{Request}
-use Rattle.census_core.specs.declared.request.Request.TheVariants.{Init, Renumber, Import, Claim, Compute, Extend, Find, Survey, Period, Note, Unnote, Merge, Delta, Value, Move, Page, Show, Bfile, Plot, Json, Report, Games, Only}
+use Rattle.census_fold.specs.Deltas as deltas
+use Rattle.census_tell.specs.Asking as asking
+use Rattle.census_issue.specs.Claiming as claiming
+use Rattle.census_issue.specs.Extending as extending
+use Rattle.census_issue.specs.Finding as finding
+use Rattle.census_issue.specs.Issuing as issuing
+use Rattle.census_tell.specs.Moving as moving
+use Rattle.census_tell.specs.Overview as overview
+use Rattle.census_state.specs.States as states
+use Rattle.census_tell.specs.Viewing as viewing
+use Rattle.census_state.specs.Replies.{Answer}
+use Rattle.census_state.specs.declared.fault.Fault.{Fault}
+use Rattle.census_state.specs.declared.fault.Fault.TheVariants.{Zero}
+use Rattle.census_state.specs.declared.request.Request.{Request}
+use Rattle.census_state.specs.declared.request.Request.TheVariants.{Init, Renumber, Import, Claim, Compute, Extend, Find, Survey, Period, Note, Unnote, Merge, Delta, Value, Move, Page, Show, Bfile, Plot, Json, Report, Games, Only}
 
 -- the new state, the file and the text, or the first fault: a number out of its range, then that of the state, then those of the command in its order, then
 -- that no number is left, then that there are too many operations
@@ -32,7 +33,7 @@ performed (Period code start period) state file = issuing.period state code.item
 performed (Note name text) state file = issuing.note state name.items text.items
 performed (Unnote name) state file = issuing.unnote state name.items
 performed Merge state file = states.merge state file
-performed Delta state file = asking.delta state
+performed Delta state file = deltas.delta state
 performed (Value code heaps form) state file = asking.value form state code.items heaps.items
 performed (Move code heaps form) state file = moving.winning form state code.items heaps.items
 performed (Page number) state file = asking.page state number

@@ -2,20 +2,14 @@
 
 ghost use Rattle.std.specs.Prelude.{◌≡◌, ◌≢◌, Ok, Err, IfOk, IfErr, IfSome};
 ghost use Rattle.census_core.specs.Performed.{number_fault, performed};
-ghost use Rattle.census_core.specs.Replies.{answer_of};
+ghost use Rattle.census_state.specs.Replies.{answer_of};
 
-use crate::asking::{Question, answer, delta, page};
-use crate::claiming::claim;
-use crate::fault::Fault;
-use crate::finding::find;
-use crate::issuing::{compute, import, note, unnote};
-use crate::overview::{games, show_only};
-use crate::progress::{Progress, Silent};
-use crate::reply::Reply;
-use crate::request::Request;
-use crate::states::{init, merge, renumber};
-use crate::surveying::{Aim, give_turns};
-use crate::viewing::{View, show};
+use crate::progress::Nobody;
+use census_fold::delta;
+use census_issue::{Aim, claim, compute, find, give_turns, import, note, unnote};
+use census_state::{Fault, Reply, Request, View, init, merge, renumber};
+use census_tell::{Question, answer, games, page, show, show_only};
+use oct_window::Progress;
 use std::alloc::Global;
 
 /// Does one command, from the bytes of the state file and of another file: what is to be written, and the text. `Init`
@@ -28,7 +22,7 @@ pub fn perform(alloc: Global, request: &Request, state: &[u8], file: &[u8]) -> R
     ensures err { IfErr result (λ e. e ≢ Fault.OutOfMemory → performed request.now state.now file.now ≡ Err e) }
     ensures numbers { IfSome (number_fault request.now) (λ e. result ≡ Err e) }
 {
-    perform_watched(alloc, request, state, file, &mut Silent)
+    perform_watched(alloc, request, state, file, &mut Nobody)
 }
 
 /// Does one command as `perform`, and tells how far it is.
@@ -56,7 +50,7 @@ pub fn perform_watched<P: Progress>(
         Request::Survey { count, codes, form } => {
             give_turns(alloc, state, *count, codes, Aim::Survey(*form), progress)
         }
-        Request::Period { code, e, p } => crate::issuing::period(alloc, state, code, *e, *p),
+        Request::Period { code, e, p } => census_issue::period(alloc, state, code, *e, *p),
         Request::Note { name, text } => note(alloc, state, name, text),
         Request::Unnote { name } => unnote(alloc, state, name),
         Request::Merge => merge(alloc, state, file),

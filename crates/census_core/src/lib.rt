@@ -20,77 +20,25 @@
 //! - `Fault` says why a run ended early, and `laws` what holds of every state file.
 #![tactic(auto)]
 
-mod asking;
-mod checking;
-mod claiming;
-mod codes;
 mod command;
-mod digests;
-mod extending;
-mod fault;
-mod fault_text;
-mod finding;
-mod fold;
-mod hexadecimal;
-mod import;
-mod import_error;
-mod input;
-mod issuing;
-mod json_lines;
 pub mod laws;
-mod lines;
-mod listing;
-mod moving;
-mod opened;
-mod overview;
 mod progress;
-mod reading;
-mod reply;
-mod request;
-mod saved;
-mod saved_error;
-mod search_text;
-mod searching;
-mod site;
-mod sought_text;
-mod states;
-mod surveying;
-mod taken;
-mod texts;
-mod turning;
-mod unions;
-mod verdicts;
-mod viewing;
-mod windowed;
-mod words;
 
-pub use checking::{Checked, check};
+pub use census_fold::{
+    Intake, digest, fold_intake, fold_lines, read_together, record_digest, unite,
+};
+pub use census_issue::{Aim, Turns, check_count, import_block};
+pub use census_judge::{Checked, Judged, Verdict, check, judge, tally};
+pub use census_search::{
+    SEARCH_LIMIT, WINDOW_LIMIT, first_values, read_search, resume_in_windows, search,
+    search_in_windows, write_values,
+};
+pub use census_state::{
+    Fault, INPUT_LIMIT, ImportError, Rejoined, Reply, Request, SavedError, View, number,
+    read_whole, rejoin, rejoin_grown, unchanged,
+};
+pub use census_tell::{Shelf, write_site};
 pub use command::{perform, perform_watched};
-pub use digests::{digest, record_digest};
-pub use extending::check_count;
-pub use fault::Fault;
-pub use fold::{fold_intake, fold_lines};
-pub use import::import_block;
-pub use import_error::ImportError;
-pub use input::{INPUT_LIMIT, read_whole};
-pub use listing::write_values;
 pub use oct_saved::write_place;
-pub use oct_views::{Form, Told};
-pub use oct_window::{Forgetful, Keeper, Place, Unkept};
-pub use progress::Progress;
-pub use reading::read_together;
-pub use reply::Reply;
-pub use request::Request;
-pub use saved::read_search;
-pub use saved_error::SavedError;
-pub use searching::{SEARCH_LIMIT, first_values, search};
-pub use site::{Shelf, write_site};
-pub use states::{Rejoined, rejoin, rejoin_grown, unchanged};
-pub use surveying::Aim;
-pub use taken::Intake;
-pub use turning::Turns;
-pub use unions::unite;
-pub use verdicts::{Judged, Verdict, judge, tally};
-pub use viewing::View;
-pub use windowed::{WINDOW_LIMIT, resume_in_windows, search_in_windows};
-pub use words::number;
+pub use oct_text::{Form, Told};
+pub use oct_window::{Forgetful, Keeper, Place, Progress, Unkept};

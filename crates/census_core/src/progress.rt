@@ -1,12 +1,12 @@
 //! How far a command is.
 
 use oct_code::Code;
-pub use oct_window::Progress;
+use oct_window::Progress;
 
-/// Tells nobody.
+/// Is not interested in how far a command is.
 #[derive(Drop)]
-pub(crate) struct Silent;
+pub(crate) struct Nobody;
 
-impl Progress for Silent {
+impl Progress for Nobody {
     fn tell(&mut self, _code: Code, _known: u64, _wanted: u64) {}
 }

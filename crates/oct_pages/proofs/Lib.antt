@@ -1,10 +1,9 @@
+pub use Rattle.oct_text.proofs.Growing
+pub use Rattle.oct_text.proofs.Members
 pub mod Rows
-pub mod Growing
-pub mod Ranges
 pub mod Held
 pub mod Lines
 pub mod GameParts
-pub mod Members
 pub mod Building
 pub mod BuiltGames
 pub mod Keys
@@ -12,4 +11,4 @@ pub mod RestLines
 mod GroupLaws
 mod Pushing
 pub mod SheetLaws
-mod Windows
+mod Pagers

@@ -20,16 +20,7 @@ use Rattle.oct_period.specs.FarBlocks.{block_status}
 use Rattle.oct_period.specs.Periods.{period_status}
 use Rattle.oct_period.specs.declared.status.PeriodStatus.{PeriodStatus}
 use Rattle.oct_period.specs.declared.status.PeriodStatus.TheVariants as of_claim
-
-abbrev pub Text : Type 0
-Text = List ℕ
-
--- a text, and then a number
-abbrev pub labelled : Text → ℕ → Text
-labelled label n = label ++ decimal n
-
-abbrev pub dot_text : Dot → Text
-dot_text d = decimal d.author ++ codes "." ++ decimal d.number
+pub use Rattle.oct_text.specs.Words.{Text, labelled, dot_text}
 
 -- ---- games
 

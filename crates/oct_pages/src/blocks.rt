@@ -6,8 +6,8 @@ ghost use Rattle.oct_pages.specs.Growth.{Extends};
 
 use crate::line::Line;
 use crate::statuses::BlockRow;
-use crate::words::{append_labelled, append_labelled_dot, append_text};
 use oct_code::Code;
+use oct_text::{append_labelled, append_labelled_dot, append_text};
 use oct_verify::Status;
 use std::alloc::{AllocError, Allocator};
 

@@ -7,19 +7,19 @@ ghost use Rattle.oct_pages.specs.Catalogue.{catalogue, has_page, lines, page as 
 ghost use Rattle.oct_pages.specs.GamesIn.{AreGamesIn};
 ghost use Rattle.oct_pages.specs.Growth.{Extends};
 ghost use Rattle.oct_pages.specs.Rest.{lines_after_games};
-ghost use Rattle.oct_pages.specs.Window.{Shown};
+ghost use Rattle.oct_pages.specs.Pager.{AreShown};
 
 use crate::authors::{append_authors, append_forks};
 use crate::games::append_games;
 use crate::line::{Line, show};
 use crate::notes::append_notes;
-use crate::window::Window;
-use crate::words::append_text;
+use crate::pager::Pager;
 use oct_code::Code;
 use oct_notes::Notes;
 use oct_period::Game;
 use oct_record::Record;
 use oct_store::Store;
+use oct_text::append_text;
 use std::alloc::{AllocError, Allocator};
 use std::collections::BTreeMap;
 
@@ -35,7 +35,7 @@ pub fn write_catalogue_with<A: Allocator + Copy>(
     ensures ok { OnOk result (out.new.items ≡ out.old.items ++ catalogue (listed said.now.ops)) }
     ensures err { OnErr result (out.new.items ≡ out.old.items) }
 {
-    append_shown(said, kept, &mut Window::All, out)
+    append_shown(said, kept, &mut Pager::All, out)
 }
 
 /// Appends one page of that catalogue, its lines from `64 * page` on, at most 64 of them, and says whether there is
@@ -52,9 +52,9 @@ pub fn write_page_with<A: Allocator + Copy>(
     ensures none { IfOk result (λ found. found ≡ false → out.new.items ≡ out.old.items) }
     ensures err { OnErr result (out.new.items ≡ out.old.items) }
 {
-    let mut window = Window::page(page);
-    append_shown(said, kept, &mut window, out)?;
-    Ok(window.is_reached())
+    let mut pager = Pager::page(page);
+    append_shown(said, kept, &mut pager, out)?;
+    Ok(pager.is_reached())
 }
 
 /// Appends the catalogue of what was said to `out`, with one game in memory at a time. The one error is that memory is
@@ -88,15 +88,15 @@ pub fn write_page_of<A: Allocator + Copy>(
 fn append_shown<A: Allocator + Copy>(
     said: &Record<A>,
     kept: &BTreeMap<Code, Game<A>, A>,
-    window: &mut Window,
+    pager: &mut Pager,
     out: &mut Vec<u8, A>,
 ) -> Result<(), AllocError>
     requires { AreGamesIn said.now.ops kept.now }
-    ensures ok { OnOk result (Shown window.old window.new out.old.items out.new.items (lines (listed said.now.ops))) }
+    ensures ok { OnOk result (AreShown pager.old pager.new out.old.items out.new.items (lines (listed said.now.ops))) }
     ensures err { OnErr result (out.new.items ≡ out.old.items) }
 {
     let before = out.len();
-    let written = append_lines(out, window, said, kept);
+    let written = append_lines(out, pager, said, kept);
     if written.is_err() {
         out.truncate(before);
     }
@@ -106,34 +106,34 @@ fn append_shown<A: Allocator + Copy>(
 // Appends what is shown of all lines.
 fn append_lines<A: Allocator + Copy>(
     out: &mut Vec<u8, A>,
-    window: &mut Window,
+    pager: &mut Pager,
     said: &Record<A>,
     kept: &BTreeMap<Code, Game<A>, A>,
 ) -> Result<(), AllocError>
     requires { AreGamesIn said.now.ops kept.now }
-    ensures ok { OnOk result (Shown window.old window.new out.old.items out.new.items (lines (listed said.now.ops))) }
+    ensures ok { OnOk result (AreShown pager.old pager.new out.old.items out.new.items (lines (listed said.now.ops))) }
     ensures grown { Extends out.old.items out.new.items }
 {
-    show(out, window, &Fixed(b"census 2\n"))?;
-    append_games(out, window, said, kept)?;
-    append_rest(out, window, said.store(), said.notes())
+    show(out, pager, &Fixed(b"census 2\n"))?;
+    append_games(out, pager, said, kept)?;
+    append_rest(out, pager, said.store(), said.notes())
 }
 
 // Appends what is shown of the lines after the games.
 fn append_rest<A: Allocator + Copy>(
     out: &mut Vec<u8, A>,
-    window: &mut Window,
+    pager: &mut Pager,
     store: &Store<A>,
     notes: &Notes<A>,
 ) -> Result<(), AllocError>
     requires { notes.now ≡ notes_of store.now }
-    ensures ok { OnOk result (Shown window.old window.new out.old.items out.new.items (lines_after_games (listed store.now))) }
+    ensures ok { OnOk result (AreShown pager.old pager.new out.old.items out.new.items (lines_after_games (listed store.now))) }
     ensures grown { Extends out.old.items out.new.items }
 {
-    append_notes(out, window, notes)?;
-    append_forks(out, window, store)?;
-    append_authors(out, window, store)?;
-    show(out, window, &Fixed(b"end\n"))
+    append_notes(out, pager, notes)?;
+    append_forks(out, pager, store)?;
+    append_authors(out, pager, store)?;
+    show(out, pager, &Fixed(b"end\n"))
 }
 
 // A line that is always the same.

@@ -6,9 +6,9 @@ ghost use Rattle.oct_pages.specs.Growth.{Extends};
 
 use crate::line::Line;
 use crate::statuses::PeriodRow;
-use crate::words::{append_labelled, append_labelled_dot, append_text};
 use oct_ops::{Dot, Period};
 use oct_period::PeriodStatus;
+use oct_text::{append_labelled, append_labelled_dot, append_text};
 use std::alloc::{AllocError, Allocator};
 
 impl Line for PeriodRow {

@@ -10,14 +10,14 @@ ghost use Rattle.oct_pages.specs.Contents.{game_content};
 ghost use Rattle.oct_pages.specs.GamesIn.{AreGamesIn};
 ghost use Rattle.oct_pages.specs.Growth.{Extends};
 ghost use Rattle.oct_pages.specs.Sheet.{sheet_by, sheet_lines};
-ghost use Rattle.oct_pages.specs.Window.{Shown};
+ghost use Rattle.oct_pages.specs.Pager.{AreShown};
 
 use crate::blocks::GameHead;
 use crate::built::game_of;
 use crate::game::GameSheet;
 use crate::line::{show, show_each};
+use crate::pager::Pager;
 use crate::values::append_values;
-use crate::window::Window;
 use oct_code::Code;
 use oct_join::OpSet;
 use oct_period::Game;
@@ -28,18 +28,18 @@ use std::collections::BTreeMap;
 /// Appends what is shown of the lines of all games of what was said.
 pub(crate) fn append_games<A: Allocator + Copy>(
     out: &mut Vec<u8, A>,
-    window: &mut Window,
+    pager: &mut Pager,
     said: &Record<A>,
     kept: &BTreeMap<Code, Game<A>, A>,
 ) -> Result<(), AllocError>
     requires { AreGamesIn said.now.ops kept.now }
-    ensures ok { OnOk result (Shown window.old window.new out.old.items out.new.items (flat_map (game_lines (listed said.now.ops)) (games_of (listed said.now.ops)))) }
+    ensures ok { OnOk result (AreShown pager.old pager.new out.old.items out.new.items (flat_map (game_lines (listed said.now.ops)) (games_of (listed said.now.ops)))) }
     ensures grown { Extends out.old.items out.new.items }
 {
     let games = said.games();
     prove!(games.len() <= usize::MAX);
     for (code, ops) in games.iter() {
-        append_game(out, window, said, kept, *code, ops)?;
+        append_game(out, pager, said, kept, *code, ops)?;
     }
     Ok(())
 }
@@ -47,7 +47,7 @@ pub(crate) fn append_games<A: Allocator + Copy>(
 // Appends what is shown of the lines of a game with these operations. Where it is not kept, it is built, and let go after them.
 fn append_game<A: Allocator + Copy>(
     out: &mut Vec<u8, A>,
-    window: &mut Window,
+    pager: &mut Pager,
     said: &Record<A>,
     kept: &BTreeMap<Code, Game<A>, A>,
     code: Code,
@@ -55,47 +55,47 @@ fn append_game<A: Allocator + Copy>(
 ) -> Result<(), AllocError>
     requires kept { AreGamesIn said.now.ops kept.now }
     requires its { ops.now ≡ summary.of_game said.now.ops code }
-    ensures ok { OnOk result (Shown window.old window.new out.old.items out.new.items (game_lines (listed said.now.ops) code)) }
+    ensures ok { OnOk result (AreShown pager.old pager.new out.old.items out.new.items (game_lines (listed said.now.ops) code)) }
     ensures grown { Extends out.old.items out.new.items }
 {
     if let Some(game) = kept.get(&code) {
-        return append_game_lines(said.allocator(), out, window, game, ops);
+        return append_game_lines(said.allocator(), out, pager, game, ops);
     }
     let game = game_of(said, code)?;
-    append_game_lines(said.allocator(), out, window, &game, ops)
+    append_game_lines(said.allocator(), out, pager, &game, ops)
 }
 
 // Appends what is shown of the lines of a game, which holds the blocks of these operations.
 fn append_game_lines<A: Allocator + Copy>(
     alloc: A,
     out: &mut Vec<u8, A>,
-    window: &mut Window,
+    pager: &mut Pager,
     game: &Game<A>,
     ops: &OpSet<A>,
 ) -> Result<(), AllocError>
     requires { list_all (contains game.now.blocks) (blocks_of game.now.code (listed ops.now)) ≡ true }
-    ensures ok { OnOk result (Shown window.old window.new out.old.items out.new.items (sheet_lines (sheet_by game.now (listed ops.now)))) }
+    ensures ok { OnOk result (AreShown pager.old pager.new out.old.items out.new.items (sheet_lines (sheet_by game.now (listed ops.now)))) }
     ensures grown { Extends out.old.items out.new.items }
 {
     let sheet = GameSheet::of_game(alloc, game, ops)?;
-    append_sheet(out, window, &sheet)
+    append_sheet(out, pager, &sheet)
 }
 
 // Appends what is shown of the lines of a game's sheet.
 fn append_sheet<A: Allocator + Copy>(
     out: &mut Vec<u8, A>,
-    window: &mut Window,
+    pager: &mut Pager,
     sheet: &GameSheet<'_, A>,
 ) -> Result<(), AllocError>
-    ensures ok { OnOk result (Shown window.old window.new out.old.items out.new.items (sheet_lines (game_content sheet.now))) }
+    ensures ok { OnOk result (AreShown pager.old pager.new out.old.items out.new.items (sheet_lines (game_content sheet.now))) }
     ensures grown { Extends out.old.items out.new.items }
 {
     let head = GameHead {
         code: &sheet.code,
         known: sheet.values.len(),
     };
-    show(out, window, &head)?;
-    append_values(out, window, sheet.values)?;
-    show_each(out, window, &sheet.blocks)?;
-    show_each(out, window, &sheet.periods)
+    show(out, pager, &head)?;
+    append_values(out, pager, sheet.values)?;
+    show_each(out, pager, &sheet.blocks)?;
+    show_each(out, pager, &sheet.periods)
 }

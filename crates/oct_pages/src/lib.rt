@@ -16,10 +16,11 @@
 //! - `write_catalogue` appends the text of a set of operations and what is kept beside it, its `Parts`; `write_page` one page of it.
 //! - `write_catalogue_with` and `write_page_with` do so of a record of what was said, for whoever keeps games; one that is not kept
 //!   is built when its lines are due, and let go after them.
-//! - `write_catalogue_of` and `write_page_of` do so where no game is kept. `game_of` builds one.
+//! - `write_catalogue_of` and `write_page_of` do so where no game is kept. `game_of` builds one, and
+//!   `codes_of` gives the codes of all.
 //! - `GameSheet` is what the lines of a game tell, and what other views show of it: its known nim-values, its blocks and its
 //!   claims with their statuses. It is read off a game once.
-//! - `append_text`, `append_number`, `append_dot` and the rest of `words` append a part of a line.
+//! - `append_text`, `append_number`, `append_dot` and the other words of `oct_text` append a part of a line.
 //!
 //! `specs/Catalogue` is this text, line by line.
 #![tactic(auto)]
@@ -29,24 +30,25 @@ mod blocks;
 mod built;
 mod catalogue;
 mod claims;
+mod codes;
 mod game;
 mod game_sheet;
 mod games;
 mod line;
 mod notes;
+mod pager;
 mod parts;
 mod statuses;
 mod values;
-mod window;
-mod words;
 
 pub use built::game_of;
 pub use catalogue::{write_catalogue_of, write_catalogue_with, write_page_of, write_page_with};
+pub use codes::codes_of;
 pub use game::GameSheet;
 pub use oct_code::OutOfMemory;
-pub use parts::{Parts, write_catalogue, write_page};
-pub use statuses::{BlockRow, PeriodRow};
-pub use words::{
+pub use oct_text::{
     append_dot, append_labelled, append_labelled_dot, append_labelled_text, append_number,
     append_text,
 };
+pub use parts::{Parts, write_catalogue, write_page};
+pub use statuses::{BlockRow, PeriodRow};

@@ -3,9 +3,9 @@
 ghost use Rattle.std.specs.Prelude.{◌≡◌, ◌++◌, ◌∷◌, [], map, OnOk};
 ghost use Rattle.oct_pages.specs.Catalogue.{Text};
 ghost use Rattle.oct_pages.specs.Growth.{Extends};
-ghost use Rattle.oct_pages.specs.Window.{Shown};
+ghost use Rattle.oct_pages.specs.Pager.{AreShown};
 
-use crate::window::Window;
+use crate::pager::Pager;
 use std::alloc::{AllocError, Allocator};
 
 /// What a catalogue has a line of.
@@ -21,13 +21,13 @@ pub(crate) trait Line {
 /// Appends the line, where it is shown.
 pub(crate) fn show<L: Line, A: Allocator>(
     out: &mut Vec<u8, A>,
-    window: &mut Window,
+    pager: &mut Pager,
     line: &L,
 ) -> Result<(), AllocError>
-    ensures ok { OnOk result (Shown window.old window.new out.old.items out.new.items (L.spelled line.now ∷ [])) }
+    ensures ok { OnOk result (AreShown pager.old pager.new out.old.items out.new.items (L.spelled line.now ∷ [])) }
     ensures grown { Extends out.old.items out.new.items }
 {
-    if !window.pass() {
+    if !pager.pass() {
         return Ok(());
     }
     line.append(out)
@@ -36,14 +36,14 @@ pub(crate) fn show<L: Line, A: Allocator>(
 /// Appends what is shown of the lines.
 pub(crate) fn show_each<L: Line, A: Allocator>(
     out: &mut Vec<u8, A>,
-    window: &mut Window,
+    pager: &mut Pager,
     lines: &[L],
 ) -> Result<(), AllocError>
-    ensures ok { OnOk result (Shown window.old window.new out.old.items out.new.items (map L.spelled lines.now)) }
+    ensures ok { OnOk result (AreShown pager.old pager.new out.old.items out.new.items (map L.spelled lines.now)) }
     ensures grown { Extends out.old.items out.new.items }
 {
     for line in lines {
-        show(out, window, line)?;
+        show(out, pager, line)?;
     }
     Ok(())
 }

@@ -5,26 +5,26 @@ ghost use Rattle.oct_notes.specs.Notes.{live_notes};
 ghost use Rattle.oct_ops.specs.Operations.{listed};
 ghost use Rattle.oct_pages.specs.Catalogue.{note_line, note_text};
 ghost use Rattle.oct_pages.specs.Growth.{Extends};
-ghost use Rattle.oct_pages.specs.Window.{Shown};
+ghost use Rattle.oct_pages.specs.Pager.{AreShown};
 
 use crate::line::{Line, show_each};
-use crate::window::Window;
-use crate::words::{append_labelled_dot, append_labelled_text, append_text};
+use crate::pager::Pager;
 use oct_notes::Notes;
 use oct_ops::{Body, Dot, Note, Op};
+use oct_text::{append_labelled_dot, append_labelled_text, append_text};
 use std::alloc::{AllocError, Allocator};
 
 /// Appends what is shown of the lines of the live notes.
 pub(crate) fn append_notes<A: Allocator + Copy>(
     out: &mut Vec<u8, A>,
-    window: &mut Window,
+    pager: &mut Pager,
     notes: &Notes<A>,
 ) -> Result<(), AllocError>
-    ensures ok { OnOk result (Shown window.old window.new out.old.items out.new.items (map note_line (live_notes (listed notes.now)))) }
+    ensures ok { OnOk result (AreShown pager.old pager.new out.old.items out.new.items (map note_line (live_notes (listed notes.now)))) }
     ensures grown { Extends out.old.items out.new.items }
 {
     let live = notes.live_refs()?;
-    show_each(out, window, &live)
+    show_each(out, pager, &live)
 }
 
 impl<B: Allocator> Line for &Op<B> {

@@ -4,10 +4,10 @@ ghost use Rattle.std.specs.Prelude.{◌≡◌, ◌*◌, ◌<◌, ◌^◌, ◌++�
 ghost use Rattle.std.specs.List.{flat_map};
 ghost use Rattle.oct_pages.specs.Catalogue.{value_text, values_per_line, values_text, values_line, values_lines};
 ghost use Rattle.oct_pages.specs.Growth.{Extends};
-ghost use Rattle.oct_pages.specs.Window.{Shown};
+ghost use Rattle.oct_pages.specs.Pager.{AreShown};
 
-use crate::window::Window;
-use crate::words::{append_labelled, append_text};
+use crate::pager::Pager;
+use oct_text::{append_labelled, append_text};
 use std::alloc::{AllocError, Allocator};
 
 // How many values stand in a line.
@@ -16,15 +16,15 @@ const VALUES_PER_LINE: usize = 16;
 /// Appends what is shown of the lines of all values, which are those of the heaps from 0 on.
 pub(crate) fn append_values<A: Allocator>(
     out: &mut Vec<u8, A>,
-    window: &mut Window,
+    pager: &mut Pager,
     values: &[u32],
 ) -> Result<(), AllocError>
     requires { length values.now < 2 ^ 32 }
-    ensures ok { OnOk result (Shown window.old window.new out.old.items out.new.items (values_lines values.now)) }
+    ensures ok { OnOk result (AreShown pager.old pager.new out.old.items out.new.items (values_lines values.now)) }
     ensures grown { Extends out.old.items out.new.items }
 {
     for line in 0..values.len().div_ceil(VALUES_PER_LINE) {
-        show_values(out, window, values, line)?;
+        show_values(out, pager, values, line)?;
     }
     Ok(())
 }
@@ -32,16 +32,16 @@ pub(crate) fn append_values<A: Allocator>(
 // Appends the line of this number, counted from 0, where it is shown.
 fn show_values<A: Allocator>(
     out: &mut Vec<u8, A>,
-    window: &mut Window,
+    pager: &mut Pager,
     values: &[u32],
     line: usize,
 ) -> Result<(), AllocError>
     requires few { length values.now < 2 ^ 32 }
     requires within { values_per_line * line < length values.now }
-    ensures ok { OnOk result (Shown window.old window.new out.old.items out.new.items (values_line values.now line ∷ [])) }
+    ensures ok { OnOk result (AreShown pager.old pager.new out.old.items out.new.items (values_line values.now line ∷ [])) }
     ensures grown { Extends out.old.items out.new.items }
 {
-    if !window.pass() {
+    if !pager.pass() {
         return Ok(());
     }
     append_values_line(out, values, line)

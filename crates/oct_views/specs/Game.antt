@@ -1,4 +1,4 @@
--- What a page shows of one game.
+-- What HTML shows of one game.
 use Rattle.std.specs.Prelude.{ℕ, List, [], ◌∷◌, codes, Option}
 use Rattle.std.specs.List.{concat, flat_map}
 use Rattle.std.specs.Fmt.{decimal}
@@ -6,19 +6,20 @@ use Rattle.oct_code.specs.Code.{Code}
 use Rattle.oct_code.specs.CodeText.{code_text}
 use Rattle.oct_ops.specs.Body.{Operation}
 use Rattle.oct_ops.specs.Operation.{Dot, Period}
-use Rattle.oct_pages.specs.Catalogue.{Text, dot_text}
+use Rattle.oct_text.specs.Words.{Text, dot_text}
 use Rattle.oct_pages.specs.declared.statuses.BlockRow.{BlockRow}
 use Rattle.oct_pages.specs.declared.statuses.PeriodRow.{PeriodRow}
 use Rattle.oct_period.specs.declared.status.PeriodStatus.{PeriodStatus}
 use Rattle.oct_period.specs.declared.status.PeriodStatus.TheVariants as of_claim
 use Rattle.oct_verify.specs.declared.status.Status.{Status}
 use Rattle.oct_verify.specs.declared.status.Status.TheVariants as of_block
-use Rattle.oct_views.specs.Escape.{name_beside}
-use Rattle.oct_views.specs.Names.{author_name}
-use Rattle.oct_views.specs.Sheet.{GameSheet}
-use Rattle.oct_views.specs.Tables.{table}
-use Rattle.oct_views.specs.Values.{sentence, values_tables}
-use Rattle.oct_views.specs.declared.shown.Shown.{Shown}
+use Rattle.oct_text.specs.Escape.{name_beside}
+use Rattle.oct_sheet.specs.Names.{author_name}
+use Rattle.oct_sheet.specs.Sheet.{GameSheet}
+use Rattle.oct_tables.specs.Tables.{table}
+use Rattle.oct_plot.specs.Sentence.{sentence}
+use Rattle.oct_tables.specs.Values.{values_tables}
+use Rattle.oct_text.specs.declared.shown.Shown.{Shown}
 
 -- ---- blocks
 

@@ -7,33 +7,33 @@ use Rattle.oct_code.specs.CodeText.{code_text}
 use Rattle.oct_ops.specs.Body as kind
 use Rattle.oct_ops.specs.Body.{Operation}
 use Rattle.oct_ops.specs.Operation.{Dot, Note, Period}
-use Rattle.oct_pages.specs.Catalogue.{Text, dot_text}
+use Rattle.oct_text.specs.Words.{Text, dot_text}
 use Rattle.oct_store.specs.declared.author.Author.{Author}
 use Rattle.oct_store.specs.declared.fork.Fork.{Fork}
-use Rattle.oct_views.specs.Escape.{escaped}
+use Rattle.oct_text.specs.Escape.{escaped}
 use Rattle.oct_views.specs.Game.{name_of_author}
-use Rattle.oct_views.specs.Names.{Called}
-use Rattle.oct_views.specs.Summary.{by_period, is_refuted}
-use Rattle.oct_views.specs.Tables.{table}
+use Rattle.oct_sheet.specs.Names.{Called}
+use Rattle.oct_sheet.specs.Summary.{by_period, is_refuted}
+use Rattle.oct_tables.specs.Tables.{table}
 use Rattle.oct_views.specs.declared.index.Links.{Links}
 use Rattle.oct_views.specs.declared.index.Links.TheVariants as links
-use Rattle.oct_views.specs.declared.index.Place.{Place}
-use Rattle.oct_views.specs.declared.index.Place.TheVariants as places
-use Rattle.oct_views.specs.declared.periodic.Periodic.{Periodic}
-use Rattle.oct_views.specs.declared.summary.Summary.{Summary}
-use Rattle.oct_views.specs.declared.summary.Tally.{Tally}
+use Rattle.oct_views.specs.declared.index.Anchor.{Anchor}
+use Rattle.oct_views.specs.declared.index.Anchor.TheVariants as anchors
+use Rattle.oct_sheet.specs.declared.periodic.Periodic.{Periodic}
+use Rattle.oct_sheet.specs.declared.summary.Summary.{Summary}
+use Rattle.oct_sheet.specs.declared.summary.Tally.{Tally}
 
 -- ---- links to games
 
--- a game has a section on the same page, or a page of its own; and there a place of what is refuted
-abbrev pub target : Links → Place → Code → Text
-target links.Here places.Game c = concat (codes "#game-" ∷ code_text c ∷ [])
-target links.Here places.Refuted c = concat (codes "#refuted-" ∷ code_text c ∷ [])
-target links.Files places.Game c = concat (code_text c ∷ codes ".html" ∷ [])
-target links.Files places.Refuted c = concat (code_text c ∷ codes ".html#refuted-" ∷ code_text c ∷ [])
+-- a game has a section in the same report, or a file of its own; and there an anchor for what is refuted
+abbrev pub target : Links → Anchor → Code → Text
+target links.Here anchors.Game c = concat (codes "#game-" ∷ code_text c ∷ [])
+target links.Here anchors.Refuted c = concat (codes "#refuted-" ∷ code_text c ∷ [])
+target links.Files anchors.Game c = concat (code_text c ∷ codes ".html" ∷ [])
+target links.Files anchors.Refuted c = concat (code_text c ∷ codes ".html#refuted-" ∷ code_text c ∷ [])
 
-abbrev pub link_text : Links → Place → Code → Text
-link_text way place c = concat (codes "<a href=\"" ∷ target way place c ∷ concat (codes "\">" ∷ code_text c ∷ codes "</a>" ∷ []) ∷ [])
+abbrev pub link_text : Links → Anchor → Code → Text
+link_text way anchor c = concat (codes "<a href=\"" ∷ target way anchor c ∷ concat (codes "\">" ∷ code_text c ∷ codes "</a>" ∷ []) ∷ [])
 
 -- ---- all games
 
@@ -50,7 +50,7 @@ totals rows = concat (
 abbrev pub refuted_cells : Links → Summary → Text
 refuted_cells way row = concat (
     codes "<tr><th scope=\"row\">"
-    ∷ link_text way places.Refuted row.code
+    ∷ link_text way anchors.Refuted row.code
     ∷ concat (codes "</th><td>" ∷ decimal row.blocks.refuted ∷ codes "</td><td>" ∷ decimal row.claims.refuted ∷ codes "</td></tr>\n" ∷ [])
     ∷ [])
 
@@ -70,7 +70,7 @@ tally_cells t = concat (
     codes "<td>" ∷ decimal t.proved ∷ codes "</td><td>" ∷ decimal t.refuted ∷ codes "</td><td>" ∷ decimal t.pending ∷ codes "</td>" ∷ [])
 
 abbrev pub known_cells : Links → Code → ℕ → Text
-known_cells way c known = concat (codes "<tr><th scope=\"row\">" ∷ link_text way places.Game c ∷ concat (codes "</th><td>" ∷ decimal known ∷ codes "</td>" ∷ []) ∷ [])
+known_cells way c known = concat (codes "<tr><th scope=\"row\">" ∷ link_text way anchors.Game c ∷ concat (codes "</th><td>" ∷ decimal known ∷ codes "</td>" ∷ []) ∷ [])
 
 abbrev pub game_row : Links → Summary → Text
 game_row way row = concat (
@@ -88,7 +88,7 @@ games_table way rows = table (codes "Games") game_columns (flat_map (game_row wa
 abbrev pub periodic_row : Links → Periodic → Text
 periodic_row way p = concat (
     concat (codes "<tr><th scope=\"row\">" ∷ decimal p.period ∷ codes "</th><td>" ∷ decimal p.start ∷ codes "</td><td>" ∷ [])
-    ∷ link_text way places.Game p.code
+    ∷ link_text way anchors.Game p.code
     ∷ codes "</td></tr>\n"
     ∷ [])
 

@@ -1,4 +1,4 @@
--- The pages of a census, as HTML that is also well-formed XML: one page of all, and a site with a page for each game.
+-- A census as HTML that is also well-formed XML: a report of all, and a site with a file for each game.
 use Rattle.std.specs.Prelude.{ℕ, ◌++◌, List, [], ◌∷◌, length, map, codes, Option}
 use Rattle.std.specs.List.{concat, flat_map}
 use Rattle.std.specs.Fmt.{decimal}
@@ -6,37 +6,39 @@ use Rattle.oct_code.specs.Code.{Code}
 use Rattle.oct_code.specs.CodeText.{code_text}
 use Rattle.oct_ops.specs.Body.{Operation}
 use Rattle.oct_ops.specs.Operation.{Period}
-use Rattle.oct_pages.specs.Catalogue.{Text}
+use Rattle.oct_text.specs.Words.{Text}
 use Rattle.oct_views.specs.Game.{game_tables}
 use Rattle.oct_views.specs.Index.{authors_table, forks_table, games_part, notes_table}
-use Rattle.oct_views.specs.Plot.{plot_with, title}
-use Rattle.oct_views.specs.Sheet.{GameSheet, Sheet}
-use Rattle.oct_views.specs.Styles.{page_style, plot_style}
-use Rattle.oct_views.specs.Summary.{summary_of}
-use Rattle.oct_views.specs.Values.{front_values, sentence}
+use Rattle.oct_plot.specs.Plot.{plot_with, title}
+use Rattle.oct_sheet.specs.Sheet.{GameSheet, Sheet}
+use Rattle.oct_views.specs.Styles.{html_style}
+use Rattle.oct_plot.specs.Style.{plot_style}
+use Rattle.oct_sheet.specs.Summary.{summary_of}
+use Rattle.oct_tables.specs.Values.{front_values}
+use Rattle.oct_plot.specs.Sentence.{sentence}
 use Rattle.oct_views.specs.declared.index.Links.TheVariants.{Files, Here}
-use Rattle.oct_views.specs.declared.shown.Shown.{Shown}
-use Rattle.oct_views.specs.declared.shown.Shown.TheVariants.{Brief}
-use Rattle.oct_views.specs.declared.summary.Summary.{Summary}
+use Rattle.oct_text.specs.declared.shown.Shown.{Shown}
+use Rattle.oct_text.specs.declared.shown.Shown.TheVariants.{Brief}
+use Rattle.oct_sheet.specs.declared.summary.Summary.{Summary}
 
--- ---- what pages have in common
+-- ---- what a report and a site have in common
 
 abbrev pub head_begin : Text
 head_begin = codes "<!DOCTYPE html>\n<html xmlns=\"http://www.w3.org/1999/xhtml\" lang=\"en\">\n<head>\n<meta charset=\"utf-8\"/>\n<meta name=\"viewport\" content=\"width=device-width, initial-scale=1\"/>\n<title>"
 
--- the style of a page that is a file of its own
+-- the style, where it stands inside
 abbrev pub style_inside : Text
-style_inside = concat (codes "<style>" ∷ page_style ∷ plot_style ∷ codes "</style>" ∷ [])
+style_inside = concat (codes "<style>" ∷ html_style ∷ plot_style ∷ codes "</style>" ∷ [])
 
 -- the style sheet of a site
 abbrev pub style_link : Text
 style_link = codes "<link rel=\"stylesheet\" href=\"style.css\"/>"
 
--- ---- a page of all games
+-- ---- all games
 
 -- what stands before the tables of all games
-abbrev pub page_head : Text → Text
-page_head style = concat (
+abbrev pub games_head : Text → Text
+games_head style = concat (
     head_begin ∷ codes "Census of nim-sequences</title>\n" ∷ style
     ∷ codes "\n</head>\n<body>\n<header>\n<h1>Census of nim-sequences</h1>\n</header>\n<nav><a href=\"#games\">Games</a> <a href=\"#periods\">Periods</a> <a href=\"#records\">Notes and authors</a></nav>\n<main>\n<div id=\"games\">\n" ∷ [])
 
@@ -45,10 +47,10 @@ abbrev pub records_part : Sheet → Text
 records_part s = concat (
     codes "</div>\n<div id=\"records\">\n" ∷ notes_table s.names s.notes ∷ forks_table s.names s.forks ∷ authors_table s.authors ∷ codes "</div>\n" ∷ [])
 
-abbrev pub page_end : Text
-page_end = codes "</main>\n</body>\n</html>\n"
+abbrev pub html_end : Text
+html_end = codes "</main>\n</body>\n</html>\n"
 
--- ---- a game on a page of all
+-- ---- a game in a report
 
 abbrev pub section_head : Code → Text
 section_head c = concat (codes "<section id=\"game-" ∷ code_text c ∷ codes "\">\n<h2>" ∷ code_text c ∷ codes "</h2>\n<figure>\n" ∷ [])
@@ -63,21 +65,21 @@ figure how g = concat (section_head g.code ∷ plot_with [] g.code (front_values
 abbrev pub section : List Operation → Shown → GameSheet → Text
 section names how g = concat (figure how g ∷ game_tables names how g ∷ codes "<p><a href=\"#games\">All games</a></p>\n</section>\n" ∷ [])
 
--- one page of all
+-- a report of all
 abbrev pub report : Shown → Sheet → Text
 report how s = concat (
-    page_head style_inside ∷ games_part Here (map summary_of s.games) ∷ records_part s ∷ flat_map (section s.names how) s.games ∷ page_end ∷ [])
+    games_head style_inside ∷ games_part Here (map summary_of s.games) ∷ records_part s ∷ flat_map (section s.names how) s.games ∷ html_end ∷ [])
 
 -- ---- the files of a site
 
 -- the table of all games
 abbrev pub index_by : List Summary → Sheet → Text
-index_by rows s = concat (page_head style_link ∷ games_part Files rows ∷ records_part s ∷ page_end ∷ [])
+index_by rows s = concat (games_head style_link ∷ games_part Files rows ∷ records_part s ∷ html_end ∷ [])
 
 abbrev pub index : Sheet → Text
 index s = index_by (map summary_of s.games) s
 
--- the picture of a game, which is a file beside its page
+-- the picture of a game, which is a file beside its HTML
 abbrev pub image_head : Code → Text → Text
 image_head c named = concat (codes "<figure>\n<img width=\"840\" height=\"430\" src=\"" ∷ code_text c ∷ codes ".svg\" alt=\"" ∷ named ∷ codes ". " ∷ [])
 
@@ -95,9 +97,9 @@ game_head c known = concat (
     ∷ decimal known ∷ codes " values known: all of them as a <a href=\"" ∷ code_text c ∷ codes ".txt\">b-file</a> and as <a href=\"" ∷ code_text c
     ∷ codes ".json\">JSON</a></p>\n" ∷ [])
 
--- the page of a game
-abbrev pub game_page : List Operation → GameSheet → Text
-game_page names g = concat (game_head g.code (length g.values) ∷ image g.code g.values g.proved ∷ game_tables names Brief g ∷ page_end ∷ [])
+-- a game as a file of a site
+abbrev pub game_html : List Operation → GameSheet → Text
+game_html names g = concat (game_head g.code (length g.values) ∷ image g.code g.values g.proved ∷ game_tables names Brief g ∷ html_end ∷ [])
 
 abbrev pub style_sheet : Text
-style_sheet = page_style ++ codes "\n"
+style_sheet = html_style ++ codes "\n"

@@ -1,27 +1,27 @@
 //! The tables of a game's blocks: of those that are refuted, and of all.
 
 ghost use Rattle.std.specs.Prelude.{◌≡◌, ◌++◌, OnOk, map};
-ghost use Rattle.oct_pages.specs.Growth.{Extends};
+ghost use Rattle.oct_text.specs.Growth.{Extends};
 ghost use Rattle.oct_views.specs.Game.{refutation_row, status_word};
 
-use crate::names::author_name;
-use crate::pieces::Piece::{Beside, Dot as DotText, Number, Text};
-use crate::pieces::append_pieces;
-use crate::tables::Rows;
 use oct_ops::{Dot, Op};
 use oct_pages::BlockRow;
+use oct_sheet::author_name;
+use oct_tables::Rows;
+use oct_text::Piece::{Beside, Dot as DotText, Number, Text};
+use oct_text::append_pieces;
 use oct_verify::Status;
 use std::alloc::{AllocError, Allocator};
 
 /// Rows of the table of refuted blocks, with the names of authors by these notes.
 #[derive(Drop)]
-pub(crate) struct Refutations<'a, 'b, B: Allocator + Copy>(pub &'a [&'b Op<B>]);
+pub(crate) struct RefutationRows<'a, 'b, B: Allocator + Copy>(pub &'a [&'b Op<B>]);
 
 /// Rows of the table of all blocks, with the names of authors by these notes.
 #[derive(Drop)]
-pub(crate) struct Blocks<'a, 'b, B: Allocator + Copy>(pub &'a [&'b Op<B>]);
+pub(crate) struct BlockRows<'a, 'b, B: Allocator + Copy>(pub &'a [&'b Op<B>]);
 
-impl<'a, 'b, B: Allocator + Copy> Rows<BlockRow> for Refutations<'a, 'b, B> {
+impl<'a, 'b, B: Allocator + Copy> Rows<BlockRow> for RefutationRows<'a, 'b, B> {
     ghost use Rattle.std.specs.Prelude.{map};
     ghost use Rattle.oct_views.specs.Game.{refuted_row};
 
@@ -41,7 +41,7 @@ impl<'a, 'b, B: Allocator + Copy> Rows<BlockRow> for Refutations<'a, 'b, B> {
     }
 }
 
-impl<'a, 'b, B: Allocator + Copy> Rows<BlockRow> for Blocks<'a, 'b, B> {
+impl<'a, 'b, B: Allocator + Copy> Rows<BlockRow> for BlockRows<'a, 'b, B> {
     ghost use Rattle.std.specs.Prelude.{map};
     ghost use Rattle.oct_views.specs.Game.{block_row};
 

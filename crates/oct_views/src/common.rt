@@ -1,22 +1,23 @@
-//! What the one page and the site have in common: a page begins and ends, and shows all games and what belongs to none.
-#![tactic(auto, using(oct_pages::proofs::Growing::extends_trans))]
+//! What a report and a site have in common: how HTML begins and ends, and the tables of what belongs to no game.
+#![tactic(auto, using(oct_text::proofs::Growing::extends_trans))]
 
 ghost use Rattle.std.specs.Prelude.{◌≡◌, ◌++◌, IfOk, OnOk};
 ghost use Rattle.oct_ops.specs.Operations.{listed};
-ghost use Rattle.oct_pages.specs.Growth.{Extends};
-ghost use Rattle.oct_views.specs.Report.{page_end, page_head, records_part, style_inside};
-ghost use Rattle.oct_views.specs.Sheet.{sheet};
+ghost use Rattle.oct_text.specs.Growth.{Extends};
+ghost use Rattle.oct_views.specs.Report.{games_head, html_end, records_part, style_inside};
+ghost use Rattle.oct_sheet.specs.Sheet.{sheet};
 
-use crate::names::{naming_among, with_names};
-use crate::pieces::Piece::Text;
-use crate::pieces::append_pieces;
-use crate::records::{Authors, Forks, Notes};
-use crate::styles::{PAGE_STYLE, PLOT_STYLE};
-use crate::tables::append_table;
+use crate::records::{AuthorRows, ForkRows, NoteRows};
+use crate::styles::HTML_STYLE;
+use oct_plot::PLOT_STYLE;
 use oct_record::Record;
+use oct_sheet::{naming_among, with_names};
+use oct_tables::append_table;
+use oct_text::Piece::Text;
+use oct_text::append_pieces;
 use std::alloc::{AllocError, Allocator};
 
-/// What stands before the title of a page.
+/// What stands before the title.
 pub(crate) const HEAD_BEGIN: &[u8] =
     b"<!DOCTYPE html>\n<html xmlns=\"http://www.w3.org/1999/xhtml\" lang=\"en\">\n<head>\n<meta charset=\"utf-8\"/>\n<meta name=\"viewport\" content=\"width=device-width, initial-scale=1\"/>\n<title>";
 
@@ -27,12 +28,12 @@ pub(crate) const FIGURE_END: &[u8] =
 /// A link to the style sheet of a site.
 pub(crate) const STYLE_LINK: &[u8] = b"<link rel=\"stylesheet\" href=\"style.css\"/>";
 
-/// Appends what stands before the tables of a page of all games, with its style inside or with that of a site.
+/// Appends what stands before the tables of all games, with the style inside or with a link to that of a site.
 pub(crate) fn append_head<A: Allocator>(
     out: &mut Vec<u8, A>,
     style: &[u8],
 ) -> Result<(), AllocError>
-    ensures ok { OnOk result (out.new.items ≡ out.old.items ++ page_head style.now) }
+    ensures ok { OnOk result (out.new.items ≡ out.old.items ++ games_head style.now) }
     ensures grown { Extends out.old.items out.new.items }
 {
     append_pieces(
@@ -48,7 +49,7 @@ pub(crate) fn append_head<A: Allocator>(
     )
 }
 
-/// The style of a page that has it inside.
+/// The style, where it stands inside.
 pub(crate) fn style_inside<A: Allocator>(alloc: A) -> Result<Vec<u8, A>, AllocError>
     ensures { IfOk result (λ style. style.items ≡ style_inside) }
 {
@@ -57,7 +58,7 @@ pub(crate) fn style_inside<A: Allocator>(alloc: A) -> Result<Vec<u8, A>, AllocEr
         &mut style,
         &[
             Text(b"<style>"),
-            Text(PAGE_STYLE),
+            Text(HTML_STYLE),
             Text(PLOT_STYLE),
             Text(b"</style>"),
         ],
@@ -78,7 +79,7 @@ pub(crate) fn append_records<A: Allocator + Copy>(
     let names = naming_among(said.allocator(), &notes)?;
     append_table(
         out,
-        &Notes(&names),
+        &NoteRows(&names),
         b"Notes",
         &[b"name", b"note", b"text"],
         &notes,
@@ -86,7 +87,7 @@ pub(crate) fn append_records<A: Allocator + Copy>(
     let forks = said.store().forks()?;
     append_table(
         out,
-        &Forks(&names),
+        &ForkRows(&names),
         b"Forks",
         &[b"dot", b"contents"],
         &forks,
@@ -95,7 +96,7 @@ pub(crate) fn append_records<A: Allocator + Copy>(
     let authors = with_names(said.allocator(), &notes, &authors)?;
     append_table(
         out,
-        &Authors,
+        &AuthorRows,
         b"Authors",
         &[b"author", b"name", b"through", b"last"],
         &authors,
@@ -103,9 +104,9 @@ pub(crate) fn append_records<A: Allocator + Copy>(
     append_pieces(out, &[Text(b"</div>\n")])
 }
 
-/// Appends the end of a page.
-pub(crate) fn append_page_end<A: Allocator>(out: &mut Vec<u8, A>) -> Result<(), AllocError>
-    ensures ok { OnOk result (out.new.items ≡ out.old.items ++ page_end) }
+/// Appends the end.
+pub(crate) fn append_html_end<A: Allocator>(out: &mut Vec<u8, A>) -> Result<(), AllocError>
+    ensures ok { OnOk result (out.new.items ≡ out.old.items ++ html_end) }
     ensures grown { Extends out.old.items out.new.items }
 {
     append_pieces(out, &[Text(b"</main>\n</body>\n</html>\n")])

@@ -1,22 +1,20 @@
-//! What a page shows of one game, below its picture.
-#![tactic(auto, using(oct_pages::proofs::Growing::extends_trans))]
+//! What HTML shows of one game, below its picture.
+#![tactic(auto, using(oct_text::proofs::Growing::extends_trans))]
 
 ghost use Rattle.std.specs.Prelude.{◌≡◌, ◌++◌, OnOk, map};
-ghost use Rattle.oct_pages.specs.Growth.{Extends};
+ghost use Rattle.oct_text.specs.Growth.{Extends};
 ghost use Rattle.oct_pages.specs.Contents.{game_content};
 ghost use Rattle.oct_views.specs.Game.{game_tables, refuted_head, refuted_part, told};
 
-use crate::blocks_tables::{Blocks, Refutations};
-use crate::periods_table::{Broken, Periods};
-use crate::pieces::Piece::{Code as CodeText, Text};
-use crate::pieces::append_pieces;
-use crate::sentence::append_sentence;
-use crate::shown::Shown;
-use crate::tables::append_table;
-use crate::values_table::append_values_tables;
+use crate::blocks_tables::{BlockRows, RefutationRows};
+use crate::periods_table::{BrokenRows, ClaimRows};
 use oct_code::Code;
 use oct_ops::{Op, Period};
 use oct_pages::GameSheet;
+use oct_plot::append_sentence;
+use oct_tables::{append_table, append_values_tables};
+use oct_text::Piece::{Code as CodeText, Text};
+use oct_text::{Shown, append_pieces};
 use std::alloc::{AllocError, Allocator};
 
 /// Appends what is proved of all heaps, the values, what is refuted, the blocks and the claims, with the names of authors
@@ -35,14 +33,14 @@ pub(crate) fn append_game_tables<A: Allocator + Copy, B: Allocator + Copy>(
     append_refuted(out, names, game)?;
     append_table(
         out,
-        &Blocks(names),
+        &BlockRows(names),
         b"Blocks",
         &[b"block", b"first heap", b"values", b"status"],
         &game.blocks,
     )?;
     append_table(
         out,
-        &Periods(names),
+        &ClaimRows(names),
         b"Period claims",
         &[b"claim", b"start", b"period", b"status"],
         &game.periods,
@@ -75,14 +73,14 @@ fn append_refuted<A: Allocator + Copy, B: Allocator + Copy>(
     append_refuted_head(out, &game.code)?;
     append_table(
         out,
-        &Refutations(names),
+        &RefutationRows(names),
         b"Refuted blocks",
         &[b"block", b"heap", b"claimed value", b"true value"],
         &game.blocks,
     )?;
     append_table(
         out,
-        &Broken(names),
+        &BrokenRows(names),
         b"Refuted period claims",
         &[b"claim", b"start", b"period", b"status"],
         &game.periods,

@@ -2,30 +2,29 @@
 
 ghost use Rattle.std.specs.Prelude.{◌≡◌, ◌++◌, OnOk, count_by, is_some};
 ghost use Rattle.std.specs.List.{fold};
-ghost use Rattle.oct_pages.specs.Growth.{Extends};
+ghost use Rattle.oct_text.specs.Growth.{Extends};
 ghost use Rattle.oct_views.specs.Index.{games_part, games_table, known_after, known_cells, link_text, period_cells, periods_table, refuted_cells, refuted_table, tally_cells, target, totals};
 
-use crate::periodic::{Periodic, by_period};
-use crate::pieces::Piece::{Code as CodeText, Number, Text};
-use crate::pieces::append_pieces;
-use crate::summary::{Summary, Tally};
-use crate::tables::{Rows, append_set_table, append_table};
 use oct_code::Code;
 use oct_ops::Period;
+use oct_sheet::{Periodic, Summary, Tally, by_period};
+use oct_tables::{Rows, append_set_table, append_table};
+use oct_text::Piece::{Code as CodeText, Number, Text};
+use oct_text::append_pieces;
 use std::alloc::{AllocError, Allocator};
 
 /// Where a link to a game leads.
 #[derive(Clone, Copy)]
 pub(crate) enum Links {
-    /// To the section of the game on the same page.
+    /// To the section of the game in the same report.
     Here,
-    /// To the page of the game, a file beside this one.
+    /// To the HTML of the game, a file beside this one.
     Files,
 }
 
 /// What a link to a game leads to.
 #[derive(Clone, Copy)]
-pub(crate) enum Place {
+pub(crate) enum Anchor {
     /// The game.
     Game,
     /// What is refuted of it.
@@ -34,15 +33,15 @@ pub(crate) enum Place {
 
 // Rows of the table of all games.
 #[derive(Clone, Copy)]
-struct Games(Links);
+struct GameRows(Links);
 
 // Rows of the table of games of which something is refuted.
 #[derive(Clone, Copy)]
-struct Refuted(Links);
+struct RefutedRows(Links);
 
 // Rows of the table of games by period.
 #[derive(Clone, Copy)]
-struct ByPeriod(Links);
+struct PeriodicRows(Links);
 
 /// Appends how many games there are, and the tables of them.
 pub(crate) fn append_games<A: Allocator + Copy>(
@@ -111,7 +110,7 @@ fn append_refuted<A: Allocator + Copy>(
 {
     append_table(
         out,
-        &Refuted(links),
+        &RefutedRows(links),
         b"Refuted",
         &[b"code", b"blocks", b"period claims"],
         rows,
@@ -129,7 +128,7 @@ fn append_games_table<A: Allocator + Copy>(
 {
     append_table(
         out,
-        &Games(links),
+        &GameRows(links),
         b"Games",
         &[
             b"code",
@@ -159,14 +158,14 @@ fn append_periods<A: Allocator + Copy>(
     let found = by_period(*out.allocator(), rows)?;
     append_set_table(
         out,
-        &ByPeriod(links),
+        &PeriodicRows(links),
         b"Games by period",
         &[b"period", b"start", b"code"],
         &found,
     )
 }
 
-impl Rows<Summary> for Games {
+impl Rows<Summary> for GameRows {
     ghost use Rattle.oct_views.specs.Index.{game_row};
 
     ghost text = { λ way row. game_row way.0 row };
@@ -184,7 +183,7 @@ impl Rows<Summary> for Games {
     }
 }
 
-impl Rows<Summary> for Refuted {
+impl Rows<Summary> for RefutedRows {
     ghost use Rattle.oct_views.specs.Index.{refuted_row};
 
     ghost text = { λ way row. refuted_row way.0 row };
@@ -202,7 +201,7 @@ impl Rows<Summary> for Refuted {
     }
 }
 
-impl Rows<Periodic> for ByPeriod {
+impl Rows<Periodic> for PeriodicRows {
     ghost use Rattle.oct_views.specs.Index.{periodic_row};
 
     ghost text = { λ way row. periodic_row way.0 row };
@@ -222,7 +221,7 @@ impl Rows<Periodic> for ByPeriod {
                 Text(b"</td><td>"),
             ],
         )?;
-        append_link(out, self.0, Place::Game, &row.code)?;
+        append_link(out, self.0, Anchor::Game, &row.code)?;
         append_pieces(out, &[Text(b"</td></tr>\n")])
     }
 }
@@ -238,7 +237,7 @@ fn append_known<A: Allocator>(
     ensures grown { Extends out.old.items out.new.items }
 {
     append_pieces(out, &[Text(b"<tr><th scope=\"row\">")])?;
-    append_link(out, links, Place::Game, code)?;
+    append_link(out, links, Anchor::Game, code)?;
     append_pieces(
         out,
         &[Text(b"</th><td>"), Number(known as u64), Text(b"</td>")],
@@ -297,7 +296,7 @@ fn append_refuted_cells<A: Allocator>(
     ensures grown { Extends out.old.items out.new.items }
 {
     append_pieces(out, &[Text(b"<tr><th scope=\"row\">")])?;
-    append_link(out, links, Place::Refuted, &row.code)?;
+    append_link(out, links, Anchor::Refuted, &row.code)?;
     append_pieces(
         out,
         &[
@@ -310,36 +309,39 @@ fn append_refuted_cells<A: Allocator>(
     )
 }
 
-// Appends a link to a place of a game.
+// Appends a link to an anchor of a game.
 fn append_link<A: Allocator>(
     out: &mut Vec<u8, A>,
     links: Links,
-    place: Place,
+    anchor: Anchor,
     code: &Code,
 ) -> Result<(), AllocError>
-    ensures ok { OnOk result (out.new.items ≡ out.old.items ++ link_text links place code.now) }
+    ensures ok { OnOk result (out.new.items ≡ out.old.items ++ link_text links anchor code.now) }
     ensures grown { Extends out.old.items out.new.items }
 {
     append_pieces(out, &[Text(b"<a href=\"")])?;
-    append_target(out, links, place, code)?;
+    append_target(out, links, anchor, code)?;
     append_pieces(out, &[Text(b"\">"), CodeText(*code), Text(b"</a>")])
 }
 
-// Appends where that place is.
+// Appends where that anchor is.
 fn append_target<A: Allocator>(
     out: &mut Vec<u8, A>,
     links: Links,
-    place: Place,
+    anchor: Anchor,
     code: &Code,
 ) -> Result<(), AllocError>
-    ensures ok { OnOk result (out.new.items ≡ out.old.items ++ target links place code.now) }
+    ensures ok { OnOk result (out.new.items ≡ out.old.items ++ target links anchor code.now) }
     ensures grown { Extends out.old.items out.new.items }
 {
-    match (links, place) {
-        (Links::Here, Place::Game) => append_pieces(out, &[Text(b"#game-"), CodeText(*code)]),
-        (Links::Here, Place::Refuted) => append_pieces(out, &[Text(b"#refuted-"), CodeText(*code)]),
-        (Links::Files, Place::Game) => append_pieces(out, &[CodeText(*code), Text(b".html")]),
-        (Links::Files, Place::Refuted) => append_pieces(
+    match (links, anchor) {
+        (Links::Here, Anchor::Game) => append_pieces(out, &[Text(b"#game-"), CodeText(*code)]),
+        (Links::Here, Anchor::Refuted) => append_pieces(
+            out,
+            &[Text(b"#refuted-"), CodeText(*code)],
+        ),
+        (Links::Files, Anchor::Game) => append_pieces(out, &[CodeText(*code), Text(b".html")]),
+        (Links::Files, Anchor::Refuted) => append_pieces(
             out,
             &[CodeText(*code), Text(b".html#refuted-"), CodeText(*code)],
         ),

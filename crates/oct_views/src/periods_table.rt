@@ -1,27 +1,27 @@
 //! The tables of a game's period claims: of those that are refuted, and of all.
 
 ghost use Rattle.std.specs.Prelude.{◌≡◌, ◌++◌, OnOk, map};
-ghost use Rattle.oct_pages.specs.Growth.{Extends};
+ghost use Rattle.oct_text.specs.Growth.{Extends};
 ghost use Rattle.oct_views.specs.Game.{period_cells, period_row, period_status};
 
-use crate::names::author_name;
-use crate::pieces::Piece::{Beside, Dot as DotText, Number, Text};
-use crate::pieces::append_pieces;
-use crate::tables::Rows;
 use oct_ops::{Dot, Op, Period};
 use oct_pages::PeriodRow;
 use oct_period::PeriodStatus;
+use oct_sheet::author_name;
+use oct_tables::Rows;
+use oct_text::Piece::{Beside, Dot as DotText, Number, Text};
+use oct_text::append_pieces;
 use std::alloc::{AllocError, Allocator};
 
 /// Rows of the table of period claims, with the names of authors by these notes.
 #[derive(Drop)]
-pub(crate) struct Periods<'a, 'b, B: Allocator + Copy>(pub &'a [&'b Op<B>]);
+pub(crate) struct ClaimRows<'a, 'b, B: Allocator + Copy>(pub &'a [&'b Op<B>]);
 
 /// Rows of the table of refuted period claims, with the names of authors by these notes.
 #[derive(Drop)]
-pub(crate) struct Broken<'a, 'b, B: Allocator + Copy>(pub &'a [&'b Op<B>]);
+pub(crate) struct BrokenRows<'a, 'b, B: Allocator + Copy>(pub &'a [&'b Op<B>]);
 
-impl<'a, 'b, B: Allocator + Copy> Rows<PeriodRow> for Periods<'a, 'b, B> {
+impl<'a, 'b, B: Allocator + Copy> Rows<PeriodRow> for ClaimRows<'a, 'b, B> {
     ghost text = { λ way row. period_row (map (λ op. op.now) way.0.now) row };
 
     fn append_row<A: Allocator + Copy>(
@@ -33,7 +33,7 @@ impl<'a, 'b, B: Allocator + Copy> Rows<PeriodRow> for Periods<'a, 'b, B> {
     }
 }
 
-impl<'a, 'b, B: Allocator + Copy> Rows<PeriodRow> for Broken<'a, 'b, B> {
+impl<'a, 'b, B: Allocator + Copy> Rows<PeriodRow> for BrokenRows<'a, 'b, B> {
     ghost use Rattle.oct_views.specs.Game.{broken_row};
 
     ghost text = { λ way row. broken_row (map (λ op. op.now) way.0.now) row row.status };

@@ -1,30 +1,30 @@
 //! The tables of what belongs to no game: notes, forks and authors.
 
 ghost use Rattle.std.specs.Prelude.{◌≡◌, ◌++◌, OnOk, map};
-ghost use Rattle.oct_pages.specs.Growth.{Extends};
+ghost use Rattle.oct_text.specs.Growth.{Extends};
 ghost use Rattle.oct_views.specs.Index.{called_row, noted_row};
 
-use crate::names::{Called, author_name};
-use crate::pieces::Piece::{Beside, Dot as DotText, Escaped, Number, Text};
-use crate::pieces::append_pieces;
-use crate::tables::Rows;
 use oct_ops::{Body, Dot, Note, Op};
+use oct_sheet::{Called, author_name};
 use oct_store::{Author, Fork};
+use oct_tables::Rows;
+use oct_text::Piece::{Beside, Dot as DotText, Escaped, Number, Text};
+use oct_text::append_pieces;
 use std::alloc::{AllocError, Allocator};
 
 /// Rows of the table of notes, with the names of authors by these notes.
 #[derive(Drop)]
-pub(crate) struct Notes<'a, 'b, B: Allocator + Copy>(pub &'a [&'b Op<B>]);
+pub(crate) struct NoteRows<'a, 'b, B: Allocator + Copy>(pub &'a [&'b Op<B>]);
 
 /// Rows of the table of forks, with the names of authors by these notes.
 #[derive(Drop)]
-pub(crate) struct Forks<'a, 'b, B: Allocator + Copy>(pub &'a [&'b Op<B>]);
+pub(crate) struct ForkRows<'a, 'b, B: Allocator + Copy>(pub &'a [&'b Op<B>]);
 
 /// Rows of the table of authors.
 #[derive(Clone, Copy)]
-pub(crate) struct Authors;
+pub(crate) struct AuthorRows;
 
-impl<'a, 'b, 'c, B: Allocator + Copy> Rows<&'c Op<B>> for Notes<'a, 'b, B> {
+impl<'a, 'b, 'c, B: Allocator + Copy> Rows<&'c Op<B>> for NoteRows<'a, 'b, B> {
     ghost use Rattle.std.specs.Prelude.{map};
     ghost use Rattle.oct_views.specs.Index.{note_row};
 
@@ -42,7 +42,7 @@ impl<'a, 'b, 'c, B: Allocator + Copy> Rows<&'c Op<B>> for Notes<'a, 'b, B> {
     }
 }
 
-impl<'a, 'b, B: Allocator + Copy> Rows<Fork> for Forks<'a, 'b, B> {
+impl<'a, 'b, B: Allocator + Copy> Rows<Fork> for ForkRows<'a, 'b, B> {
     ghost use Rattle.std.specs.Prelude.{map};
     ghost use Rattle.oct_views.specs.Index.{fork_row};
 
@@ -67,7 +67,7 @@ impl<'a, 'b, B: Allocator + Copy> Rows<Fork> for Forks<'a, 'b, B> {
     }
 }
 
-impl<'a> Rows<Called<'a>> for Authors {
+impl<'a> Rows<Called<'a>> for AuthorRows {
     ghost use Rattle.oct_views.specs.Index.{author_row};
 
     ghost text = { λ _ row. author_row row };

@@ -1,34 +1,32 @@
-//! One page of a census.
-#![tactic(auto, using(oct_pages::proofs::Growing::extends_trans))]
+//! The report of a census.
+#![tactic(auto, using(oct_text::proofs::Growing::extends_trans))]
 
 ghost use Rattle.std.specs.Prelude.{◌≡◌, ◌++◌, OnErr, OnOk, map, ◌∷◌, []};
 ghost use Rattle.std.specs.List.{flat_map};
 ghost use Rattle.oct_ops.specs.Operations.{listed};
 ghost use Rattle.oct_pages.specs.Contents.{game_content};
-ghost use Rattle.oct_pages.specs.Growth.{Extends};
+ghost use Rattle.oct_text.specs.Growth.{Extends};
 ghost use Rattle.oct_store.specs.Summary as summary;
 ghost use Rattle.oct_views.specs.Report.{figure, report, section};
-ghost use Rattle.oct_views.specs.Sheet.{game_sheet, sheet};
-ghost use Rattle.oct_views.specs.Summary.{summary_of};
+ghost use Rattle.oct_sheet.specs.Sheet.{game_sheet, sheet};
+ghost use Rattle.oct_sheet.specs.Summary.{summary_of};
 
-use crate::common::{FIGURE_END, append_head, append_page_end, append_records, style_inside};
+use crate::common::{FIGURE_END, append_head, append_html_end, append_records, style_inside};
 use crate::game_tables::append_game_tables;
 use crate::index::{Links, append_games};
-use crate::names::naming_notes;
-use crate::pieces::Piece::{Code as CodeText, Text};
-use crate::pieces::append_pieces;
-use crate::plot::append_plot;
-use crate::shown::Shown;
-use crate::summary::Summary;
-use crate::values_table::front_values;
 use oct_code::Code;
 use oct_join::OpSet;
 use oct_ops::Op;
-use oct_pages::{GameSheet, append_text, game_of};
+use oct_pages::{GameSheet, game_of};
+use oct_plot::append_plot;
 use oct_record::Record;
+use oct_sheet::{Summary, naming_notes};
+use oct_tables::front_values;
+use oct_text::Piece::{Code as CodeText, Text};
+use oct_text::{Shown, append_pieces, append_text};
 use std::alloc::{AllocError, Allocator};
 
-/// Appends a page that shows all of a record, as `specs/Report` spells it, in HTML. It is written to be well-formed XML
+/// Appends a report, which shows all of a record, as `specs/Report` spells it, in HTML. It is written to be well-formed XML
 /// too, with no script and nothing from outside, which is tested. The tables of all games come first, then the notes, the
 /// forks and the authors; then each game with its plot, its values, as many as `how` says, its blocks and its period
 /// claims. A table without rows is left out. The games are built one after another, and each is let go before the next.
@@ -49,7 +47,7 @@ pub fn write_report<A: Allocator + Copy>(
     written
 }
 
-// Appends the page. The sections of the games are put together beside it, since the tables of all games come first.
+// Appends the report. The sections of the games are put together beside it, since the tables of all games come first.
 fn append_report<A: Allocator + Copy>(
     out: &mut Vec<u8, A>,
     how: Shown,
@@ -67,7 +65,7 @@ fn append_report<A: Allocator + Copy>(
     append_games(out, Links::Here, &rows)?;
     append_records(out, said)?;
     append_text(out, &sections)?;
-    append_page_end(out)
+    append_html_end(out)
 }
 
 // Adds the summaries of the games, and appends their sections.

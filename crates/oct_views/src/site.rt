@@ -1,52 +1,50 @@
-//! The files of a site: a page for each game, and one of all games.
-#![tactic(auto, using(oct_pages::proofs::Growing::extends_trans))]
+//! The files of a site: HTML for each game, an index of all games, and their style.
+#![tactic(auto, using(oct_text::proofs::Growing::extends_trans))]
 
 ghost use Rattle.std.specs.Prelude.{◌≡◌, ◌++◌, OnErr, OnOk, codes, map};
 ghost use Rattle.oct_ops.specs.Operations.{listed};
 ghost use Rattle.oct_pages.specs.Contents.{game_content};
-ghost use Rattle.oct_pages.specs.Growth.{Extends};
-ghost use Rattle.oct_views.specs.Report.{game_head, game_page, image, image_head, index_by, style_sheet};
-ghost use Rattle.oct_views.specs.Sheet.{sheet};
+ghost use Rattle.oct_text.specs.Growth.{Extends};
+ghost use Rattle.oct_views.specs.Report.{game_head, game_html, image, image_head, index_by, style_sheet};
+ghost use Rattle.oct_sheet.specs.Sheet.{sheet};
 
 use crate::common::{
-    FIGURE_END, HEAD_BEGIN, STYLE_LINK, append_head, append_page_end, append_records,
+    FIGURE_END, HEAD_BEGIN, STYLE_LINK, append_head, append_html_end, append_records,
 };
 use crate::game_tables::append_game_tables;
 use crate::index::{Links, append_games};
-use crate::pieces::Piece::{Code as CodeText, Number, Text};
-use crate::pieces::append_pieces;
-use crate::plot::title_of;
-use crate::sentence::append_sentence;
-use crate::shown::Shown;
-use crate::styles::PAGE_STYLE;
-use crate::summary::Summary;
+use crate::styles::HTML_STYLE;
 use oct_code::Code;
 use oct_ops::{Op, Period};
 use oct_pages::GameSheet;
+use oct_plot::{append_sentence, title_of};
 use oct_record::Record;
+use oct_sheet::Summary;
+use oct_text::Piece::{Code as CodeText, Number, Text};
+use oct_text::{Shown, append_pieces};
 use std::alloc::{AllocError, Allocator};
 
-/// Appends the page of a game, a file of a site beside `index.html`, `style.css`, and the game's picture, b-file and JSON,
+/// Appends the HTML of a game, a file of a site beside `index.html`, `style.css`, and the game's picture, b-file and JSON,
 /// which have the code for their names: what is proved of all heaps, its values in short, its blocks and its claims. Authors
 /// are called by these notes. The one error is that memory is refused, and then `out` stays as it is.
-pub fn write_game_page<A: Allocator + Copy, B: Allocator + Copy>(
+pub fn write_game_html<A: Allocator + Copy, B: Allocator + Copy>(
     names: &[&Op<B>],
     game: &GameSheet<'_, B>,
     out: &mut Vec<u8, A>,
 ) -> Result<(), AllocError>
-    ensures ok { OnOk result (out.new.items ≡ out.old.items ++ game_page (map (λ op. op.now) names.now) (game_content game.now)) }
+    ensures ok { OnOk result (out.new.items ≡ out.old.items ++ game_html (map (λ op. op.now) names.now) (game_content game.now)) }
     ensures err { OnErr result (out.new.items ≡ out.old.items) }
 {
     let before = out.len();
-    let written = append_game_page(out, names, game);
+    let written = append_game_html(out, names, game);
     if written.is_err() {
         out.truncate(before);
     }
     written
 }
 
-/// Appends the page of all games of these summaries, and of the notes, forks and authors of a record, with links to the
-/// pages of the games. The one error is that memory is refused, and then `out` stays as it is.
+/// Appends the index of all games of these summaries, and of the notes, forks and authors of a record, with links to the
+/// HTML of the games. The one error is that memory is refused, and then `out` stays as it is.
 pub fn write_index<A: Allocator + Copy>(
     said: &Record<A>,
     rows: &[Summary],
@@ -69,26 +67,26 @@ pub fn write_style<A: Allocator>(out: &mut Vec<u8, A>) -> Result<(), AllocError>
     ensures err { OnErr result (out.new.items ≡ out.old.items) }
 {
     let before = out.len();
-    let written = append_pieces(out, &[Text(PAGE_STYLE), Text(b"\n")]);
+    let written = append_pieces(out, &[Text(HTML_STYLE), Text(b"\n")]);
     if written.is_err() {
         out.truncate(before);
     }
     written
 }
 
-// Appends the page of a game.
-fn append_game_page<A: Allocator + Copy, B: Allocator + Copy>(
+// Appends the HTML of a game.
+fn append_game_html<A: Allocator + Copy, B: Allocator + Copy>(
     out: &mut Vec<u8, A>,
     names: &[&Op<B>],
     game: &GameSheet<'_, B>,
 ) -> Result<(), AllocError>
-    ensures ok { OnOk result (out.new.items ≡ out.old.items ++ game_page (map (λ op. op.now) names.now) (game_content game.now)) }
+    ensures ok { OnOk result (out.new.items ≡ out.old.items ++ game_html (map (λ op. op.now) names.now) (game_content game.now)) }
     ensures grown { Extends out.old.items out.new.items }
 {
     append_game_head(out, &game.code, game.values.len())?;
     append_image(out, &game.code, game.values, &game.proved)?;
     append_game_tables(out, names, Shown::Brief, game)?;
-    append_page_end(out)
+    append_html_end(out)
 }
 
 // Appends what stands before the picture.
@@ -159,7 +157,7 @@ fn append_image_head<A: Allocator>(
     )
 }
 
-// Appends the page of all games.
+// Appends the index of all games.
 fn append_index<A: Allocator + Copy>(
     out: &mut Vec<u8, A>,
     said: &Record<A>,
@@ -171,5 +169,5 @@ fn append_index<A: Allocator + Copy>(
     append_head(out, STYLE_LINK)?;
     append_games(out, Links::Files, rows)?;
     append_records(out, said)?;
-    append_page_end(out)
+    append_html_end(out)
 }

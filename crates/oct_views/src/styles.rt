@@ -1,9 +1,5 @@
-//! How plots and pages look, each said once: by day and by night, on narrow screens and on paper.
+//! How a report and a site look: by day and by night, on narrow screens and on paper.
 
-/// A plot.
-pub(crate) const PLOT_STYLE: &[u8] =
-    b".plot{background:#fff;color:#222;font:18px system-ui,sans-serif}.plot text{fill:currentColor;text-anchor:middle}.plot .title{text-anchor:start}.plot .value{text-anchor:end}.plot path{fill:none;stroke:currentColor}.plot .points{stroke:none;stroke-width:5}.plot .few{stroke-width:10}.plot .dot{fill:#0b5cad}.plot .period{fill:#e0a000;fill-opacity:.3}.plot .again{fill:#e0a000;fill-opacity:.12}.plot .start{stroke:#a86400;stroke-dasharray:6 4}@media(prefers-color-scheme:dark){.plot{background:#14171c;color:#ddd}.plot .dot{fill:#7cc0ff}.plot .start{stroke:#f0b840}}";
-
-/// A page.
-pub(crate) const PAGE_STYLE: &[u8] =
+/// The style of their HTML.
+pub(crate) const HTML_STYLE: &[u8] =
     b":root{color-scheme:light dark}body{margin:0 auto;max-width:72rem;padding:1rem;font:1rem/1.5 system-ui,sans-serif;background:#fff;color:#222}h1{font-size:1.6rem}a{color:#0b5cad}nav a{margin-right:1rem}.scroll{overflow-x:auto;margin:1rem 0}table{border-spacing:0}caption{max-width:85vw;text-align:left;font-weight:600}th,td{border-bottom:1px solid #ccc;padding:3px .6rem;text-align:right;vertical-align:top;white-space:nowrap;font-variant-numeric:tabular-nums}th:first-child{position:sticky;left:0;text-align:left;background:#fff}.text{text-align:left;white-space:normal;overflow-wrap:anywhere;min-width:12rem}.values th,.values td{padding:2px .4rem;text-align:left}.values td{white-space:pre;font-family:ui-monospace,monospace}mark{background:#f8e7bf;color:inherit}.name{font-weight:400;white-space:normal}figure{margin:1rem 0}svg,img{display:block;width:100%;height:auto}@media(max-width:40rem){body{padding:.5rem}th,td{padding:3px .3rem}}@media(prefers-color-scheme:dark){body,th:first-child{background:#14171c;color:#ddd}th,td{border-color:#444}a{color:#7cc0ff}mark{background:#4a3a10}}@media print{body{max-width:none;padding:0}nav{display:none}.scroll{overflow:visible}th:first-child{position:static}section{break-before:page}figure,tr{break-inside:avoid}}";

@@ -4,10 +4,10 @@ use Rattle.std.specs.List.{flat_map}
 use Rattle.oct_ops.specs.Operations.{listed}
 use Rattle.oct_pages.specs.Catalogue.{game_lines, games, heading}
 use Rattle.oct_pages.specs.Rest.{lines_after_games}
-use Rattle.oct_pages.specs.Window.{Shown}
+use Rattle.oct_pages.specs.Pager.{AreShown}
 use Rattle.oct_pages.proofs.Growing.{extends_trans}
 use Rattle.oct_pages.proofs.RestLines.{lines_split}
-use Rattle.oct_pages.proofs.Windows.{shown_then}
+use Rattle.oct_pages.proofs.Pagers.{shown_then}
 use Rattle.oct_pages.proofs.catalogue.append_lines.Goals as goal
 
 pub returns-in_err-show-clause-grown : goal.returns-in_err-show-clause-grown
@@ -21,10 +21,10 @@ returns-clause-ok g c =
     let ops = listed c.args.said.now.ops in
     let all_games = flat_map (game_lines ops) (games ops) in
     on_ok_weaker c.append_rest.result (λ last.
-    subst (Shown _ _ _ _) (sym (lines_split ops))
+    subst (AreShown _ _ _ _) (sym (lines_split ops))
     (shown_then _ _ _ _ _ _ (heading ∷ all_games) (lines_after_games ops)
     (shown_then _ _ _ _ _ _ (heading ∷ []) all_games c.in_ok-show.ensures.ok c.in_ok-append_games.ensures.ok)
-    (subst (Shown _ _ _ _) (ap (λ store. lines_after_games (listed store)) c.store.ensures) last))) c.append_rest.ensures.ok
+    (subst (AreShown _ _ _ _) (ap (λ store. lines_after_games (listed store)) c.store.ensures) last))) c.append_rest.ensures.ok
 
 pub returns-clause-grown : goal.returns-clause-grown
 returns-clause-grown g c = extends_trans _ _ _ c.show.ensures.grown (extends_trans _ _ _ c.append_games.ensures.grown c.append_rest.ensures.grown)

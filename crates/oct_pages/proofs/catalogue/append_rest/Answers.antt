@@ -5,9 +5,9 @@ use Rattle.oct_notes.specs.Notes.{live_notes}
 use Rattle.oct_ops.specs.Operations.{listed}
 use Rattle.oct_store.specs.Summary as summary
 use Rattle.oct_pages.specs.Catalogue.{author_line, ending, fork_line, note_line}
-use Rattle.oct_pages.specs.Window.{Shown}
+use Rattle.oct_pages.specs.Pager.{AreShown}
 use Rattle.oct_pages.proofs.Growing.{extends_trans}
-use Rattle.oct_pages.proofs.Windows.{shown_then}
+use Rattle.oct_pages.proofs.Pagers.{shown_then}
 use Rattle.oct_pages.proofs.catalogue.append_rest.Goals as goal
 
 pub returns-in_err-append_notes-clause-grown : goal.returns-in_err-append_notes-clause-grown
@@ -31,7 +31,7 @@ returns-clause-ok g c =
     shown_then _ _ _ _ _ _ (notes ++ all_forks ++ all_authors) (ending ∷ [])
     (shown_then _ _ _ _ _ _ (notes ++ all_forks) all_authors
     (shown_then _ _ _ _ _ _ notes all_forks
-    (subst (Shown _ _ _ _) same c.in_ok-append_notes.ensures.ok) c.in_ok-append_forks.ensures.ok) c.in_ok-append_authors.ensures.ok) last) c.show.ensures.ok
+    (subst (AreShown _ _ _ _) same c.in_ok-append_notes.ensures.ok) c.in_ok-append_forks.ensures.ok) c.in_ok-append_authors.ensures.ok) last) c.show.ensures.ok
 
 pub returns-clause-grown : goal.returns-clause-grown
 returns-clause-grown g c =

@@ -2,7 +2,7 @@ use Rattle.std.proofs.Common.{◌++◌, ap, ◌∙◌}
 use Rattle.std.proofs.lemmas.Result.{on_ok_weaker}
 use Rattle.oct_ops.specs.Operations.{listed}
 use Rattle.oct_pages.specs.Catalogue.{lines}
-use Rattle.oct_pages.proofs.Windows.{all_seen}
+use Rattle.oct_pages.proofs.Pagers.{all_seen}
 use Rattle.oct_pages.proofs.catalogue.write_catalogue_with.Goals as goal
 
 pub returns-clause-ok : goal.returns-clause-ok

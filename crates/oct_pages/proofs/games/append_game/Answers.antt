@@ -2,7 +2,7 @@ use Rattle.std.proofs.Common.{◌≡◌, sym, ap, ◌∙◌, subst}
 use Rattle.std.proofs.lemmas.Result.{on_ok_weaker}
 use Rattle.std.specs.Option.{option_copied}
 use Rattle.oct_pages.specs.GamesIn.{content_in}
-use Rattle.oct_pages.specs.Window.{Shown}
+use Rattle.oct_pages.specs.Pager.{AreShown}
 use Rattle.oct_pages.proofs.BuiltGames.{kept_is}
 use Rattle.oct_pages.proofs.SheetLaws.{group_held, sheet_by-lines}
 use Rattle.oct_pages.proofs.games.append_game.Goals as goal
@@ -20,8 +20,8 @@ pub returns-in-Some-clause-ok : goal.returns-in-Some-clause-ok
 returns-in-Some-clause-ok g c =
     let ops = c.args.said.now.ops in
     let kept : c.in-Some.game.now ≡ content_in ops c.args.code = kept_is ops c.args.kept.now c.args.code c.in-Some.game.now c.requires.kept (ap option_copied (sym c.in-Some.is) ∙ c.get.ensures.value) in
-    on_ok_weaker c.append_game_lines.result (subst (Shown _ _ _ _) (sheet_by-lines ops c.args.code c.in-Some.game.now c.args.ops.now kept c.requires.its)) c.append_game_lines.ensures.ok
+    on_ok_weaker c.append_game_lines.result (subst (AreShown _ _ _ _) (sheet_by-lines ops c.args.code c.in-Some.game.now c.args.ops.now kept c.requires.its)) c.append_game_lines.ensures.ok
 
 pub returns-clause-ok : goal.returns-clause-ok
 returns-clause-ok g c =
-    on_ok_weaker c.append_game_lines-2.result (subst (Shown _ _ _ _) (sheet_by-lines c.args.said.now.ops c.args.code c.in_ok-game.game c.args.ops.now c.in_ok-game.ensures c.requires.its)) c.append_game_lines-2.ensures.ok
+    on_ok_weaker c.append_game_lines-2.result (subst (AreShown _ _ _ _) (sheet_by-lines c.args.said.now.ops c.args.code c.in_ok-game.game c.args.ops.now c.in_ok-game.ensures c.requires.its)) c.append_game_lines-2.ensures.ok

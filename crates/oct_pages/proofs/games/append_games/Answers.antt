@@ -5,7 +5,7 @@ use Rattle.oct_pages.specs.Catalogue.{game_lines}
 use Rattle.oct_pages.proofs.BuiltGames.{AreHeld, all_held, codes_are, rest_held}
 use Rattle.oct_pages.proofs.GameParts.{entries_games, entries_lines}
 use Rattle.oct_pages.proofs.Growing.{extends_same, extends_trans}
-use Rattle.oct_pages.proofs.Windows.{showing, showing_next}
+use Rattle.oct_pages.proofs.Pagers.{showing, showing_next}
 use Rattle.oct_pages.proofs.games.append_games.Goals as goal
 
 pub loop-code-init : goal.loop-code-init

@@ -2,9 +2,9 @@ use Rattle.std.proofs.Common.{[], ◌∷◌, ◌++◌, length, map, subst}
 use Rattle.std.proofs.lemmas.Result.{on_ok_weaker}
 use Rattle.oct_pages.specs.Catalogue.{game_text, values_lines}
 use Rattle.oct_pages.specs.Sheet.{block_row_text, period_row_text}
-use Rattle.oct_pages.specs.Window.{Shown}
+use Rattle.oct_pages.specs.Pager.{AreShown}
 use Rattle.oct_pages.proofs.Growing.{extends_trans}
-use Rattle.oct_pages.proofs.Windows.{shown_then}
+use Rattle.oct_pages.proofs.Pagers.{shown_then}
 use Rattle.oct_pages.proofs.games.append_sheet.Goals as goal
 
 pub returns-in_err-show-clause-grown : goal.returns-in_err-show-clause-grown
@@ -25,7 +25,7 @@ returns-clause-ok g c =
     let blocks = map block_row_text c.deref.result.now in
     let periods = map period_row_text c.deref-2.result.now in
     on_ok_weaker c.show_each-2.result (λ last.
-    subst (Shown c.args.window.now c.show_each-2.new.window c.args.out.now.items c.show_each-2.new.out.items)
+    subst (AreShown c.args.pager.now c.show_each-2.new.pager c.args.out.now.items c.show_each-2.new.out.items)
     (λ i. head ∷ values ++ map block_row_text (c.deref.ensures.value i) ++ map period_row_text (c.deref-2.ensures.value i))
     (shown_then _ _ _ _ _ _ (head ∷ values ++ blocks) periods
     (shown_then _ _ _ _ _ _ (head ∷ values) blocks

@@ -2,7 +2,7 @@ use Rattle.std.proofs.Common.{ap, map}
 use Rattle.std.proofs.lemmas.List.{drop_all}
 use Rattle.oct_pages.proofs.Growing.{extends_trans}
 use Rattle.oct_pages.proofs.Lines.{rows_next}
-use Rattle.oct_pages.proofs.Windows.{all_shown}
+use Rattle.oct_pages.proofs.Pagers.{all_shown}
 use Rattle.oct_pages.proofs.line.show_each.Goals as goal
 
 pub loop-line-preserved : goal.loop-line-preserved

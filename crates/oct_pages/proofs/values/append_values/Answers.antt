@@ -3,7 +3,7 @@ use Rattle.std.specs.Int.{div_ceil}
 use Rattle.std.specs.List.{range_with_len}
 use Rattle.oct_pages.specs.Catalogue.{values_line, values_lines, values_per_line}
 use Rattle.oct_pages.proofs.Growing.{extends_same, extends_trans}
-use Rattle.oct_pages.proofs.Windows.{all_shown, showing, showing_next}
+use Rattle.oct_pages.proofs.Pagers.{all_shown, showing, showing_next}
 use Rattle.oct_pages.proofs.values.append_values.Goals as goal
 
 pub loop-line-init : goal.loop-line-init

@@ -6,10 +6,10 @@ use Rattle.oct_notes.specs.Notes.{live_notes}
 use Rattle.oct_ops.specs.Operations.{listed}
 use Rattle.oct_store.specs.Rows.{author_rows, fork_rows}
 use Rattle.oct_views.specs.Index.{authors_table, forks_table, note_row, notes_columns}
-use Rattle.oct_views.specs.Names.{called as called_by, naming}
-use Rattle.oct_views.specs.Sheet.{authors_of, names_of}
-use Rattle.oct_views.specs.Tables.{table}
-use Rattle.oct_views.proofs.Joined.{joined_five}
+use Rattle.oct_sheet.specs.Names.{called as called_by, naming}
+use Rattle.oct_sheet.specs.Sheet.{authors_of, names_of}
+use Rattle.oct_tables.specs.Tables.{table}
+use Rattle.oct_text.proofs.Joined.{joined_five}
 use Rattle.oct_views.proofs.common.append_records.Goals as goal
 use Rattle.std.specs.Prelude.{codes}
 

@@ -1,4 +1,4 @@
-use Rattle.oct_views.proofs.Joined.{joined_three}
+use Rattle.oct_text.proofs.Joined.{joined_three}
 use Rattle.oct_views.proofs.index.append_refuted_cells.Goals as goal
 
 pub returns-clause-ok : goal.returns-clause-ok

@@ -1,7 +1,7 @@
 use Rattle.std.proofs.Common.{[], ◌++◌, ap, ◌∙◌}
 use Rattle.oct_pages.specs.Contents.{game_content}
-use Rattle.oct_views.specs.Plot.{plot_with}
-use Rattle.oct_views.proofs.Joined.{joined_three}
+use Rattle.oct_plot.specs.Plot.{plot_with}
+use Rattle.oct_text.proofs.Joined.{joined_three}
 use Rattle.oct_views.proofs.report.append_figure.Goals as goal
 
 pub returns-clause-ok : goal.returns-clause-ok

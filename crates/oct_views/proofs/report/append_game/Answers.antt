@@ -1,7 +1,7 @@
 use Rattle.std.proofs.Common.{◌++◌, ◌∷◌, [], ap, map, ◌∙◌}
 use Rattle.std.proofs.lemmas.Result.{on_ok_weaker}
 use Rattle.oct_views.specs.Report.{section}
-use Rattle.oct_views.specs.Summary.{summary_of}
+use Rattle.oct_sheet.specs.Summary.{summary_of}
 use Rattle.oct_pages.proofs.SheetLaws.{group_held, sheet_by-is}
 use Rattle.oct_views.proofs.report.append_game.Goals as goal
 

@@ -4,10 +4,10 @@ use Rattle.oct_code.specs.Code.{Code}
 use Rattle.oct_ops.specs.Operations.{Operations, listed}
 use Rattle.oct_pages.proofs.BuiltGames.{AreHeld, all_held, rest_held}
 use Rattle.oct_views.specs.Report.{section}
-use Rattle.oct_views.specs.Sheet.{game_sheet}
-use Rattle.oct_views.specs.Summary.{summary_of}
-use Rattle.oct_views.proofs.Pushing.{one_pushed, text_pushed}
-use Rattle.oct_views.proofs.RecordGames.{each_text, each_value}
+use Rattle.oct_sheet.specs.Sheet.{game_sheet}
+use Rattle.oct_sheet.specs.Summary.{summary_of}
+use Rattle.oct_sheet.proofs.Pushing.{one_pushed, text_pushed}
+use Rattle.oct_sheet.proofs.RecordGames.{each_text, each_value}
 use Rattle.oct_views.proofs.report.append_sections.Goals as goal
 
 pub loop-code-init : goal.loop-code-init

@@ -5,8 +5,8 @@ use Rattle.oct_ops.specs.Operations.{Operations, listed}
 use Rattle.oct_pages.proofs.BuiltGames.{AreHeld}
 use Rattle.oct_pages.specs.Catalogue.{games}
 use Rattle.oct_views.specs.Report.{section}
-use Rattle.oct_views.specs.Sheet.{game_sheet}
-use Rattle.oct_views.specs.Summary.{summary_of}
+use Rattle.oct_sheet.specs.Sheet.{game_sheet}
+use Rattle.oct_sheet.specs.Summary.{summary_of}
 use Rattle.oct_views.proofs.report.append_sections.Given as goal
 
 abbrev pub invariant-loop-code : goal.invariant-loop-code

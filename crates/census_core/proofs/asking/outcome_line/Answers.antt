@@ -1,6 +1,0 @@
-use Rattle.std.proofs.Common.{sym, ap}
-use Rattle.census_core.specs.Lines.{outcome_line}
-use Rattle.census_core.proofs.asking.outcome_line.Goals as goal
-
-pub returns-in-NextWins : goal.returns-in-NextWins
-returns-in-NextWins c = sym (ap outcome_line c.in-NextWins.is)

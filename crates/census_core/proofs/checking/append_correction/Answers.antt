@@ -1,6 +1,0 @@
-use Rattle.std.proofs.lemmas.Result.{on_ok_weaker}
-use Rattle.oct_pages.proofs.Growing.{grown_twice}
-use Rattle.census_core.proofs.checking.append_correction.Goals as goal
-
-pub returns : goal.returns
-returns c = on_ok_weaker c.append_text.result (λ last. grown_twice _ _ _ _ _ c.in_ok-append_labelled.ensures.ok last) c.append_text.ensures.ok

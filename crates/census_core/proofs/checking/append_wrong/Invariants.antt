@@ -1,7 +1,0 @@
-use Rattle.std.proofs.Common.{◌≡◌, ◌++◌, take}
-use Rattle.std.specs.List.{flat_map}
-use Rattle.census_core.specs.Checking.{wrong_line}
-use Rattle.census_core.proofs.checking.append_wrong.Given as goal
-
-abbrev pub invariant-loop-one : goal.invariant-loop-one
-invariant-loop-one l = l.text.items ≡ l.fn.text.items ++ flat_map wrong_line (take l.one-index l.wrong)

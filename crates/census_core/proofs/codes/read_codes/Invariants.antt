@@ -1,7 +1,0 @@
-use Rattle.std.proofs.Common.{◌≡◌, drop, map}
-use Rattle.census_core.specs.Codes.{codes_of}
-use Rattle.census_core.proofs.CodeTexts.{after}
-use Rattle.census_core.proofs.codes.read_codes.Given as goal
-
-abbrev pub invariant-loop-word : goal.invariant-loop-word
-invariant-loop-word l = codes_of (map (λ word. word.items) l.words) ≡ after l.codes.items (codes_of (map (λ word. word.items) (drop l.word-index l.words)))

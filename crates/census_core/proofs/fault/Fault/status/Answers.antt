@@ -1,6 +1,0 @@
-use Rattle.std.proofs.Common.{sym, ap}
-use Rattle.census_core.specs.Statuses.{status_of}
-use Rattle.census_core.proofs.fault.Fault.status.Goals as goal
-
-pub returns-in-OutOfMemory : goal.returns-in-OutOfMemory
-returns-in-OutOfMemory c = sym (ap status_of c.in-OutOfMemory.is)

@@ -1,7 +1,0 @@
-use Rattle.std.proofs.Common.{◌≡◌, ◌++◌, drop, option_map}
-use Rattle.serde_json.specs.View.{items_view}
-use Rattle.census_core.specs.Imported.{wholes}
-use Rattle.census_core.proofs.import.whole_numbers.Given as goal
-
-abbrev pub invariant-loop-item : goal.invariant-loop-item
-invariant-loop-item l = wholes (items_view l.items) ≡ option_map (λ rest. l.numbers.items ++ rest) (wholes (items_view (drop l.item-index l.items)))

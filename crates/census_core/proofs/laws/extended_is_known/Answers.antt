@@ -1,5 +1,0 @@
-use Rattle.census_core.proofs.Growing.{extended_is_known}
-use Rattle.census_core.proofs.laws.extended_is_known.Goals as goal
-
-pub returns : goal.returns
-returns c = extended_is_known

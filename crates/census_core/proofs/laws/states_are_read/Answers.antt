@@ -1,5 +1,0 @@
-use Rattle.census_core.proofs.StoredStates.{states_read}
-use Rattle.census_core.proofs.laws.states_are_read.Goals as goal
-
-pub returns : goal.returns
-returns c = states_read c.texts_are_read.ensures

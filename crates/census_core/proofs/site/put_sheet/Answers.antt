@@ -1,9 +1,0 @@
-use Rattle.std.proofs.Common.{refl}
-use Rattle.std.proofs.lemmas.Result.{on_ok_weaker}
-use Rattle.census_core.proofs.site.put_sheet.Goals as goal
-
-pub returns : goal.returns
-returns g c =
-    on_ok_weaker c.put_page.result
-    (λ e. (c.put_picture.new.shelf, c.in_ok-put_picture.ensures, (c.put_bfile.new.shelf, c.in_ok-put_bfile.ensures, (c.put_json.new.shelf, c.in_ok-put_json.ensures, (c.put_page.new.shelf, e, refl)))))
-    c.put_page.ensures

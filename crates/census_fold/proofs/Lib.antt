@@ -1,0 +1,12 @@
+mod AllInOne
+mod Digested
+mod DigitPairs
+mod DigitTables
+mod Folding
+mod Gathering
+mod LineEnds
+mod LineLemmas
+mod Taking
+mod Together
+mod Underway
+mod Wholes

@@ -1,0 +1,5 @@
+pub mod Deltas
+pub mod Digests
+pub mod Folded
+pub mod Reading
+pub mod Unions

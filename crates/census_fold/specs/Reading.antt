@@ -1,0 +1,18 @@
+-- What several files hold together.
+use Rattle.std.specs.Prelude.{List, [], ◌∷◌, Result, Ok}
+use Rattle.oct_delta.specs.Text.{Bytes}
+use Rattle.oct_ops.specs.Operations.{Operations, empty, listed, union}
+use Rattle.oct_text.specs.Words.{Text}
+use Rattle.oct_pages.specs.Catalogue.{catalogue}
+use Rattle.census_fold.specs.Digests.{operations_in}
+use Rattle.census_state.specs.Steps.{◌>>=◌}
+use Rattle.census_state.specs.declared.fault.Fault.{Fault}
+
+-- these operations with those of all files, of which each is a state or a delta, or the fault of the first that is neither
+abbrev pub held_onto : Operations → List Bytes → Result Operations Fault
+held_onto ops [] = Ok ops
+held_onto ops (file ∷ files) = operations_in file >>= λ more. held_onto (union ops more) files
+
+-- the catalogue of what the files hold together
+abbrev pub read_together : List Bytes → Result Text Fault
+read_together files = held_onto empty files >>= λ ops. Ok (catalogue (listed ops))

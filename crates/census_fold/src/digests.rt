@@ -1,0 +1,68 @@
+//! The digest of the operations of a file.
+
+ghost use Rattle.std.specs.Prelude.{◌≡◌, ◌≢◌, Ok, Err, IfOk, IfErr};
+ghost use Rattle.oct_record.specs.States.{has_tag};
+ghost use Rattle.census_fold.specs.Digests.{digest_of, digest_of_set, operations_in, text_of};
+
+use census_state::{Fault, load, nothing};
+use oct_delta::encode_each;
+use oct_delta::laws::texts_are_read;
+use oct_record::Record;
+use sha2::{Digest, Sha256};
+use std::alloc::Global;
+
+/// The digest of the operations of a file, a state or a delta: the 64 hexadecimal digits, in lower case, of the SHA-256 of the
+/// delta that is written of them all. So two files have one digest where they hold the same operations, whoever the authors of
+/// the states are.
+///
+/// The file is read as a state where it begins with `OGS1`, and else as a delta. The first fault is `Load` where it is no such
+/// state, or `Merge` where it is no delta; then `TooMany`. `OutOfMemory` may come before that.
+pub fn digest(alloc: Global, file: &[u8]) -> Result<Vec<u8>, Fault>
+    ensures ok { IfOk result (λ digits. digest_of file.now ≡ Ok digits.items) }
+    ensures err { IfErr result (λ e. e ≢ Fault.OutOfMemory → digest_of file.now ≡ Err e) }
+{
+    let held = read_held(alloc, file)?;
+    record_digest(alloc, &held)
+}
+
+/// The digest of the operations of a record: that of each file that holds them and no others. The fault is `TooMany`.
+/// `OutOfMemory` may come before that.
+pub fn record_digest(alloc: Global, held: &Record<Global>) -> Result<Vec<u8>, Fault>
+    ensures ok { IfOk result (λ digits. digest_of_set held.now.ops ≡ Ok digits.items) }
+    ensures err { IfErr result (λ e. e ≢ Fault.OutOfMemory → digest_of_set held.now.ops ≡ Err e) }
+{
+    let text = text_of(alloc, held)?;
+    let digits = hex::encode(alloc, Sha256::digest(text.as_slice()))?;
+    Ok(digits.into_bytes())
+}
+
+/// What a file holds. The record of a delta issues nothing.
+pub(crate) fn read_held(alloc: Global, file: &[u8]) -> Result<Record<Global>, Fault>
+    ensures ok { IfOk result (λ held. operations_in file.now ≡ Ok held.ops) }
+    ensures err { IfErr result (λ e. e ≢ Fault.OutOfMemory → operations_in file.now ≡ Err e) }
+{
+    if is_state(file) {
+        return load(alloc, file);
+    }
+    texts_are_read();
+    let mut held = nothing(alloc);
+    held.take(file)?;
+    Ok(held)
+}
+
+// Whether the bytes begin as a state does.
+fn is_state(file: &[u8]) -> bool
+    ensures { result ≡ has_tag file.now }
+{
+    file.starts_with(b"OGS1")
+}
+
+// The one text of all operations.
+fn text_of(alloc: Global, held: &Record<Global>) -> Result<Vec<u8>, Fault>
+    ensures ok { IfOk result (λ text. text_of held.now.ops ≡ Ok text.items) }
+    ensures err { IfErr result (λ e. e ≢ Fault.OutOfMemory → text_of held.now.ops ≡ Err e) }
+{
+    let mut text = Vec::new(alloc);
+    encode_each(held.store().iter(), &mut text)?;
+    Ok(text)
+}

@@ -1,0 +1,25 @@
+//! What lines and files hold: their operations, in one set, and what is written of it.
+//!
+//! - `fold_lines` reads lines of deltas, and writes the catalogue of what they say; `fold_intake` also gives what they came to.
+//! - `read_together` gives the catalogue of what several files hold.
+//! - `unite` makes one delta of several files, and `delta` one of a state.
+//! - `digest` names the set of operations of a file by 64 digits, and `record_digest` that of a record.
+//! - `laws` says that the catalogue and the digest depend on the set alone.
+#![tactic(auto)]
+
+mod deltas;
+mod digests;
+mod fold;
+mod hexadecimal;
+pub mod laws;
+mod lines;
+mod reading;
+mod taken;
+mod unions;
+
+pub use deltas::delta;
+pub use digests::{digest, record_digest};
+pub use fold::{fold_intake, fold_lines};
+pub use reading::read_together;
+pub use taken::Intake;
+pub use unions::unite;

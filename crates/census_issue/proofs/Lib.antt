@@ -1,0 +1,9 @@
+mod Chunks
+mod Growing
+mod Importing
+mod InTurn
+mod Issuance
+mod Members
+mod Numbers
+mod OpenGame
+mod Stepping

@@ -1,0 +1,91 @@
+//! The commands that give each of several games its turn.
+
+ghost use Rattle.std.specs.Prelude.{◌≡◌, ◌≢◌, ◌≤◌, [], Ok, Err, IfOk, IfErr, map};
+ghost use Rattle.oct_code.specs.declared.limits.TheConstants.{LIMIT};
+ghost use Rattle.census_issue.specs.Extending.{in_turns, wanted};
+ghost use Rattle.census_issue.specs.Finding.{turn_of};
+ghost use Rattle.census_state.specs.Replies.{answer_of};
+ghost use Rattle.census_issue.specs.Turns.{in_turn};
+
+use crate::extending::{check_count, extend_game};
+use crate::finding::survey_known;
+use crate::texts::extended_line;
+use census_state::{Fault, Reply, load, read_codes, save};
+use oct_code::Code;
+use oct_pages::game_of;
+use oct_record::Record;
+use oct_text::Form;
+use oct_window::Progress;
+use std::alloc::Global;
+
+/// What is done with a game whose wanted values are known.
+#[derive(Clone, Copy)]
+pub enum Aim {
+    /// It is said how many blocks were issued.
+    Extend,
+    /// The period that they prove is said, in this form, and claimed.
+    Survey(Form),
+}
+
+/// Makes so many values of each game known, by blocks of the next ones, and does with it what is aimed at. `Number` is
+/// answered before any memory is asked for.
+pub fn give_turns<P: Progress>(
+    alloc: Global,
+    state: &[u8],
+    count: u32,
+    codes: &[Vec<u8>],
+    aim: Aim,
+    progress: &mut P,
+) -> Result<Reply, Fault>
+    ensures ok { IfOk result (λ reply. in_turns (turn_of aim) state.now count (map (λ word. word.items) codes.now) ≡ Ok (answer_of reply)) }
+    ensures err { IfErr result (λ e. e ≢ Fault.OutOfMemory → in_turns (turn_of aim) state.now count (map (λ word. word.items) codes.now) ≡ Err e) }
+    ensures number { IfErr (wanted count) (λ e. result ≡ Err e) }
+{
+    check_count(count)?;
+    let mut said = load(alloc, state)?;
+    let codes = read_codes(alloc, codes)?;
+    let text = turns(alloc, &mut said, count, &codes, aim, progress)?;
+    save(alloc, &said, state.len(), text)
+}
+
+// Gives each game its turn, and a line.
+fn turns<P: Progress>(
+    alloc: Global,
+    said: &mut Record<Global>,
+    count: u32,
+    codes: &[Code],
+    aim: Aim,
+    progress: &mut P,
+) -> Result<Vec<u8>, Fault>
+    requires { count ≤ LIMIT }
+    ensures ok { IfOk result (λ text. in_turn (turn_of aim count) codes.now (record { replica = said.old; text = [] }) ≡ Ok (record { replica = said.new; text = text.items })) }
+    ensures err { IfErr result (λ e. e ≢ Fault.OutOfMemory → in_turn (turn_of aim count) codes.now (record { replica = said.old; text = [] }) ≡ Err e) }
+{
+    let mut text = Vec::new(alloc);
+    for code in codes {
+        let line = turn(alloc, said, count, *code, aim, progress)?;
+        text.extend_from_slice(&line)?;
+    }
+    Ok(text)
+}
+
+/// Gives a game its turn. It is built, and dropped at the end.
+pub(crate) fn turn<P: Progress>(
+    alloc: Global,
+    said: &mut Record<Global>,
+    count: u32,
+    code: Code,
+    aim: Aim,
+    progress: &mut P,
+) -> Result<Vec<u8>, Fault>
+    requires { count ≤ LIMIT }
+    ensures ok { IfOk result (λ text. turn_of aim count code said.old ≡ Ok (record { replica = said.new; text = text.items })) }
+    ensures err { IfErr result (λ e. e ≢ Fault.OutOfMemory → turn_of aim count code said.old ≡ Err e) }
+{
+    let mut game = game_of(said, code)?;
+    let issued = extend_game(said, &mut game, code, count, progress)?;
+    match aim {
+        Aim::Extend => Ok(extended_line(alloc, code, game.ledger().known(), issued)?),
+        Aim::Survey(form) => survey_known(alloc, said, &mut game, code, form),
+    }
+}

@@ -1,0 +1,5 @@
+pub mod Resumed
+pub mod SearchTexts
+pub mod Searching
+pub mod SoughtTexts
+pub mod Windowed

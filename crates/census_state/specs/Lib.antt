@@ -1,0 +1,12 @@
+pub mod Codes
+pub mod FaultTexts
+pub mod Inputs
+pub mod Lines
+pub mod PeriodTexts
+pub mod Refusals
+pub mod Replies
+pub mod States
+pub mod Statuses
+pub mod Steps
+pub mod Stored
+pub mod Words

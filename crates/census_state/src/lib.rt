@@ -1,0 +1,41 @@
+//! What a state file is: how it is read, made, changed and written, and what a command over it asks for and gives.
+//!
+//! - `load` reads what a state file says, and `save` is the reply that writes it. `init` makes a state, `renumber` has it go on
+//!   under another author, and `merge` takes the operations of a delta into it.
+//! - `rejoin` gives what a state file is to hold after a session, `rejoin_grown` does so where the file need not be read, and
+//!   `unchanged` what is said after a session that brought nothing.
+//! - A `Request` is one command over the bytes of its files, and a `Reply` what it gives.
+//! - `Fault` says why a run ended early. Its text is what the program prints; `status` is the exit status.
+//! - `read_whole` reads all of a stream, `number` a word of the command line, and `read_code` one that spells a code.
+//! - `laws` says what holds of every state file.
+#![tactic(auto)]
+
+mod codes;
+mod empty_record;
+mod fault;
+mod fault_text;
+mod import_error;
+mod input;
+pub mod laws;
+mod period_texts;
+mod reply;
+mod request;
+mod saved_error;
+mod states;
+mod texts;
+mod view;
+mod words;
+
+pub use codes::{read_code, read_codes};
+pub use empty_record::nothing;
+pub use fault::Fault;
+pub use import_error::ImportError;
+pub use input::{INPUT_LIMIT, read_fault, read_whole};
+pub use period_texts::{append_period, append_vain_line, append_vain_words, needs};
+pub use reply::Reply;
+pub use request::Request;
+pub use saved_error::SavedError;
+pub use states::{Rejoined, init, load, merge, rejoin, rejoin_grown, renumber, save, unchanged};
+pub use texts::{number_line, renumbered_line, union_line};
+pub use view::View;
+pub use words::number;

@@ -1,0 +1,39 @@
+-- Commands that leave a state as it is, step by step.
+use Rattle.std.proofs.Common.{◌≡◌, Result, Ok, refl, sym, ap, ◌∙◌}
+use Rattle.oct_code.specs.Code.{Code}
+use Rattle.oct_delta.specs.Text.{Bytes}
+use Rattle.oct_ops.specs.Operations.{Operations, listed}
+use Rattle.oct_pages.specs.GamesIn.{content_in}
+use Rattle.oct_record.specs.Content.{RecordContent}
+use Rattle.oct_store.specs.Summary.{of_game}
+use Rattle.oct_bfile.specs.Bfile.{bfile_text}
+use Rattle.oct_plot.specs.Plot as picture
+use Rattle.oct_pages.specs.Sheet.{GameSheet, game_sheet, sheet_by}
+use Rattle.oct_pages.proofs.SheetLaws.{sheet_by-is}
+use Rattle.census_state.specs.Codes.{code_of, read_code}
+use Rattle.census_tell.specs.Questions.{told, told_of}
+use Rattle.census_state.specs.Replies.{Answer, text_alone}
+use Rattle.census_state.specs.Steps.{◌>>=◌, because}
+use Rattle.census_state.specs.Stored.{loaded}
+use Rattle.census_tell.specs.declared.asking.Question as question
+use Rattle.census_state.specs.declared.fault.Fault.{Fault}
+use Rattle.census_state.specs.declared.fault.Fault.TheVariants as fault
+
+-- a text of a game
+pub game_said : (state word : Bytes) (spelling : RecordContent → Code → Bytes) (r : RecordContent) (c : Code) (text : Bytes) → loaded state ≡ Ok r → read_code word ≡ Ok c → text ≡ spelling r c
+    → (loaded state >>= λ q. code_of word >>= λ d. Ok (text_alone (spelling q d))) ≡ Ok (text_alone text)
+game_said state word spelling r c text there coded spelled =
+    let done : RecordContent → Code → Result Answer Fault = λ q d. Ok (text_alone (spelling q d)) in
+    ap (λ l. l >>= λ q. code_of word >>= λ d. done q d) there
+    ∙ ap (λ d. because fault.Code d >>= λ e. done r e) coded
+    ∙ ap (λ t. Ok (text_alone t)) (sym spelled)
+
+-- what is told of a game, by its blocks and claims
+sheet_is : (ops : Operations) (c : Code) → sheet_by (content_in ops c) (listed (of_game ops c)) ≡ game_sheet (listed ops) c
+sheet_is ops c = sheet_by-is ops c (content_in ops c) (of_game ops c) refl refl
+
+pub told_is : (q : question.Question) (ops : Operations) (c : Code) → told_of q (content_in ops c) ≡ told q ops c
+told_is (question.TheVariants.Value heaps form) ops c = refl
+told_is (question.TheVariants.Move heaps form) ops c = refl
+told_is question.TheVariants.Bfile ops c = ap (λ (s : GameSheet). bfile_text s.values) (sheet_is ops c)
+told_is question.TheVariants.Plot ops c = ap (λ (s : GameSheet). picture.plot c s.values s.proved) (sheet_is ops c)

@@ -1,0 +1,4 @@
+mod Asked
+mod Outcomes
+mod Shelves
+mod Telling

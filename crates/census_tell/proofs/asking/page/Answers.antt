@@ -1,0 +1,10 @@
+use Rattle.std.proofs.Common.{◌∙◌}
+use Rattle.std.proofs.lemmas.Result.{IfErr-weaker, IfOk-weaker}
+use Rattle.census_state.proofs.Stepping.{then_with}
+use Rattle.census_tell.proofs.asking.page.Goals as goal
+
+pub returns-clause-ok : goal.returns-clause-ok
+returns-clause-ok c = IfOk-weaker c.page_reply.result _ _ (λ reply done. then_with _ _ _ c.in_ok-held.ensures.ok ∙ done) c.page_reply.ensures.ok
+
+pub returns-clause-err : goal.returns-clause-err
+returns-clause-err c = IfErr-weaker c.page_reply.result _ _ (λ e done other. then_with _ _ _ c.in_ok-held.ensures.ok ∙ done other) c.page_reply.ensures.err

@@ -1,0 +1,12 @@
+use Rattle.std.proofs.Common.{◌++◌, ap, ◌∙◌, subst}
+use Rattle.std.proofs.lemmas.Result.{on_ok_weaker}
+use Rattle.oct_pages.specs.Contents.{game_content}
+use Rattle.census_tell.specs.Site.{bfile_of}
+use Rattle.oct_bfile.specs.Bfile.{bfile_text}
+use Rattle.census_tell.proofs.site.put_bfile.Goals as goal
+
+pub returns : goal.returns
+returns g c =
+    let game = game_content c.args.game.now in
+    let bytes = c.deref.ensures.value ∙ c.in_ok-write_bfile.ensures.ok ∙ ap (λ t. t ++ bfile_text game.values) c.new-bytes.ensures.items in
+    on_ok_weaker c.put_named.result (λ e. subst (λ b. g.S.Shelf.puts c.args.shelf.now (bfile_of game).name b c.put_named.new.shelf) bytes e) c.put_named.ensures

@@ -1,0 +1,20 @@
+use Rattle.std.proofs.Common.{◌≡◌, ◌++◌, map}
+use Rattle.std.specs.List.{flat_map}
+use Rattle.oct_code.specs.Code.{Code}
+use Rattle.oct_ops.specs.Operations.{Operations, listed}
+use Rattle.oct_pages.proofs.BuiltGames.{AreHeld}
+use Rattle.oct_pages.specs.Catalogue.{games}
+use Rattle.oct_sheet.specs.Sheet.{game_sheet}
+use Rattle.oct_sheet.specs.Summary.{summary_of}
+use Rattle.census_tell.proofs.Shelves.{Filling}
+use Rattle.census_tell.specs.Site.{files_of}
+use Rattle.census_tell.proofs.site.put_games.Given as goal
+
+abbrev pub invariant-loop-code : goal.invariant-loop-code
+invariant-loop-code g l = record {
+  rows : l.rows.items ++ map (λ (e : Code × Operations). summary_of (game_sheet (listed l.fn.held.ops) e.0)) l.code-iterator
+      ≡ l.fn.rows.items ++ map summary_of (map (game_sheet (listed l.fn.held.ops)) (games (listed l.fn.held.ops)));
+  put : Filling g.S.Shelf.puts l.fn.shelf l.shelf (flat_map (λ (e : Code × Operations). files_of (map (λ op. op.now) l.fn.names) (game_sheet (listed l.fn.held.ops) e.0)) l.code-iterator)
+      (flat_map (files_of (map (λ op. op.now) l.fn.names)) (map (game_sheet (listed l.fn.held.ops)) (games (listed l.fn.held.ops))));
+  held : AreHeld l.fn.held.ops l.code-iterator;
+}

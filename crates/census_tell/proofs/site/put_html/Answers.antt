@@ -1,0 +1,13 @@
+use Rattle.std.proofs.Common.{◌++◌, ap, map, ◌∙◌, subst}
+use Rattle.std.proofs.lemmas.Result.{on_ok_weaker}
+use Rattle.oct_pages.specs.Contents.{game_content}
+use Rattle.census_tell.specs.Site.{html_of}
+use Rattle.oct_views.specs.Report.{game_html}
+use Rattle.census_tell.proofs.site.put_html.Goals as goal
+
+pub returns : goal.returns
+returns g c =
+    let game = game_content c.args.game.now in
+    let names = map (λ op. op.now) c.args.names.now in
+    let bytes = c.deref.ensures.value ∙ c.in_ok-write_game_html.ensures.ok ∙ ap (λ t. t ++ game_html names game) c.new-bytes.ensures.items in
+    on_ok_weaker c.put_named.result (λ e. subst (λ b. g.S.Shelf.puts c.args.shelf.now (html_of names game).name b c.put_named.new.shelf) bytes e) c.put_named.ensures

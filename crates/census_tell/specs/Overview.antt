@@ -1,0 +1,47 @@
+-- What is told of games, and what is shown of some of them alone.
+use Rattle.std.specs.Prelude.{List, [], ◌∷◌, Result, Ok}
+use Rattle.std.specs.List.{flat_map}
+use Rattle.oct_code.specs.Code.{Code}
+use Rattle.oct_delta.specs.Text.{Bytes}
+use Rattle.oct_ops.specs.Operations.{Operations, empty, listed, union}
+use Rattle.oct_pages.specs.Catalogue as catalogue
+use Rattle.oct_text.specs.Words.{Text}
+use Rattle.oct_store.specs.Summary.{of_game}
+use Rattle.oct_overview.specs.Overview.{told}
+use Rattle.oct_sheet.specs.Sheet.{game_sheet, names_of}
+use Rattle.oct_text.specs.declared.form.Form.{Form}
+use Rattle.oct_text.specs.declared.told.Told.{Told}
+use Rattle.census_state.specs.Codes.{codes_of}
+use Rattle.census_tell.specs.Questions.{shown_in}
+use Rattle.census_state.specs.Replies.{Answer, text_alone}
+use Rattle.census_state.specs.Steps.{◌>>=◌}
+use Rattle.census_state.specs.Stored.{loaded}
+use Rattle.census_state.specs.declared.fault.Fault.{Fault}
+use Rattle.census_state.specs.declared.view.View.{View}
+
+-- the games that are named, or all where none is
+abbrev pub named_or : List Code → List Code → List Code
+named_or [] all = all
+named_or (c ∷ named) all = c ∷ named
+
+abbrev pub games_in : Operations → List Code → Told → Form → Text
+games_in ops named what form = flat_map (λ c. told what form (names_of (listed ops)) (game_sheet (listed ops) c)) (named_or named (catalogue.games (listed ops)))
+
+-- the blocks and claims of these games
+abbrev pub only_of : List Code → Operations → Operations
+only_of [] ops = empty
+only_of (c ∷ named) ops = union (of_game ops c) (only_of named ops)
+
+-- ---- the commands
+
+abbrev pub games : Bytes → List Bytes → Told → Form → Result Answer Fault
+games state words what form = do
+  replica ← loaded state
+  named ← codes_of words
+  Ok (text_alone (games_in replica.ops named what form))
+
+abbrev pub only : Bytes → List Bytes → View → Result Answer Fault
+only state words view = do
+  replica ← loaded state
+  named ← codes_of words
+  Ok (text_alone (shown_in view (only_of named replica.ops)))

@@ -1,0 +1,70 @@
+-- The files of a site, which any web server shows as they are: HTML, a picture, a b-file and a JSON document of each game, the index, and the
+-- style sheet. A name is a code, that is digits and a point, with a word behind it, or one of three words.
+use Rattle.std.specs.Prelude.{◌≡◌, ◌++◌, List, [], ◌∷◌, codes, Result, Ok}
+use Rattle.std.specs.List.{flat_map}
+use Rattle.oct_code.specs.CodeText.{code_text}
+use Rattle.oct_delta.specs.Text.{Bytes}
+use Rattle.oct_ops.specs.Body.{Operation}
+use Rattle.oct_ops.specs.Operations.{listed}
+use Rattle.oct_bfile.specs.Bfile.{bfile_text}
+use Rattle.oct_json.specs.Json.{game_data}
+use Rattle.oct_plot.specs.Plot.{plot}
+use Rattle.oct_views.specs.Report.{game_html, index, style_sheet}
+use Rattle.oct_sheet.specs.Sheet.{GameSheet, Sheet, sheet}
+use Rattle.serde_json.specs.Written.{compact_text}
+use Rattle.census_state.specs.Steps.{◌>>=◌}
+use Rattle.census_state.specs.Stored.{loaded}
+use Rattle.census_state.specs.declared.fault.Fault.{Fault}
+
+-- a file of a folder
+pub record File : Type 0 where
+  pub name : Bytes
+  pub bytes : Bytes
+
+-- what stands in a folder that is a site
+abbrev pub marker : File
+marker = record { name = codes "census-site"; bytes = codes "census site 1\n" }
+
+abbrev pub style : File
+style = record { name = codes "style.css"; bytes = style_sheet }
+
+abbrev pub named : GameSheet → Bytes → Bytes → File
+named g end bytes = record { name = code_text g.code ++ end; bytes = bytes }
+
+abbrev pub picture_of : GameSheet → File
+picture_of g = named g (codes ".svg") (plot g.code g.values g.proved)
+
+abbrev pub bfile_of : GameSheet → File
+bfile_of g = named g (codes ".txt") (bfile_text g.values)
+
+abbrev pub json_of : GameSheet → File
+json_of g = named g (codes ".json") (compact_text (game_data g) ++ codes "\n")
+
+abbrev pub html_of : List Operation → GameSheet → File
+html_of names g = named g (codes ".html") (game_html names g)
+
+-- the files of a game, whose HTML calls authors by these notes
+abbrev pub files_of : List Operation → GameSheet → List File
+files_of names g = picture_of g ∷ bfile_of g ∷ json_of g ∷ html_of names g ∷ []
+
+abbrev pub index_of : Sheet → File
+index_of s = record { name = codes "index.html"; bytes = index s }
+
+-- the files in the order in which they are written: the index comes last, so that its links lead somewhere
+abbrev pub site : Sheet → List File
+site s = marker ∷ style ∷ flat_map (files_of s.names) s.games ++ index_of s ∷ []
+
+-- those of a state, or why it is none
+abbrev pub site_of : Bytes → Result (List File) Fault
+site_of state = loaded state >>= λ replica. Ok (site (sheet (listed replica.ops)))
+
+-- what became of a place by these files, put there one after another
+abbrev pub Filled : {S : Type 0} → (S → Bytes → Bytes → S → Type 0) → S → List File → S → Type 0
+Filled puts old [] new = new ≡ old
+Filled {S} puts old (file ∷ files) new = (mid : S) × puts old file.name file.bytes mid × Filled puts mid files new
+
+-- the files of the state, and no others, are there
+pub record IsSite {S : Type 0} (puts : S → Bytes → Bytes → S → Type 0) (state : Bytes) (old new : S) : Type 0 where
+  pub files : List File
+  pub are : site_of state ≡ Ok files
+  pub filled : Filled puts old files new

@@ -1,0 +1,75 @@
+-- What the commands give that show a census in other forms than the catalogue.
+use Rattle.std.specs.Prelude.{ℕ, ◌++◌, List, codes, Option, option_map, Result, Ok}
+use Rattle.oct_code.specs.Code.{Code}
+use Rattle.oct_delta.specs.Text.{Bytes}
+use Rattle.oct_mex.specs.NimValues.{nim_values}
+use Rattle.oct_ops.specs.Operation.{Period}
+use Rattle.oct_ops.specs.Operations.{Operations, listed}
+use Rattle.oct_ops.specs.Sets as sets
+use Rattle.oct_text.specs.Words.{Text}
+use Rattle.oct_period.specs.Claims.{Claim, first_proved}
+use Rattle.oct_period.specs.GameContent.{GameContent}
+use Rattle.oct_verify.specs.Filing.{blocks_in}
+use Rattle.oct_verify.specs.Known.{known}
+use Rattle.oct_bfile.specs.Bfile.{bfile_text}
+use Rattle.oct_json.specs.Json.{document}
+use Rattle.oct_plot.specs.Plot as picture
+use Rattle.oct_views.specs.Report as html
+use Rattle.oct_sheet.specs.Sheet.{game_sheet, sheet}
+use Rattle.oct_text.specs.declared.shown.Shown.{Shown}
+use Rattle.serde_json.specs.Written.{compact_text}
+use Rattle.census_state.specs.Codes.{code_of}
+use Rattle.census_state.specs.Replies.{Answer, text_alone}
+use Rattle.census_state.specs.Steps.{◌>>=◌}
+use Rattle.census_state.specs.Stored.{loaded}
+use Rattle.census_state.specs.declared.fault.Fault.{Fault}
+
+-- the known nim-values of a game as a b-file
+abbrev pub bfile_in : Operations → Code → Text
+bfile_in ops c = let game = game_sheet (listed ops) c in bfile_text game.values
+
+-- and as a picture
+abbrev pub plot_in : Operations → Code → Text
+plot_in ops c = let game = game_sheet (listed ops) c in picture.plot c game.values game.proved
+
+-- the same, by the blocks and claims of the game
+abbrev pub known_values : GameContent → List ℕ
+known_values game = nim_values game.code (known (blocks_in game.blocks))
+
+abbrev pub bfile_of : GameContent → Text
+bfile_of game = bfile_text (known_values game)
+
+-- the first claim that is proved
+abbrev pub proved_of : GameContent → Option Period
+proved_of game = option_map (λ (p : Claim). p.1) (first_proved (blocks_in game.blocks) (sets.listed game.claims))
+
+abbrev pub plot_of : GameContent → Text
+plot_of game = picture.plot game.code (known_values game) (proved_of game)
+
+-- all that is known as a JSON document, on one line
+abbrev pub json_in : Operations → Text
+json_in ops = compact_text (document (sheet (listed ops))) ++ codes "\n"
+
+-- and as a report
+abbrev pub report_in : Shown → Operations → Text
+report_in how ops = html.report how (sheet (listed ops))
+
+-- ---- the commands
+
+abbrev pub bfile : Bytes → Bytes → Result Answer Fault
+bfile state word = do
+  replica ← loaded state
+  code ← code_of word
+  Ok (text_alone (bfile_in replica.ops code))
+
+abbrev pub plot : Bytes → Bytes → Result Answer Fault
+plot state word = do
+  replica ← loaded state
+  code ← code_of word
+  Ok (text_alone (plot_in replica.ops code))
+
+abbrev pub json : Bytes → Result Answer Fault
+json state = loaded state >>= λ replica. Ok (text_alone (json_in replica.ops))
+
+abbrev pub report : Bytes → Shown → Result Answer Fault
+report state how = loaded state >>= λ replica. Ok (text_alone (report_in how replica.ops))

@@ -1,0 +1,108 @@
+//! The commands that tell of games, and that show some of them alone.
+
+ghost use Rattle.std.specs.Prelude.{◌≡◌, ◌≢◌, Ok, Err, IfOk, IfErr, OnOk, map};
+ghost use Rattle.oct_ops.specs.Operations.{listed, union};
+ghost use Rattle.oct_pages.specs.Catalogue as catalogue;
+ghost use Rattle.oct_store.specs.Summary as summary;
+ghost use Rattle.census_tell.specs.Overview.{games, games_in, named_or, only, only_of};
+ghost use Rattle.census_state.specs.Replies.{answer_of};
+
+use crate::viewing::view_text;
+use census_state::{Fault, Reply, View, load, nothing, read_codes};
+use oct_code::Code;
+use oct_join::OpSet;
+use oct_overview::write_overview;
+use oct_pages::codes_of;
+use oct_record::Record;
+use oct_text::{Form, Told};
+use std::alloc::{AllocError, Global};
+
+/// What is told of the games that are named, or of all where none is. One game is built at a time.
+pub fn games(
+    alloc: Global,
+    state: &[u8],
+    words: &[Vec<u8>],
+    what: Told,
+    form: Form,
+) -> Result<Reply, Fault>
+    ensures ok { IfOk result (λ reply. games state.now (map (λ word. word.items) words.now) what form ≡ Ok (answer_of reply)) }
+    ensures err { IfErr result (λ e. e ≢ Fault.OutOfMemory → games state.now (map (λ word. word.items) words.now) what form ≡ Err e) }
+{
+    let held = load(alloc, state)?;
+    let named = read_codes(alloc, words)?;
+    let text = games_text(alloc, &held, named, what, form)?;
+    Ok(Reply::text_alone(text))
+}
+
+// What is told of them.
+fn games_text(
+    alloc: Global,
+    held: &Record<Global>,
+    named: Vec<Code>,
+    what: Told,
+    form: Form,
+) -> Result<Vec<u8>, AllocError>
+    ensures { IfOk result (λ text. text.items ≡ games_in held.now.ops named.items what form) }
+{
+    let codes = named_or_all(held, named)?;
+    let mut text = Vec::new(alloc);
+    write_overview(held, &codes, what, form, &mut text)?;
+    Ok(text)
+}
+
+// The games that are named, or all of the record where none is.
+fn named_or_all(held: &Record<Global>, named: Vec<Code>) -> Result<Vec<Code>, AllocError>
+    ensures { IfOk result (λ codes. codes.items ≡ named_or named.items (catalogue.games (listed held.now.ops))) }
+{
+    if named.is_empty() {
+        return codes_of(held);
+    }
+    Ok(named)
+}
+
+/// What a view shows of the games that are named, as of a state that holds their blocks and claims alone.
+pub fn show_only(alloc: Global, state: &[u8], words: &[Vec<u8>], view: View) -> Result<Reply, Fault>
+    ensures ok { IfOk result (λ reply. only state.now (map (λ word. word.items) words.now) view ≡ Ok (answer_of reply)) }
+    ensures err { IfErr result (λ e. e ≢ Fault.OutOfMemory → only state.now (map (λ word. word.items) words.now) view ≡ Err e) }
+{
+    let held = load(alloc, state)?;
+    let named = read_codes(alloc, words)?;
+    let part = part_of(alloc, &held, &named)?;
+    let text = view_text(alloc, &part, view)?;
+    Ok(Reply::text_alone(text))
+}
+
+// A record of the blocks and claims of these games alone, which it shares.
+fn part_of(
+    alloc: Global,
+    held: &Record<Global>,
+    named: &[Code],
+) -> Result<Record<Global>, AllocError>
+    ensures { IfOk result (λ part. part.ops ≡ only_of named.now held.now.ops) }
+{
+    let mut part = nothing(alloc);
+    for code in named {
+        take_game(&mut part, held, *code)?;
+    }
+    Ok(part)
+}
+
+// Takes in the blocks and claims of a game, which both then share.
+fn take_game(part: &mut Record<Global>, held: &Record<Global>, code: Code) -> Result<(), AllocError>
+    ensures { OnOk result (part.new.ops ≡ union part.old.ops (summary.of_game held.now.ops code)) }
+{
+    match held.game(code) {
+        Some(ops) => share_all(part, ops),
+        None => Ok(()),
+    }
+}
+
+// Takes in all of a set, which both then share.
+fn share_all(part: &mut Record<Global>, ops: &OpSet<Global>) -> Result<(), AllocError>
+    ensures { OnOk result (part.new.ops ≡ union part.old.ops ops.now) }
+{
+    for op in ops.iter_shared() {
+        part.share(op)?;
+    }
+    Ok(())
+}

@@ -1,0 +1,17 @@
+//! b-files: texts that list the values of a sequence, a line to each, as the On-Line Encyclopedia of Integer Sequences has
+//! them.
+//!
+//!     write_bfile(game.ledger().known_values(), &mut text)?;
+//!     let file = read_bfile(alloc, &text)?;
+//!
+//! - `write_bfile` writes values as a b-file, and `read_bfile` reads a b-file, so that its values can be claimed.
+//! - `laws` says that a written b-file reads back.
+#![tactic(auto)]
+
+mod bfile;
+mod bfile_error;
+mod bfile_line;
+pub mod laws;
+
+pub use bfile::{Bfile, read_bfile, write_bfile};
+pub use bfile_error::BfileError;

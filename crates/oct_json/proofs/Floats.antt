@@ -1,0 +1,52 @@
+-- A document has no floats.
+use Rattle.std.proofs.Common.{◌≡◌, ℕ, false, ◌||◌, List, [], ◌∷◌, map, refl}
+use Rattle.oct_ops.specs.Body as kind
+use Rattle.oct_ops.specs.Body.{Body, Operation}
+use Rattle.oct_ops.specs.Operation.{Dot}
+use Rattle.oct_period.specs.declared.status.PeriodStatus.{PeriodStatus}
+use Rattle.oct_period.specs.declared.status.PeriodStatus.TheVariants as of_claim
+use Rattle.oct_store.specs.declared.author.Author.{Author}
+use Rattle.oct_verify.specs.declared.status.Status.{Status}
+use Rattle.oct_verify.specs.declared.status.Status.TheVariants as of_block
+use Rattle.oct_json.specs.Json.{author_data, block_by, block_data, called_data, count, document, fork_data, game_data, op_data, period_by, period_data}
+use Rattle.oct_sheet.specs.Sheet.{GameSheet, Sheet}
+use Rattle.oct_pages.specs.declared.statuses.BlockRow.{BlockRow}
+use Rattle.oct_pages.specs.declared.statuses.PeriodRow.{PeriodRow}
+use Rattle.serde_json.specs.Data.{Data}
+use Rattle.serde_json.specs.View.{items_of}
+use Rattle.serde_json.specs.Written.{has_float, items_have_float}
+
+items_float : {X : Type 0} (form : X → Data) → ((x : X) → has_float (form x) ≡ false) → (xs : List X) → items_have_float (items_of (map form xs)) ≡ false
+items_float form none [] = refl
+items_float form none (x ∷ xs) = λ i. none x i || items_float form none xs i
+
+block_float : (b : BlockRow) (s : Status) → has_float (block_by b s) ≡ false
+block_float b of_block.Proved = refl
+block_float b (of_block.Refuted place claimed truth) = refl
+block_float b of_block.Pending = refl
+
+period_float : (p : PeriodRow) (s : PeriodStatus) → has_float (period_by p s) ≡ false
+period_float p of_claim.Proved = refl
+period_float p (of_claim.Refuted place) = refl
+period_float p (of_claim.Pending needs) = refl
+
+op_float : (o : Operation) → has_float (op_data o) ≡ false
+op_float o = by o.dot o.body
+  where
+    by : (d : Dot) (body : Body) → has_float (op_data (record { dot = d; body = body })) ≡ false
+    by d (kind.Block b) = refl
+    by d (kind.Period p) = refl
+    by d (kind.Note n) = refl
+    by d (kind.Removal r) = refl
+
+pub game_float : (g : GameSheet) → has_float (game_data g) ≡ false
+game_float g =
+    λ i. items_float block_data (λ b. block_float b b.status) g.blocks i || (false || (false || (items_float period_data (λ p. period_float p p.status) g.periods i || (items_float count (λ n. refl) g.values i || false))))
+
+author_float : (a : Author) (name : List ℕ) → has_float (called_data a name) ≡ false
+author_float a [] = refl
+author_float a (b ∷ name) = refl
+
+pub document_float : (s : Sheet) → has_float (document s) ≡ false
+document_float s =
+    λ i. items_float author_data (λ a. author_float a.author a.name) s.authors i || (false || (items_float fork_data (λ f. refl) s.forks i || (items_float game_data game_float s.games i || (items_float op_data op_float s.notes i || false))))

@@ -1,0 +1,253 @@
+//! The rows of a sheet as JSON.
+
+ghost use Rattle.std.specs.Prelude.{◌≡◌, ◌<◌, [], IfOk, length};
+ghost use Rattle.std.specs.Str.{IsAscii};
+ghost use Rattle.serde_json.specs.View.{view};
+ghost use Rattle.oct_code.specs.CodeText.{code_text};
+ghost use Rattle.oct_json.specs.Json.{called_data, note_data, pending_period, plain_block, proved_period, refuted_block, refuted_period, word};
+
+use crate::json::{ToJson, array_of};
+use oct_code::Code;
+use oct_ops::{Body, Dot, Note, Op};
+use oct_pages::{BlockRow, GameSheet, PeriodRow};
+use oct_period::PeriodStatus;
+use oct_sheet::Called;
+use oct_store::{Author, Fork};
+use oct_verify::Status;
+use serde_json::{Value, json};
+use std::alloc::{AllocError, Global};
+
+impl ToJson for u32 {
+    ghost use Rattle.oct_json.specs.Json.{count};
+
+    ghost form = { count };
+
+    fn to_json(&self, _alloc: Global) -> Result<Value, AllocError> {
+        Ok(Value::from(*self))
+    }
+}
+
+impl ToJson for BlockRow {
+    ghost use Rattle.oct_json.specs.Json.{block_data};
+
+    ghost form = { block_data };
+
+    fn to_json(&self, alloc: Global) -> Result<Value, AllocError> {
+        match self.status {
+            Status::Proved => plain_block(alloc, self, "proved"),
+            Status::Pending => plain_block(alloc, self, "pending"),
+            Status::Refuted { at, claimed, truth } => {
+                refuted_block(alloc, self, at, claimed, truth)
+            }
+        }
+    }
+}
+
+// A block of which no more is known than the word says.
+fn plain_block(alloc: Global, row: &BlockRow, status: &str) -> Result<Value, AllocError>
+    ensures { IfOk result (λ v. view v ≡ plain_block row.now (word status.now)) }
+{
+    json!(in alloc; {
+        "author": row.dot.author(),
+        "count": row.count,
+        "number": row.dot.number(),
+        "start": row.start,
+        "status": status
+    })
+}
+
+// A block that is wrong at a heap.
+fn refuted_block(
+    alloc: Global,
+    row: &BlockRow,
+    at: u32,
+    claimed: u32,
+    truth: u32,
+) -> Result<Value, AllocError>
+    ensures { IfOk result (λ v. view v ≡ refuted_block row.now at claimed truth) }
+{
+    json!(in alloc; {
+        "at": at,
+        "author": row.dot.author(),
+        "claimed": claimed,
+        "count": row.count,
+        "number": row.dot.number(),
+        "start": row.start,
+        "status": "refuted",
+        "true": truth
+    })
+}
+
+impl ToJson for PeriodRow {
+    ghost use Rattle.oct_json.specs.Json.{period_data};
+
+    ghost form = { period_data };
+
+    fn to_json(&self, alloc: Global) -> Result<Value, AllocError> {
+        match self.status {
+            PeriodStatus::Proved => proved_period(alloc, self),
+            PeriodStatus::Refuted { at } => refuted_period(alloc, self, at),
+            PeriodStatus::Pending { needs } => pending_period(alloc, self, needs),
+        }
+    }
+}
+
+// A claim that is proved.
+fn proved_period(alloc: Global, row: &PeriodRow) -> Result<Value, AllocError>
+    ensures { IfOk result (λ v. view v ≡ proved_period row.now) }
+{
+    json!(in alloc; {
+        "author": row.dot.author(),
+        "number": row.dot.number(),
+        "period": row.period.period(),
+        "start": row.period.start(),
+        "status": "proved"
+    })
+}
+
+// A claim that a heap breaks.
+fn refuted_period(alloc: Global, row: &PeriodRow, at: u32) -> Result<Value, AllocError>
+    ensures { IfOk result (λ v. view v ≡ refuted_period row.now at) }
+{
+    json!(in alloc; {
+        "at": at,
+        "author": row.dot.author(),
+        "number": row.dot.number(),
+        "period": row.period.period(),
+        "start": row.period.start(),
+        "status": "refuted"
+    })
+}
+
+// A claim that so many known nim-values would decide.
+fn pending_period(alloc: Global, row: &PeriodRow, needs: u32) -> Result<Value, AllocError>
+    ensures { IfOk result (λ v. view v ≡ pending_period row.now needs) }
+{
+    json!(in alloc; {
+        "author": row.dot.author(),
+        "needs": needs,
+        "number": row.dot.number(),
+        "period": row.period.period(),
+        "start": row.period.start(),
+        "status": "pending"
+    })
+}
+
+impl ToJson for GameSheet<'_, Global> {
+    ghost use Rattle.oct_pages.specs.Contents.{game_content};
+    ghost use Rattle.oct_json.specs.Json.{game_data};
+
+    ghost form = { λ g. game_data (game_content g) };
+
+    fn to_json(&self, alloc: Global) -> Result<Value, AllocError> {
+        let code = code_value(alloc, &self.code)?;
+        let blocks = array_of(alloc, &self.blocks)?;
+        let periods = array_of(alloc, &self.periods)?;
+        let values = array_of(alloc, self.values)?;
+        json!(in alloc; {
+            "blocks": blocks,
+            "code": code,
+            "known": self.values.len(),
+            "periods": periods,
+            "values": values
+        })
+    }
+}
+
+// The text of a code.
+fn code_value(alloc: Global, code: &Code) -> Result<Value, AllocError>
+    ensures { IfOk result (λ v. view v ≡ word (code_text code.now)) }
+{
+    prove!(code.len() <= 16);
+    let mut text = Vec::new(alloc);
+    code.append_text(&mut text)?;
+    Value::try_from_str(alloc, ascii(&text))
+}
+
+impl ToJson for &Op<Global> {
+    ghost use Rattle.oct_json.specs.Json.{op_data};
+
+    ghost form = { λ o. op_data o.now };
+
+    fn to_json(&self, alloc: Global) -> Result<Value, AllocError> {
+        match self.body() {
+            Body::Note(note) => note_value(alloc, self.dot(), note),
+            _ => Ok(Value::Null),
+        }
+    }
+}
+
+// A note.
+fn note_value(alloc: Global, dot: Dot, note: &Note<Global>) -> Result<Value, AllocError>
+    ensures { IfOk result (λ v. view v ≡ note_data dot note.now) }
+{
+    json!(in alloc; {
+        "author": dot.author(),
+        "name": ascii(note.name()),
+        "number": dot.number(),
+        "text": ascii(note.text())
+    })
+}
+
+// The text of ASCII bytes.
+fn ascii(bytes: &[u8]) -> &str
+    requires { IsAscii bytes.now }
+    ensures { result.now ≡ bytes.now }
+{
+    match str::from_utf8(bytes) {
+        Ok(text) => text,
+        Err(_) => unreachable!(),
+    }
+}
+
+impl ToJson for Fork {
+    ghost use Rattle.oct_json.specs.Json.{fork_data};
+
+    ghost form = { fork_data };
+
+    fn to_json(&self, alloc: Global) -> Result<Value, AllocError> {
+        json!(in alloc; {
+            "author": self.dot.author(),
+            "contents": self.contents,
+            "number": self.dot.number()
+        })
+    }
+}
+
+impl ToJson for Called<'_> {
+    ghost use Rattle.oct_json.specs.Json.{author_data};
+
+    ghost form = { author_data };
+
+    fn to_json(&self, alloc: Global) -> Result<Value, AllocError> {
+        if self.name.is_empty() {
+            return plain_author(alloc, self.author);
+        }
+        named_author(alloc, self.author, self.name)
+    }
+}
+
+// An author that has no name.
+fn plain_author(alloc: Global, author: Author) -> Result<Value, AllocError>
+    ensures { IfOk result (λ v. view v ≡ called_data author []) }
+{
+    json!(in alloc; {
+        "author": author.author,
+        "last": author.last,
+        "through": author.through
+    })
+}
+
+// An author of this name.
+fn named_author(alloc: Global, author: Author, name: &[u8]) -> Result<Value, AllocError>
+    requires ascii { IsAscii name.now }
+    requires some { 0 < length name.now }
+    ensures { IfOk result (λ v. view v ≡ called_data author name.now) }
+{
+    json!(in alloc; {
+        "author": author.author,
+        "last": author.last,
+        "name": ascii(name),
+        "through": author.through
+    })
+}

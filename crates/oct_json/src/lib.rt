@@ -1,0 +1,14 @@
+//! A census as JSON, for scripts.
+//!
+//!     write_json(alloc, &said, &mut text)?;
+//!
+//! - `write_json` writes one document of all of a record. It builds the games one after another.
+//! - `write_game_json` writes that of one game.
+//!
+//! `specs/Json` says which value a sheet is; `serde_json` says how a value is spelled.
+#![tactic(auto)]
+
+mod json;
+mod json_rows;
+
+pub use json::{write_game_json, write_json};

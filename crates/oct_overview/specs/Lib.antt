@@ -1,0 +1,2 @@
+pub use Rattle.oct_sheet.specs.Sheet
+pub mod Overview

@@ -1,9 +1,0 @@
-use Rattle.std.proofs.Common.{◌≡◌, drop, not}
-use Rattle.std.specs.List.{find}
-use Rattle.oct_period.specs.Moving.{first_winning_move, moves_from, position_after}
-use Rattle.oct_period.specs.Winning.{wins}
-use Rattle.oct_period.proofs.search.first_move.Given as goal
-
--- the first of the moves in the heaps that are left is the first of all
-abbrev pub invariant-loop-index : goal.invariant-loop-index
-invariant-loop-index g l = find (λ m. not (wins l.ledger.code (position_after l.heaps m))) (moves_from l.ledger.code l.index (drop l.index l.heaps)) ≡ first_winning_move l.ledger.code l.heaps

@@ -1,0 +1,7 @@
+pub use Rattle.oct_text.specs.Growth
+pub mod Axes
+pub mod Plot
+pub mod PlotLaws
+pub mod Points
+pub mod Sentence
+pub mod Style

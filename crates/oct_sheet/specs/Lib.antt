@@ -1,0 +1,4 @@
+pub use Rattle.oct_ops.specs.Operations
+pub mod Names
+pub mod Sheet
+pub mod Summary

@@ -1,0 +1,42 @@
+-- The names of authors. An author is called by the text of its last live note of the name `author-name`, in the order of operations.
+use Rattle.std.specs.Prelude.{ℕ, ◌==◌, ◌&&◌, Bool, if◌then◌else◌, List, [], codes}
+use Rattle.std.specs.List.{filter, fold}
+use Rattle.oct_ops.specs.Body as kind
+use Rattle.oct_ops.specs.Body.{Body, Operation}
+use Rattle.oct_notes.specs.Notes.{is_named}
+use Rattle.oct_text.specs.Words.{Text}
+use Rattle.oct_store.specs.declared.author.Author.{Author}
+
+abbrev pub text_of : Body → Text
+text_of (kind.Block b) = []
+text_of (kind.Period p) = []
+text_of (kind.Note n) = n.text
+text_of (kind.Removal r) = []
+
+-- the note names its author
+abbrev pub is_naming : Operation → Bool
+is_naming o = is_named (codes "author-name") o
+
+-- those of the notes that name authors
+abbrev pub naming : List Operation → List Operation
+naming notes = filter is_naming notes
+
+-- the note names this author
+abbrev pub names : ℕ → Operation → Bool
+names author o = (o.dot.author == author) && is_naming o
+
+-- the name that an author has once the note is read too
+abbrev pub renamed : ℕ → Text → Operation → Text
+renamed author name o = if names author o then text_of o.body else name
+
+-- the name by the live notes, which are listed by name and then in the order of operations; empty where there is none
+abbrev pub author_name : List Operation → ℕ → Text
+author_name notes author = fold (renamed author) [] notes
+
+-- an author with its name
+pub record Called : Type 0 where
+  pub author : Author
+  pub name : Text
+
+abbrev pub called : List Operation → Author → Called
+called notes a = record { author = a; name = author_name notes a.author }

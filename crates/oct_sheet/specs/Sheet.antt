@@ -1,0 +1,41 @@
+-- What views show of a set of operations, by the definitions that the catalogue cites. The operations are listed in their
+-- order.
+use Rattle.std.specs.Prelude.{List, map}
+use Rattle.oct_notes.specs.Notes.{live_notes}
+use Rattle.oct_ops.specs.Body.{Operation}
+use Rattle.oct_pages.specs.Catalogue.{games}
+pub use Rattle.oct_pages.specs.Sheet.{GameSheet, game_sheet}
+use Rattle.oct_store.specs.Rows.{author_rows, fork_rows}
+use Rattle.oct_store.specs.declared.fork.Fork.{Fork}
+use Rattle.oct_sheet.specs.Names.{Called, called, naming}
+
+-- the live notes by name, the dots with several contents, and the authors with their names
+abbrev pub notes_of : List Operation → List Operation
+notes_of ops = live_notes ops
+
+abbrev pub forks_of : List Operation → List Fork
+forks_of ops = fork_rows ops
+
+abbrev pub authors_of : List Operation → List Called
+authors_of ops = map (called (live_notes ops)) (author_rows ops)
+
+-- those of the live notes that name authors
+abbrev pub names_of : List Operation → List Operation
+names_of ops = naming (live_notes ops)
+
+-- the games, and what belongs to none
+pub record Sheet : Type 0 where
+  pub games : List GameSheet
+  pub names : List Operation
+  pub notes : List Operation
+  pub forks : List Fork
+  pub authors : List Called
+
+abbrev pub sheet : List Operation → Sheet
+sheet ops = record {
+  games = map (game_sheet ops) (games ops);
+  names = names_of ops;
+  notes = notes_of ops;
+  forks = forks_of ops;
+  authors = authors_of ops;
+}

@@ -1,0 +1,3 @@
+pub use Rattle.oct_text.specs.Growth
+pub mod Tables
+pub mod Values

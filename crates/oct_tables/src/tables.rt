@@ -1,0 +1,155 @@
+//! Tables in HTML.
+
+ghost use Rattle.std.specs.Prelude.{◌≡◌, ◌++◌, ℕ, List, OnOk, map};
+ghost use Rattle.std.specs.List.{flat_map};
+ghost use Rattle.oct_text.specs.Growth.{Extends};
+ghost use Rattle.oct_tables.specs.Tables.{column, table, table_end, table_head};
+
+use oct_text::Piece::Text;
+use oct_text::append_pieces;
+use std::alloc::{AllocError, Allocator};
+use std::collections::BTreeSet;
+
+/// A way to write rows of the type `R`.
+pub trait Rows<R> {
+    ghost text: { Self → R → List ℕ };
+
+    /// Appends a row.
+    fn append_row<A: Allocator + Copy>(
+        &self,
+        out: &mut Vec<u8, A>,
+        row: &R,
+    ) -> Result<(), AllocError>
+        ensures ok { OnOk result (out.new.items ≡ out.old.items ++ text self.now row.now) }
+        ensures grown { Extends out.old.items out.new.items };
+}
+
+/// Appends the rows, one after another.
+pub(crate) fn append_rows<S: Rows<R>, R, A: Allocator + Copy>(
+    out: &mut Vec<u8, A>,
+    way: &S,
+    rows: &[R],
+) -> Result<(), AllocError>
+    ensures ok { OnOk result (out.new.items ≡ out.old.items ++ flat_map (S.text way.now) rows.now) }
+    ensures grown { Extends out.old.items out.new.items }
+{
+    for row in rows {
+        way.append_row(out, row)?;
+    }
+    Ok(())
+}
+
+/// Appends the rows of a set, in their order.
+pub(crate) fn append_set<S: Rows<R>, R: Ord, A: Allocator + Copy>(
+    out: &mut Vec<u8, A>,
+    way: &S,
+    rows: &BTreeSet<R, A>,
+) -> Result<(), AllocError>
+    ensures ok { OnOk result (out.new.items ≡ out.old.items ++ flat_map (S.text way.now) rows.now.keys) }
+    ensures grown { Extends out.old.items out.new.items }
+{
+    for row in rows {
+        way.append_row(out, row)?;
+    }
+    Ok(())
+}
+
+/// Appends a table of the rows under these heads of columns, or nothing where the rows have no text.
+pub fn append_table<S: Rows<R>, R, A: Allocator + Copy>(
+    out: &mut Vec<u8, A>,
+    way: &S,
+    caption: &[u8],
+    columns: &[&[u8]],
+    rows: &[R],
+) -> Result<(), AllocError>
+    ensures ok { OnOk result (out.new.items ≡ out.old.items ++ table caption.now (map (λ name. name.now) columns.now) (flat_map (S.text way.now) rows.now)) }
+    ensures grown { Extends out.old.items out.new.items }
+{
+    let before = out.len();
+    append_head(out, b"plain", caption, columns)?;
+    let first = out.len();
+    append_rows(out, way, rows)?;
+    if out.len() == first {
+        out.truncate(before);
+        return Ok(());
+    }
+    append_end(out)
+}
+
+/// Appends a table of the rows of a set, or nothing where they have no text.
+pub fn append_set_table<S: Rows<R>, R: Ord, A: Allocator + Copy>(
+    out: &mut Vec<u8, A>,
+    way: &S,
+    caption: &[u8],
+    columns: &[&[u8]],
+    rows: &BTreeSet<R, A>,
+) -> Result<(), AllocError>
+    ensures ok { OnOk result (out.new.items ≡ out.old.items ++ table caption.now (map (λ name. name.now) columns.now) (flat_map (S.text way.now) rows.now.keys)) }
+    ensures grown { Extends out.old.items out.new.items }
+{
+    let before = out.len();
+    append_head(out, b"plain", caption, columns)?;
+    let first = out.len();
+    append_set(out, way, rows)?;
+    if out.len() == first {
+        out.truncate(before);
+        return Ok(());
+    }
+    append_end(out)
+}
+
+/// Appends what stands before the rows of a table of this kind.
+pub(crate) fn append_head<'a, A: Allocator>(
+    out: &mut Vec<u8, A>,
+    kind: &'a [u8],
+    caption: &'a [u8],
+    columns: &[&[u8]],
+) -> Result<(), AllocError>
+    ensures ok { OnOk result (out.new.items ≡ out.old.items ++ table_head kind.now caption.now (map (λ name. name.now) columns.now)) }
+    ensures grown { Extends out.old.items out.new.items }
+{
+    append_pieces(
+        out,
+        &[
+            Text(b"<div class=\"scroll\" role=\"region\" tabindex=\"0\" aria-label=\""),
+            Text(caption),
+            Text(b"\">\n<table class=\""),
+            Text(kind),
+            Text(b"\">\n<caption>"),
+            Text(caption),
+            Text(b"</caption>\n<thead><tr>"),
+        ],
+    )?;
+    append_columns(out, columns)?;
+    append_pieces(out, &[Text(b"</tr></thead>\n<tbody>\n")])
+}
+
+/// Appends the end of a table.
+pub(crate) fn append_end<A: Allocator>(out: &mut Vec<u8, A>) -> Result<(), AllocError>
+    ensures ok { OnOk result (out.new.items ≡ out.old.items ++ table_end) }
+    ensures grown { Extends out.old.items out.new.items }
+{
+    append_pieces(out, &[Text(b"</tbody>\n</table>\n</div>\n")])
+}
+
+// Appends the heads of the columns.
+fn append_columns<A: Allocator>(out: &mut Vec<u8, A>, columns: &[&[u8]]) -> Result<(), AllocError>
+    ensures ok { OnOk result (out.new.items ≡ out.old.items ++ flat_map column (map (λ name. name.now) columns.now)) }
+    ensures grown { Extends out.old.items out.new.items }
+{
+    for name in columns {
+        append_column(out, name)?;
+    }
+    Ok(())
+}
+
+// Appends the head of a column.
+fn append_column<A: Allocator>(out: &mut Vec<u8, A>, name: &[u8]) -> Result<(), AllocError>
+    ensures ok { OnOk result (out.new.items ≡ out.old.items ++ column name.now) }
+    ensures grown { Extends out.old.items out.new.items }
+{
+    append_pieces(
+        out,
+        &[Text(b"<th scope=\"col\">"), Text(name), Text(b"</th>")],
+    )
+}

@@ -1,0 +1,5 @@
+pub mod Growing
+pub mod Joined
+pub mod Members
+pub mod Truncated
+mod Escaping

@@ -1,5 +1,0 @@
-use Rattle.oct_views.proofs.ReadingBack.{written_reads_back}
-use Rattle.oct_views.proofs.laws.written_bfiles_read_back.Goals as goal
-
-pub returns : goal.returns
-returns c = written_reads_back

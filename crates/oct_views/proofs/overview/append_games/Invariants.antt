@@ -1,9 +1,0 @@
-use Rattle.std.proofs.Common.{◌≡◌, ◌++◌, map, take}
-use Rattle.std.specs.List.{flat_map}
-use Rattle.oct_ops.specs.Operations.{listed}
-use Rattle.oct_pages.specs.Sheet.{game_sheet}
-use Rattle.oct_views.specs.Overview.{told}
-use Rattle.oct_views.proofs.overview.append_games.Given as goal
-
-abbrev pub invariant-loop-code : goal.invariant-loop-code
-invariant-loop-code g l = l.out.items ≡ l.fn.out.items ++ flat_map (λ x. told l.fn.what l.fn.form (map (λ op. op.now) l.fn.names) (game_sheet (listed l.fn.said.ops) x)) (take l.code-index l.codes)

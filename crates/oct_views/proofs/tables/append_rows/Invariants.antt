@@ -1,6 +1,0 @@
-use Rattle.std.proofs.Common.{◌≡◌, ◌++◌, take}
-use Rattle.std.specs.List.{flat_map}
-use Rattle.oct_views.proofs.tables.append_rows.Given as goal
-
-abbrev pub invariant-loop-row : goal.invariant-loop-row
-invariant-loop-row g l = l.out.items ≡ l.fn.out.items ++ flat_map (g.S.Rows.text l.way) (take l.row-index l.rows)
