@@ -120,16 +120,16 @@ if command -v make >/dev/null; then
 fi
 
 # One byte of a source is another, with the time of the file as it was; a source is gone; one has another name; one comes.
-source=crates/census_run/src/help.rt
+source=crates/census_words/src/help.rt
 cp -p $source kept
 sed -i '1s/The/Tha/' $source
 touch -r kept $source
 out_of_date
 rm $source
 out_of_date
-mv kept crates/census_run/src/halp.rt
+mv kept crates/census_words/src/halp.rt
 out_of_date
-mv crates/census_run/src/halp.rt $source
+mv crates/census_words/src/halp.rt $source
 up_to_date
 touch crates/census/src/more.rt
 out_of_date

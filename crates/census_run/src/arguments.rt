@@ -1,9 +1,8 @@
 //! The program over the words that it was called with.
 
-use crate::advice::Audience;
-use crate::failure::Failure;
 use crate::program::{report, run_watched};
 use census_core::Fault;
+use census_failure::{Audience, Failure};
 use std::alloc::Global;
 use std::env::{self, Env};
 use std::fs::File;

@@ -1,15 +1,29 @@
-//! Numbers of authors that nobody chooses.
+//! Numbers of authors, which nobody need choose.
 
-use crate::failure::Failure;
+use crate::numbers::{FROM_1, number_in};
 use census_core::Fault;
+use census_failure::Failure;
+use census_words::words;
+use clap::ArgMatches;
 use std::alloc::Global;
 use std::random::RandomSource;
 
 // How often 0 may be drawn, one time after the other.
 const TRIES: u32 = 100;
 
-/// A number of an author, 1 to 4,294,967,295, from the randomness of the system. The fault is `File` where it gives none.
-pub(crate) fn draw_number<R: AllocGlobal + RandomSource>(rt: &R) -> Result<u32, Failure> {
+/// The number of an author, which is drawn where it is left out.
+pub(crate) fn author<R: AllocGlobal + RandomSource>(
+    rt: &R,
+    found: &ArgMatches<'_>,
+) -> Result<u32, Failure> {
+    match found.get_str(words::ID.name) {
+        Some(text) => number_in(rt.alloc(), words::ID.name, text, FROM_1),
+        None => draw_number(rt),
+    }
+}
+
+// A number of an author, 1 to 4,294,967,295, from the randomness of the system. The fault is `File` where it gives none.
+fn draw_number<R: AllocGlobal + RandomSource>(rt: &R) -> Result<u32, Failure> {
     for _ in 0..TRIES {
         let mut bytes = [0; 4];
         if rt.fill_bytes(&mut bytes).is_err() {

@@ -24,6 +24,8 @@ mod reader;
 #[cfg(test)]
 mod requests;
 #[cfg(test)]
+mod saved;
+#[cfg(test)]
 mod search;
 #[cfg(test)]
 mod stores;

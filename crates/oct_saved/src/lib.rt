@@ -35,8 +35,6 @@ mod output;
 mod parts;
 mod reading;
 mod scalars;
-#[cfg(test)]
-mod tests;
 mod word;
 mod writing;
 

@@ -20,8 +20,6 @@ mod replica;
 #[cfg(test)]
 mod resumed;
 #[cfg(test)]
-mod runs;
-#[cfg(test)]
 mod surface;
 #[cfg(test)]
 mod sync;

@@ -1,0 +1,29 @@
+//! Files and streams, as commands may read and change them.
+//!
+//! Several commands may run at once over one state file, and any of them may be stopped at any moment. No operation is lost
+//! by that, since one command at a time changes a file, and a file is replaced whole:
+//!
+//! - `StateFile` is a file that is held by its `lock`, and replaced by a new one that takes its name.
+//! - `Out` is where a delta is written: it says what may be written over, and writes in place of a `StateFile` or into a pipe.
+//! - `SiteFolder` is a folder that takes the files of a site, and nothing but a site.
+//! - `files` reads, and says which file a path leads to: `read_file`, `read_state`, `read_delta`, and their parts.
+//! - `streams` has the streams that the program was started with; `Noted` remembers why one failed.
+//!
+//! What fails is a `Failure`, which names the file.
+#![tactic(auto)]
+
+mod files;
+mod lock;
+mod out_file;
+mod site_folder;
+mod state_file;
+mod streams;
+
+pub use files::{
+    check_length, exists, is_same_file, open_file, read_delta, read_file, read_open, read_state,
+    stateless,
+};
+pub use out_file::{Out, Replaced, check_apart};
+pub use site_folder::SiteFolder;
+pub use state_file::StateFile;
+pub use streams::{Noted, is_standard, read_standard};

@@ -1,0 +1,379 @@
+//! A hub: many sessions over TCP at once, in one thread.
+
+use crate::endpoint::{Endpoint, bound};
+use crate::guest::{Bounds, Guest, sooner};
+use crate::kept::{Kept, Settled};
+use crate::moment::Moment;
+use census_diagnosis::unserved;
+use census_failure::{Failure, explanation, foreign_text};
+use census_state::Fault;
+use mio::net::TcpStream;
+use mio::{Events, Interest, Poll, Token};
+use oct_ops::Dot;
+use slab::Slab;
+use std::alloc::Global;
+use std::fs::File;
+use std::io::{self, ErrorKind, Write};
+use std::net::{self, Net, SocketAddr};
+use std::rt::Files;
+use std::time::{Clock, Duration, Instant};
+use written::write_out;
+
+/// The most bytes of one read.
+const MAX_READ: usize = 65_536;
+
+/// For how many milliseconds no connection is taken after one could not be.
+const PAUSE: u64 = 100;
+
+/// How many digits of a digest are shown.
+const DIGITS: usize = 8;
+
+/// The listener among the sources of events. The others are the guests, by their keys.
+const LISTENER: Token = Token(usize::MAX);
+
+/// How many peers a hub takes, and how much of each.
+#[derive(Clone, Copy)]
+pub struct Limits {
+    /// After how many connections it ends.
+    pub peers: u64,
+    /// How many sessions it has at once, at least one.
+    pub sessions: usize,
+    /// The most bytes that one peer may send.
+    pub most: u64,
+}
+
+/// A hub that runs. All its sessions speak for the one record that is kept.
+#[derive(Drop)]
+struct Host<'a, R> {
+    rt: &'a R,
+    endpoint: Endpoint<'a>,
+    limits: Limits,
+    kept: Kept,
+    listener: mio::net::TcpListener,
+    poll: Poll,
+    events: Events,
+    guests: Slab<Guest>,
+    /// What is read from a connection.
+    buffer: Vec<u8>,
+    /// How many connections are still to be taken.
+    left: u64,
+    /// Whether a connection may wait to be taken.
+    is_called: bool,
+    /// Until when none is taken.
+    pause: Option<Instant>,
+}
+
+/// Serves so many connections to the address, and says where it listens and how each session ended. Many sessions go
+/// on at once, each whenever its connection is ready; further connections wait. What ends a session early does not end
+/// the hub. What the state says is kept in memory: its file is read again where another stands in its place, and
+/// written before the last frame of a session where something is not in it. The fault is that of the state, as it is
+/// read first; then `Net`; and `Write`.
+pub fn hub<R, O, E>(
+    rt: &R,
+    endpoint: Endpoint<'_>,
+    limits: Limits,
+    output: &mut O,
+    errors: &mut E,
+) -> Result<(), Failure>
+where
+    R: Files<File = File>
+        + AllocGlobal
+        + Net<Stream = net::TcpStream, Listener = net::TcpListener>
+        + Clock,
+    O: Write,
+    E: Write,
+{
+    let mut host = Host::open(rt, endpoint, limits)?;
+    host.say_where(output)?;
+    for _ in 0..u64::MAX {
+        if host.is_over() {
+            break;
+        }
+        host.turn(output, errors)?;
+    }
+    Ok(())
+}
+
+impl<'a, R> Host<'a, R>
+where
+    R: Files<File = File>
+        + AllocGlobal
+        + Net<Stream = net::TcpStream, Listener = net::TcpListener>
+        + Clock,
+{
+    // Reads the state, and then listens at the address.
+    fn open(rt: &'a R, endpoint: Endpoint<'a>, limits: Limits) -> Result<Host<'a, R>, Failure> {
+        let kept = Kept::read(rt, endpoint.state)?;
+        let (listener, poll) = listening(rt, endpoint.address)?;
+        Ok(Host {
+            rt,
+            endpoint,
+            limits,
+            kept,
+            listener,
+            poll,
+            events: Events::with_capacity(rt.alloc(), limits.sessions)?,
+            guests: Slab::with_capacity(rt.alloc(), limits.sessions)?,
+            buffer: zeros(rt.alloc(), MAX_READ)?,
+            left: limits.peers,
+            is_called: true,
+            pause: None,
+        })
+    }
+
+    // Says where it listens.
+    fn say_where<O: Write>(&self, output: &mut O) -> Result<(), Failure> {
+        let address = match self.listener.local_addr() {
+            Ok(address) => address,
+            Err(error) => return Err(self.unserved(error)),
+        };
+        let line = format!(in self.rt.alloc(); "listening on {address}\n")?;
+        Ok(write_out(output, line.as_bytes())?)
+    }
+
+    // Whether all connections were served.
+    fn is_over(&self) -> bool {
+        self.left == 0 && self.guests.is_empty()
+    }
+
+    // Takes the connections that wait, waits until one is ready or a peer was silent too long, and lets each session
+    // go on by a step.
+    fn turn<O: Write, E: Write>(&mut self, output: &mut O, errors: &mut E) -> Result<(), Failure> {
+        let now = self.now()?;
+        self.take_connections(now, errors);
+        self.wait(now)?;
+        let now = self.now()?;
+        for key in 0..self.limits.sessions {
+            self.go_on(key, now, output, errors)?;
+        }
+        Ok(())
+    }
+
+    // The time. The fault is `Net`.
+    fn now(&self) -> Result<Instant, Failure> {
+        match Instant::now(self.rt) {
+            Ok(now) => Ok(now),
+            Err(error) => Err(self.unserved(error)),
+        }
+    }
+
+    // The failure to go on at the address.
+    fn unserved(&self, error: io::Error) -> Failure {
+        unserved(self.rt.alloc(), self.endpoint.address, error)
+    }
+
+    // Whether a connection may wait for which there is room.
+    fn has_call(&self) -> bool {
+        self.is_called && self.left > 0 && self.guests.len() < self.limits.sessions
+    }
+
+    // Takes the connections that wait, as far as there is room. After one that could not be taken there is a pause.
+    fn take_connections<E: Write>(&mut self, now: Instant, errors: &mut E) {
+        if self.pause.is_some_and(|pause| pause > now) {
+            return;
+        }
+        self.pause = None;
+        for _ in 0..self.limits.sessions {
+            if !self.has_call() {
+                return;
+            }
+            match self.listener.accept() {
+                Ok((stream, peer)) => {
+                    self.left = self.left.saturating_sub(1);
+                    if let Err(failure) = self.seat(stream, peer, now) {
+                        say_failure(self.rt, errors, peer, failure);
+                    }
+                }
+                Err(e) if e.kind() == ErrorKind::WouldBlock => self.is_called = false,
+                Err(e) if e.kind() == ErrorKind::Interrupted => {}
+                Err(_) => {
+                    self.pause = now.checked_add(Duration::from_millis(PAUSE));
+                    return;
+                }
+            }
+        }
+    }
+
+    // Begins the session of a connection. The fault is `Net`, and `OutOfMemory`.
+    fn seat(&mut self, stream: TcpStream, peer: SocketAddr, now: Instant) -> Result<(), Failure> {
+        let bounds = Bounds {
+            patience: self.endpoint.patience,
+            most: self.limits.most,
+        };
+        let mut guest = Guest::new(self.rt.alloc(), stream, peer, bounds, now);
+        let token = Token(self.guests.vacant_key());
+        if let Err(error) = guest.register(self.poll.registry(), token) {
+            return Err(self.unserved(error));
+        }
+        match self.guests.insert(guest) {
+            Ok(_) => Ok(()),
+            Err(_) => Err(Failure::from(Fault::OutOfMemory)),
+        }
+    }
+
+    // Waits until something is ready, or a time has come. The fault is `Net`.
+    fn wait(&mut self, now: Instant) -> Result<(), Failure> {
+        let timeout = self.timeout(now);
+        if let Err(error) = self.poll.poll(&mut self.events, timeout) {
+            return Err(self.unserved(error));
+        }
+        for event in &self.events {
+            if event.token() == LISTENER {
+                self.is_called = true;
+            } else if let Some(guest) = self.guests.get_mut(event.token().0) {
+                guest.wake();
+            }
+        }
+        Ok(())
+    }
+
+    // How long nothing can happen but what the system reports; without end where there is none.
+    fn timeout(&self, now: Instant) -> Option<Duration> {
+        let mut first = None;
+        if self.has_call() {
+            match self.pause {
+                None => return Some(Duration::ZERO),
+                pause => first = pause,
+            }
+        }
+        for (_, guest) in self.guests.iter() {
+            if guest.is_ready() {
+                return Some(Duration::ZERO);
+            }
+            first = sooner(first, guest.deadline());
+        }
+        first.map(|first| first.saturating_duration_since(now))
+    }
+
+    // Lets the session of this key go on, where there is one, and says how it ended, where it did.
+    fn go_on<O: Write, E: Write>(
+        &mut self,
+        key: usize,
+        now: Instant,
+        output: &mut O,
+        errors: &mut E,
+    ) -> Result<(), Failure> {
+        let Some(guest) = self.guests.get_mut(key) else {
+            return Ok(());
+        };
+        let state = self.endpoint.state;
+        match guest.step(self.rt, state, &mut self.kept, &mut self.buffer, now) {
+            Ok(()) => {
+                if guest.is_over() {
+                    if let Some(guest) = self.guests.try_remove(key) {
+                        self.say(&guest, output, errors)?;
+                    }
+                }
+            }
+            Err(failure) => {
+                if let Some(guest) = self.guests.try_remove(key) {
+                    self.give_up(guest, failure, errors);
+                }
+            }
+        }
+        Ok(())
+    }
+
+    // Says how a session ended that was done.
+    fn say<O: Write, E: Write>(
+        &self,
+        guest: &Guest,
+        output: &mut O,
+        errors: &mut E,
+    ) -> Result<(), Failure> {
+        if let Some(settled) = guest.settled() {
+            let line = self.line(guest.peer, settled)?;
+            write_out(output, &line)?;
+            warn_of_number(self.rt.alloc(), errors, settled.foreign());
+        }
+        Ok(())
+    }
+
+    // The line of a session that was done: when and whose it was, how many operations are new and how many there are, the first
+    // digits of their digest, and by whom the new ones are.
+    fn line(&self, peer: SocketAddr, settled: &Settled) -> Result<Vec<u8>, Failure> {
+        let alloc = self.rt.alloc();
+        let mut line = Vec::new(alloc);
+        let front = format!(in alloc; "{} peer {peer} ", Moment::now(self.rt))?;
+        line.extend_from_slice(front.as_bytes())?;
+        line.extend_from_slice(settled.saved.text.trim_ascii_end())?;
+        line.extend_from_slice(b" digest ")?;
+        let digits = self.kept.digest();
+        line.extend_from_slice(digits.get(..DIGITS).unwrap_or(digits))?;
+        for (at, share) in settled.news.iter().enumerate() {
+            let mark = if at == 0 { ';' } else { ',' };
+            let text = format!(in alloc; "{mark} {} by {}", share.count, share.author)?;
+            line.extend_from_slice(text.as_bytes())?;
+        }
+        line.extend_from_slice(b"\n")?;
+        Ok(line)
+    }
+
+    // Closes the connection of a session that a fault ended, and says which. What came before is saved, but not after
+    // want of memory, or where the saving was what failed.
+    fn give_up<E: Write>(&mut self, guest: Guest, failure: Failure, errors: &mut E) {
+        let peer = guest.peer;
+        let is_of_peer = matches!(failure.fault, Fault::Sync(_) | Fault::TooLong);
+        let is_to_save = guest.has_brought() && is_of_peer;
+        drop(guest);
+        if is_to_save {
+            if let Ok(settled) = self.kept.settle(self.rt, self.endpoint.state) {
+                warn_of_number(self.rt.alloc(), errors, settled.foreign());
+            }
+        }
+        say_failure(self.rt, errors, peer, failure);
+    }
+}
+
+// Listens at the address without waiting, and reports each connection under the token of the listener. The fault is
+// `Net`.
+fn listening<R>(rt: &R, address: &str) -> Result<(mio::net::TcpListener, Poll), Failure>
+where
+    R: AllocGlobal + Net<Stream = net::TcpStream, Listener = net::TcpListener>,
+{
+    let listener = bound(rt, address)?;
+    match polled(rt, listener) {
+        Ok(both) => Ok(both),
+        Err(error) => Err(unserved(rt.alloc(), address, error)),
+    }
+}
+
+// Has the listener's connections reported, and waits for none.
+fn polled<R>(rt: &R, listener: net::TcpListener) -> io::Result<(mio::net::TcpListener, Poll)>
+where
+    R: Net<Stream = net::TcpStream, Listener = net::TcpListener>,
+{
+    listener.set_nonblocking(true)?;
+    let mut listener = mio::net::TcpListener::from_std(listener);
+    let poll = Poll::new(rt)?;
+    poll.registry()
+        .register(&mut listener, LISTENER, Interest::READABLE)?;
+    Ok((listener, poll))
+}
+
+// Says why a session ended early, and what that means.
+fn say_failure<R, E>(rt: &R, errors: &mut E, peer: SocketAddr, failure: Failure)
+where
+    R: AllocGlobal + Clock,
+    E: Write,
+{
+    let fault = failure.fault;
+    let _ = writeln!(errors, "census: {} peer {peer} {fault}", Moment::now(rt));
+    if let Ok(text) = explanation(rt.alloc(), &failure) {
+        let _ = write_out(errors, text.as_bytes());
+    }
+}
+
+// Warns that the state's own number is used twice, where an operation came by it that the state never held.
+fn warn_of_number<E: Write>(alloc: Global, errors: &mut E, foreign: Option<Dot>) {
+    if let Some(dot) = foreign {
+        if let Ok(text) = foreign_text(alloc, dot) {
+            let _ = writeln!(errors, "warning: {text}");
+        }
+    }
+}
+
+// A buffer of this length.
+fn zeros(alloc: Global, len: usize) -> Result<Vec<u8>, Failure> {
+    Ok(vec![in alloc; 0u8; len]?)
+}

@@ -1,0 +1,29 @@
+//! Sessions of a state with others, over the network.
+//!
+//! Two replicas that meet exchange what is new, and each saves the union of what its file holds then and of what the session
+//! brought. What is said in a session is `oct_sync`; here it goes over a connection, with an end to every wait.
+//!
+//! - `Endpoint` is a state and the address at which it meets its peers, and `Patience` how long it waits for them.
+//! - `serve` has one session with whoever connects, and `sync` one with whoever serves, each over a `Connection` that fails
+//!   where it would wait too long.
+//! - `hub` has many sessions at once, within its `Limits`, in one thread: each is a `Guest`, which goes on whenever its
+//!   connection is ready, and `kept` is the one record for which all of them speak. `shares` says by whom what is new is, and
+//!   `moment` when a session ended.
+//! - `record_file` reads the record of a state file (`record_of`), and saves it joined with what the file holds by then.
+#![tactic(auto)]
+
+mod connection;
+mod endpoint;
+mod guest;
+mod hub;
+mod kept;
+mod moment;
+mod network;
+mod record_file;
+mod shares;
+
+pub use connection::Patience;
+pub use endpoint::Endpoint;
+pub use hub::{Limits, hub};
+pub use network::{serve, sync};
+pub use record_file::record_of;

@@ -1,0 +1,76 @@
+//! Commands that ask a state, which stays as it is.
+
+use crate::found::{out, word};
+use crate::printing::print_file;
+use crate::system::System;
+use crate::task::Task;
+use census_core::{Fault, Request, perform};
+use census_diagnosis::{Given, of_request};
+use census_failure::{Advice, Failure};
+use census_files::{Out, is_same_file, is_standard, read_state};
+use census_words::words::{self, Word};
+use clap::ArgMatches;
+use std::io::Write;
+use written::write_out;
+
+/// What a state file is asked, and the file that is written beside it.
+#[derive(Drop)]
+pub(crate) struct Ask<'a> {
+    state: &'a str,
+    written: Option<Out<'a>>,
+    request: Request,
+}
+
+/// The task of a command that makes this request of a state, and writes the file of this word.
+pub(crate) fn asking<'a>(
+    found: &ArgMatches<'a>,
+    written: Option<Word>,
+    request: Request,
+) -> Result<Task<'a>, Failure> {
+    let written = match written {
+        Some(written) => Some(out(found, written)?),
+        None => None,
+    };
+    Ok(Task::Ask(Ask {
+        state: word(found, words::STATE)?,
+        written,
+        request,
+    }))
+}
+
+/// Asks a state file, and writes the file of the reply and then its text. The state file is not written over.
+pub(crate) fn run<R, O, E>(
+    rt: &R,
+    ask: &Ask<'_>,
+    output: &mut O,
+    advice: &mut Advice<'_, E>,
+) -> Result<(), Failure>
+where
+    R: System,
+    O: Write,
+    E: Write,
+{
+    let Ask {
+        state,
+        written,
+        request,
+    } = ask;
+    let bytes = read_state(rt, state)?;
+    let reply = match perform(rt.alloc(), request, &bytes, b"") {
+        Ok(reply) => reply,
+        Err(fault) => {
+            let (state, none) = (Given::new(state, &bytes), Given::new("", b""));
+            return Err(of_request(rt.alloc(), fault, request, state, none));
+        }
+    };
+    if let (Some(bytes), Some(out)) = (&reply.file, written) {
+        if is_standard(out.path) {
+            return print_file(rt.alloc(), &reply, output);
+        }
+        if is_same_file(rt, state, out.path)? {
+            return Err(Failure::of(rt.alloc(), Fault::Same, out.path));
+        }
+        out.write_delta(rt, bytes, advice)?;
+    }
+    Ok(write_out(output, &reply.text)?)
+}

@@ -1,0 +1,38 @@
+//! `census compute`: the next values of a game.
+
+use crate::change::changing;
+use crate::found::bytes;
+use crate::numbers::{BLOCK, number_of};
+use crate::task::Task;
+use census_core::Request;
+use census_failure::Failure;
+use census_words::{Row, words};
+use clap::ArgMatches;
+use std::alloc::Global;
+
+/// Its row in the table.
+pub(crate) const ROW: Row = Row {
+    name: "compute",
+    words: &[words::STATE, words::CODE, words::COUNT],
+    options: &[words::QUIET],
+    line: "Computes the next values of a game, and issues them",
+    about: "Computes the next values of a game and issues them, and prints author and number",
+    after: "\
+The values begin where those known of the game end, so COUNT is how many more; `census extend` takes
+how many there are to be in all, and several games.
+
+Exit status: 0 done, 1 refused: Load (the state), Code, Compute, Issue, TooMany; 2 command line,
+3 file, 4 memory
+
+Example:
+  census compute anna.state 0.77 168",
+};
+
+/// What its words ask for.
+pub(crate) fn task<'a>(alloc: Global, found: &ArgMatches<'a>) -> Result<Task<'a>, Failure> {
+    let request = Request::Compute {
+        count: number_of(alloc, found, words::COUNT, BLOCK)?,
+        code: bytes(alloc, found, words::CODE)?,
+    };
+    changing(found, None, request)
+}

@@ -1,0 +1,90 @@
+//! `census digest`: names of what files hold.
+
+use crate::found::{form, repeated};
+use crate::task::Task;
+use census_core::{Fault, Form, digest};
+use census_diagnosis::{Given, of_either};
+use census_failure::Failure;
+use census_files::read_file;
+use census_words::{Row, words};
+use clap::ArgMatches;
+use serde_json::json;
+use std::alloc::Global;
+use std::io::Write;
+use std::rt::Files;
+use std::str;
+use written::write_out;
+
+/// Its row in the table.
+pub(crate) const ROW: Row = Row {
+    name: "digest",
+    words: &[words::FILES],
+    options: &[words::EACH_JSON],
+    line: "64 digits for the operations of each file, to be compared",
+    about: "Prints the digest of the operations of each file, and its name",
+    after: "\
+A line for each file has 64 hexadecimal digits, two spaces and the name. Files have the same digits
+where they hold the same operations, be they states, whoever their authors are, or deltas. The digits
+are the SHA-256 of the file that `census delta` writes. With --json a line is an object of `digest` and
+`file`. The first file that is refused ends it; the lines before it stand.
+
+Exit status: 0 done, 1 refused: Load (a state), Merge (a file is neither), TooMany; 2 command line,
+3 file, 4 memory
+
+Example:
+  census digest anna.state ben.delta",
+};
+
+/// What its words ask for.
+pub(crate) fn task<'a>(alloc: Global, found: &ArgMatches<'a>) -> Result<Task<'a>, Failure> {
+    Ok(Task::Digest {
+        files: repeated(alloc, found, words::FILES)?,
+        form: form(found),
+    })
+}
+
+/// Prints the digest of each file before it goes on to the next. The fault is that of the first file that is refused, and
+/// `Write`.
+pub(crate) fn run<R, O>(rt: &R, files: &[&str], form: Form, output: &mut O) -> Result<(), Failure>
+where
+    R: Files + AllocGlobal,
+    O: Write,
+{
+    for path in files {
+        let bytes = read_file(rt, path)?;
+        let digits = match digest(rt.alloc(), &bytes) {
+            Ok(digits) => digits,
+            Err(fault) => return Err(of_either(rt.alloc(), fault, Given::new(path, &bytes))),
+        };
+        write_out(output, &told(rt.alloc(), &digits, path, form)?)?;
+    }
+    Ok(())
+}
+
+// The line of a file's digest and its name.
+fn told(alloc: Global, digits: &[u8], path: &str, form: Form) -> Result<Vec<u8>, Failure> {
+    match form {
+        Form::Lines => line(alloc, digits, path),
+        Form::Json => object(alloc, digits, path),
+    }
+}
+
+// The digits, two spaces and the name, as `sha256sum` prints them.
+fn line(alloc: Global, digits: &[u8], path: &str) -> Result<Vec<u8>, Failure> {
+    let mut line = Vec::from_slice(alloc, digits)?;
+    line.extend_from_slice(b"  ")?;
+    line.extend_from_slice(path.as_bytes())?;
+    line.extend_from_slice(b"\n")?;
+    Ok(line)
+}
+
+// The same as an object of JSON.
+fn object(alloc: Global, digits: &[u8], path: &str) -> Result<Vec<u8>, Failure> {
+    let digits = match str::from_utf8(digits) {
+        Ok(digits) => digits,
+        Err(_) => return Err(Failure::from(Fault::File)),
+    };
+    let mut line = json!(in alloc; { "digest": digits, "file": path })?.to_vec(alloc)?;
+    line.extend_from_slice(b"\n")?;
+    Ok(line)
+}

@@ -1,0 +1,66 @@
+//! `census hub`: many sessions at once.
+
+use crate::endpoint::endpoint;
+use crate::numbers::{FROM_0, FROM_1, SESSIONS, option_of, seconds};
+use crate::task::Task;
+use census_failure::Failure;
+use census_net::Limits;
+use census_words::{Row, words};
+use clap::ArgMatches;
+use std::alloc::Global;
+
+/// Its row in the table.
+pub(crate) const ROW: Row = Row {
+    name: "hub",
+    words: &[words::STATE, words::ADDR],
+    options: &[
+        words::PATIENCE,
+        words::LONGEST,
+        words::PEERS,
+        words::SESSIONS,
+        words::MOST,
+    ],
+    line: "Serves many `sync` at once, for a whole group",
+    about: "Serves connections to an address, many at once and each with its `sync`, until it is ended",
+    after: of_sessions!(
+        "\
+It prints `listening on ADDR:PORT`, with the port that the system gave where 0 was asked for, and
+after each session `TIME peer ADDR:PORT new N operations M digest D; I by A, ..`: so many operations
+are new, so many there are, the first eight digits of their digest, and how many of the new ones are
+by which author. A session that ends early has its fault on standard error, and the hub goes on.
+A `sync` is told that it is done once all that the hub has by then is saved.
+",
+        "
+Exit status: 0 so many peers were served, 1 Load (the file is no state), 2 command line, 3 file,
+stream or network, 4 memory
+
+Example:
+  census hub group.state 127.0.0.1:4000"
+    ),
+};
+
+/// What its words ask for.
+pub(crate) fn task<'a>(alloc: Global, found: &ArgMatches<'a>) -> Result<Task<'a>, Failure> {
+    let longest = seconds(alloc, found, words::LONGEST)?;
+    Ok(Task::Hub {
+        endpoint: endpoint(alloc, found, Some(longest))?,
+        limits: limits(alloc, found)?,
+    })
+}
+
+// How many peers a hub takes, and how much of each.
+fn limits(alloc: Global, found: &ArgMatches<'_>) -> Result<Limits, Failure> {
+    Ok(Limits {
+        peers: peers(alloc, found)?,
+        sessions: option_of(alloc, found, words::SESSIONS, SESSIONS)? as usize,
+        most: u64::from(option_of(alloc, found, words::MOST, FROM_1)?),
+    })
+}
+
+// After how many peers a hub ends.
+fn peers(alloc: Global, found: &ArgMatches<'_>) -> Result<u64, Failure> {
+    if found.get_str(words::PEERS.name).is_none() {
+        return Ok(u64::MAX);
+    }
+    Ok(u64::from(option_of(alloc, found, words::PEERS, FROM_0)?))
+}

@@ -1,0 +1,31 @@
+//! `census import`: the block of values of a JSON file.
+
+use crate::change::changing;
+use crate::task::Task;
+use census_core::Request;
+use census_failure::Failure;
+use census_words::{Row, words};
+use clap::ArgMatches;
+
+/// Its row in the table.
+pub(crate) const ROW: Row = Row {
+    name: "import",
+    words: &[words::STATE, words::FILE],
+    options: &[words::QUIET],
+    line: "Issues a block of values from a JSON file",
+    about: "Issues the block of values of a JSON file, and prints its author and number",
+    after: "\
+The object has exactly the keys code, start (the heap of the first value) and values, 1 to 1024 of
+them. The values may be wrong: the catalogue says at which heap.
+
+Exit status: 0 done, 1 refused: Load (the state), Json or Import (the block), Issue, TooMany;
+2 command line, 3 file, 4 memory
+
+Example:
+  census import anna.state examples/dawson.json",
+};
+
+/// What its words ask for.
+pub(crate) fn task<'a>(found: &ArgMatches<'a>) -> Result<Task<'a>, Failure> {
+    changing(found, Some(words::FILE), Request::Import)
+}

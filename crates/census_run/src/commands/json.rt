@@ -1,0 +1,34 @@
+//! `census json`: all that is known, for scripts.
+
+use crate::ask::asking;
+use crate::found::all_or_only;
+use crate::task::Task;
+use census_core::{Request, View};
+use census_failure::Failure;
+use census_words::{Row, words};
+use clap::ArgMatches;
+use std::alloc::Global;
+
+/// Its row in the table.
+pub(crate) const ROW: Row = Row {
+    name: "json",
+    words: &[words::STATE],
+    options: &[words::ONLY],
+    line: "All that is known, for scripts",
+    about: "Prints all that is known as one JSON document",
+    after: "\
+It has the keys authors, census (the edition of the catalogue), forks, games and notes;
+docs/FORMATS.md says what stands under each. With --only it has the blocks and claims of the games
+that are named, and nothing else.
+
+Exit status: 0 done, 1 refused: Load (the state), Code; 2 command line, 3 file, 4 memory
+
+Example:
+  census json anna.state > anna.json",
+};
+
+/// What its words ask for.
+pub(crate) fn task<'a>(alloc: Global, found: &ArgMatches<'a>) -> Result<Task<'a>, Failure> {
+    let request = all_or_only(alloc, found, Request::Json, View::Json)?;
+    asking(found, None, request)
+}

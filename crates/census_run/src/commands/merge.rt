@@ -1,0 +1,28 @@
+//! `census merge`: a delta is taken in.
+
+use crate::change::changing;
+use crate::task::Task;
+use census_core::Request;
+use census_failure::Failure;
+use census_words::{Row, words};
+use clap::ArgMatches;
+
+/// Its row in the table.
+pub(crate) const ROW: Row = Row {
+    name: "merge",
+    words: &[words::STATE, words::DELTA],
+    options: &[],
+    line: "Takes such a file in",
+    about: "Takes a delta file in, and prints how many of its operations are new",
+    after: "\
+Exit status: 0 done (also where nothing is new), 1 refused: Load (the state), Merge (the delta),
+TooMany; 2 command line, 3 file, 4 memory
+
+Example:
+  census merge anna.state ben.delta",
+};
+
+/// What its words ask for.
+pub(crate) fn task<'a>(found: &ArgMatches<'a>) -> Result<Task<'a>, Failure> {
+    changing(found, Some(words::DELTA), Request::Merge)
+}

@@ -1,0 +1,34 @@
+//! `census note`: a note.
+
+use crate::change::changing;
+use crate::found::bytes;
+use crate::task::Task;
+use census_core::Request;
+use census_failure::Failure;
+use census_words::{Row, words};
+use clap::ArgMatches;
+use std::alloc::Global;
+
+/// Its row in the table.
+pub(crate) const ROW: Row = Row {
+    name: "note",
+    words: &[words::STATE, words::NAME, words::TEXT],
+    options: &[words::QUIET],
+    line: "Issues a note",
+    about: "Issues a note, and prints its author and number",
+    after: "\
+Exit status: 0 done, 1 refused: Load (the state), Note, Issue, TooMany; 2 command line, 3 file,
+4 memory
+
+Example:
+  census note anna.state kayles 'period 12 from heap 71'",
+};
+
+/// What its words ask for.
+pub(crate) fn task<'a>(alloc: Global, found: &ArgMatches<'a>) -> Result<Task<'a>, Failure> {
+    let request = Request::Note {
+        name: bytes(alloc, found, words::NAME)?,
+        text: bytes(alloc, found, words::TEXT)?,
+    };
+    changing(found, None, request)
+}

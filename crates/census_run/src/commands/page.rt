@@ -1,0 +1,32 @@
+//! `census page`: a page of the catalogue.
+
+use crate::ask::asking;
+use crate::numbers::{FROM_0, number_of};
+use crate::task::Task;
+use census_core::Request;
+use census_failure::Failure;
+use census_words::{Row, words};
+use clap::ArgMatches;
+use std::alloc::Global;
+
+/// Its row in the table.
+pub(crate) const ROW: Row = Row {
+    name: "page",
+    words: &[words::STATE, words::NUMBER],
+    options: &[],
+    line: "64 lines of it",
+    about: "Prints one page of the catalogue",
+    after: "\
+Exit status: 0 done, 1 refused: Load (the state), NoPage; 2 command line, 3 file, 4 memory
+
+Example:
+  census page anna.state 0",
+};
+
+/// What its words ask for.
+pub(crate) fn task<'a>(alloc: Global, found: &ArgMatches<'a>) -> Result<Task<'a>, Failure> {
+    let request = Request::Page {
+        number: number_of(alloc, found, words::NUMBER, FROM_0)?,
+    };
+    asking(found, None, request)
+}

@@ -1,0 +1,40 @@
+//! `census period`: the claim of a period.
+
+use crate::change::changing;
+use crate::found::bytes;
+use crate::numbers::{HEAPS, number_of};
+use crate::task::Task;
+use census_core::Request;
+use census_failure::Failure;
+use census_words::{Row, words};
+use clap::ArgMatches;
+use std::alloc::Global;
+
+/// Its row in the table.
+pub(crate) const ROW: Row = Row {
+    name: "period",
+    words: &[words::STATE, words::CODE, words::E, words::P],
+    options: &[words::QUIET],
+    line: "Claims that a game's values repeat by P from heap E on",
+    about: "Issues the claim that a game's values repeat, and prints its author and number",
+    after: "\
+The claim says that each heap from E on has the value of the heap that is P larger. It is proved
+once the first 2E + 2P + k values are known, k the number of digits of the code, and then holds for
+all heaps.
+
+Exit status: 0 done, 1 refused: Load (the state), Code, Period, Issue, TooMany; 2 command line,
+3 file, 4 memory
+
+Example:
+  census period anna.state 0.77 71 12",
+};
+
+/// What its words ask for.
+pub(crate) fn task<'a>(alloc: Global, found: &ArgMatches<'a>) -> Result<Task<'a>, Failure> {
+    let request = Request::Period {
+        e: number_of(alloc, found, words::E, HEAPS)?,
+        p: number_of(alloc, found, words::P, HEAPS)?,
+        code: bytes(alloc, found, words::CODE)?,
+    };
+    changing(found, None, request)
+}

@@ -1,0 +1,72 @@
+//! `census read`: what files hold together.
+
+use crate::found::repeated;
+use crate::task::Task;
+use census_core::{Fault, read_together};
+use census_diagnosis::{Given, of_either};
+use census_failure::Failure;
+use census_files::read_file;
+use census_words::{Row, words};
+use clap::ArgMatches;
+use oct_delta::read_ops;
+use std::alloc::Global;
+use std::io::Write;
+use std::rt::Files;
+use written::write_out;
+
+/// Its row in the table.
+pub(crate) const ROW: Row = Row {
+    name: "read",
+    words: &[words::FILES],
+    options: &[],
+    line: "What follows from states and deltas together",
+    about: "Prints the catalogue of what some files hold together, each a state or a delta",
+    after: "\
+No state of one's own is needed, and no file is changed. The first file that is neither a state nor a
+delta ends it, and nothing is printed.
+
+Exit status: 0 done, 1 refused: Load (a state), Merge (a file is neither); 2 command line, 3 file,
+4 memory
+
+Example:
+  census read anna.state ben.delta",
+};
+
+/// What its words ask for.
+pub(crate) fn task<'a>(alloc: Global, found: &ArgMatches<'a>) -> Result<Task<'a>, Failure> {
+    Ok(Task::Read {
+        files: repeated(alloc, found, words::FILES)?,
+    })
+}
+
+/// Prints the catalogue of what files hold together.
+pub(crate) fn run<R, O>(rt: &R, paths: &[&str], output: &mut O) -> Result<(), Failure>
+where
+    R: Files + AllocGlobal,
+    O: Write,
+{
+    let mut files = Vec::new(rt.alloc());
+    for path in paths {
+        let bytes = read_file(rt, path)?;
+        files.push(bytes).or(Err(Fault::OutOfMemory))?;
+    }
+    match read_together(rt.alloc(), &files) {
+        Ok(text) => Ok(write_out(output, &text)?),
+        Err(fault) => Err(of_files(rt.alloc(), fault, paths, &files)),
+    }
+}
+
+// The failure of the first of these files that is neither a state nor a delta.
+fn of_files(alloc: Global, fault: Fault, paths: &[&str], files: &[Vec<u8>]) -> Failure {
+    for (path, bytes) in paths.iter().zip(files) {
+        let is_refused = if bytes.starts_with(b"OGS1") {
+            oct_record::read_state(bytes).is_err()
+        } else {
+            read_ops(bytes).is_err()
+        };
+        if is_refused {
+            return of_either(alloc, fault, Given::new(path, bytes));
+        }
+    }
+    Failure::from(fault)
+}

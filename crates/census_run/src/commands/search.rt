@@ -1,0 +1,232 @@
+//! `census search`: the period of each game, past every limit, or a list of first values.
+
+use crate::found::{game, games, repeated};
+use crate::numbers::{Range, heaps, value_count};
+use crate::system::System;
+use crate::task::Task;
+use census_core::{
+    Fault, Forgetful, Form, Progress, SEARCH_LIMIT, WINDOW_LIMIT, first_values, search,
+    search_in_windows, write_values,
+};
+use census_failure::Failure;
+use census_progress::{ProgressLine, WindowSearch, search_saved};
+use census_words::{Row, words};
+use clap::ArgMatches;
+use oct_code::Code;
+use std::alloc::Global;
+use std::io::Write;
+use written::write_out;
+
+/// Its row in the table.
+pub(crate) const ROW: Row = Row {
+    name: "search",
+    words: &[words::VALUES, words::CODES],
+    options: &[
+        words::AT,
+        words::AS_JSON,
+        words::AS_BFILE,
+        words::WINDOW,
+        words::SAVE,
+    ],
+    line: "The period of each game, by at most COUNT values",
+    about: "Computes values of each game until they prove a period, and says which",
+    after: "\
+For each game in turn values are computed until they prove a period, or COUNT of them are known, and
+a line is printed. It names the least period P that they prove, the least heap E from which on it
+holds, how many values prove it: 2E + 2P + k, k the number of digits of the code, and how many were
+computed: a period is looked for from time to time, so these may be more. Or it says `no period in
+COUNT values`. A period that is named holds for all heaps. Once one run of it proves that the values
+go on with it, the further ones are copied.
+
+Each --at HEAP adds a line behind that of a game: the value of the heap by the period, however large
+it is; or where no period is found, its value if it is below COUNT, and else `not known`. With --json
+there is one line of JSON for a game, and null stands for what is not known. With --bfile, which takes
+one game and none of these, the first COUNT values are printed, a line `n v` for each heap n.
+
+With --window, which takes no --at, the first 65,536 values are listed, and then only as many are
+kept as tell the next one; more are listed where these do not. A period is seen where the values that
+are kept come again, mostly by fewer values than 2E + 2P + k; then E is found by a second pass. The
+line says `no period seen in COUNT values` where they do not come again: they are marked anew at
+lengths that double, so a period that a search without --window would find may not be seen.
+
+With --save FILE such a search, of one game, can be stopped at any moment and taken up again by the same
+line: how far it is stands in FILE, which is written every two minutes and at the end, with a checksum,
+and goes on from there, by more values where COUNT is greater than before. What FILE has is believed, and
+the line ends with `from a saved search`. FILE is locked meanwhile, and written as a state is; where it
+can't be written, the search ends. The first 65,536 values, or as many as are listed, are computed anew.
+
+No state is needed. A value takes a byte of memory while none is above 255, and two from then on, and
+up to a third more while the list grows. On a terminal a line on standard error says how far it is.
+All codes are read before the first value is computed; after a later fault the lines of the games
+before it stand.
+
+Exit status: 0 done (also where there is no period), 1 refused: Code, Saved (FILE: Version, Refused or
+Game), PastValue (a value is above 65535); 2 command line, 3 file or output, 4 memory
+
+Examples:
+  census search 1000000 0.16
+  census search 1000000 0.16 --at 1000000000000
+  census search 1000000000000 0.104 --window
+  census search 1000000000000 0.106 --window --save 0.106.search
+  census search --bfile 100000 0.16 > b.txt",
+};
+
+/// What a search is for: the period of each game, by at most so many values, and the values of these heaps; in windows there
+/// are none.
+#[derive(Drop)]
+pub(crate) struct Search<'a> {
+    pub(crate) count: u64,
+    pub(crate) heaps: Vec<u64>,
+    pub(crate) codes: Vec<Code>,
+    pub(crate) form: Form,
+    pub(crate) is_windowed: bool,
+    /// The file in which the search in windows of one game is saved.
+    pub(crate) save: Option<&'a str>,
+}
+
+// How many values are computed at most.
+const SEARCHED: Range = Range {
+    least: 1,
+    greatest: SEARCH_LIMIT,
+};
+
+const WINDOWED: Range = Range {
+    least: 1,
+    greatest: WINDOW_LIMIT,
+};
+
+/// What its words ask for.
+pub(crate) fn task<'a>(alloc: Global, found: &ArgMatches<'a>) -> Result<Task<'a>, Failure> {
+    if found.get_flag(words::AS_BFILE.name) {
+        return listed(alloc, found);
+    }
+    Ok(Task::Search(sought(alloc, found)?))
+}
+
+// The values that are asked for as a b-file: those of one game, and nothing else.
+fn listed<'a>(alloc: Global, found: &ArgMatches<'a>) -> Result<Task<'a>, Failure> {
+    let is_more = found.get_flag(words::AS_JSON.name)
+        || found.get_flag(words::WINDOW.name)
+        || found.get_str(words::SAVE.name).is_some();
+    if is_more || found.get_strs(words::AT.name).is_some() {
+        return Err(crowded(alloc));
+    }
+    let codes = repeated(alloc, found, words::CODES)?;
+    let [code] = codes.as_slice() else {
+        return Err(crowded(alloc));
+    };
+    Ok(Task::List {
+        count: value_count(alloc, found, SEARCHED)?,
+        code: game(alloc, code)?,
+    })
+}
+
+// What is searched for.
+fn sought<'a>(alloc: Global, found: &ArgMatches<'a>) -> Result<Search<'a>, Failure> {
+    let form = if found.get_flag(words::AS_JSON.name) {
+        Form::Json
+    } else {
+        Form::Lines
+    };
+    let is_windowed = found.get_flag(words::WINDOW.name);
+    if is_windowed && found.get_strs(words::AT.name).is_some() {
+        return Err(forgotten(alloc));
+    }
+    let save = found.get_str(words::SAVE.name);
+    if save.is_some() && (!is_windowed || repeated(alloc, found, words::CODES)?.len() != 1) {
+        return Err(unsaved(alloc));
+    }
+    let range = if is_windowed { WINDOWED } else { SEARCHED };
+    Ok(Search {
+        count: value_count(alloc, found, range)?,
+        heaps: heaps(alloc, found, words::AT.name)?,
+        codes: games(alloc, found)?,
+        form,
+        is_windowed,
+        save,
+    })
+}
+
+// The failure of a list of values, for which too much is asked.
+fn crowded(alloc: Global) -> Failure {
+    let text = "--bfile takes one CODE, and neither --at, --json, --window nor --save";
+    Failure::from(Fault::Words).found(String::from_str(alloc, text))
+}
+
+// The failure of a search in windows for the values of heaps, which windows do not keep.
+fn forgotten(alloc: Global) -> Failure {
+    let text = "--window keeps no values for --at";
+    Failure::from(Fault::Words).found(String::from_str(alloc, text))
+}
+
+// The failure of a search that can't be saved.
+fn unsaved(alloc: Global) -> Failure {
+    let text = "--save takes one CODE, and --window";
+    Failure::from(Fault::Words).found(String::from_str(alloc, text))
+}
+
+/// Searches for the period of each game, and prints its lines before it goes on to the next.
+pub(crate) fn run<R, O, E>(
+    rt: &R,
+    asked: &Search<'_>,
+    output: &mut O,
+    progress: &mut ProgressLine<'_, R, E>,
+) -> Result<(), Failure>
+where
+    R: System,
+    O: Write,
+    E: Write,
+{
+    let (count, form) = (asked.count, asked.form);
+    for code in &asked.codes {
+        let searched = if let Some(path) = asked.save {
+            let sought = WindowSearch {
+                code: *code,
+                count,
+                form,
+            };
+            search_saved(rt, sought, path, progress)
+        } else if asked.is_windowed {
+            Ok(search_unsaved(rt.alloc(), *code, asked, progress)?)
+        } else {
+            Ok(search(rt.alloc(), *code, count, &asked.heaps, form, progress)?)
+        };
+        progress.clear();
+        write_out(output, &searched?)?;
+    }
+    Ok(())
+}
+
+// Searches for the period of a game in windows, and saves nothing.
+fn search_unsaved<P: Progress>(
+    alloc: Global,
+    code: Code,
+    asked: &Search<'_>,
+    progress: &mut P,
+) -> Result<Vec<u8>, Fault> {
+    search_in_windows(
+        alloc,
+        code,
+        asked.count,
+        asked.form,
+        &mut Forgetful(progress),
+    )
+}
+
+/// Prints the first values of a game, once all are computed.
+pub(crate) fn list<R, O, E>(
+    rt: &R,
+    code: Code,
+    count: u64,
+    output: &mut O,
+    progress: &mut ProgressLine<'_, R, E>,
+) -> Result<(), Failure>
+where
+    R: System,
+    O: Write,
+    E: Write,
+{
+    let values = first_values(rt.alloc(), code, count, progress);
+    progress.clear();
+    Ok(write_values(rt.alloc(), &values?, output)?)
+}

@@ -1,0 +1,33 @@
+//! `census show`: the catalogue.
+
+use crate::ask::asking;
+use crate::found::all_or_only;
+use crate::task::Task;
+use census_core::{Request, View};
+use census_failure::Failure;
+use census_words::{Row, words};
+use clap::ArgMatches;
+use std::alloc::Global;
+
+/// Its row in the table.
+pub(crate) const ROW: Row = Row {
+    name: "show",
+    words: &[words::STATE],
+    options: &[words::ONLY],
+    line: "The catalogue: all that follows from the state's operations",
+    about: "Prints the catalogue",
+    after: "\
+With --only the catalogue has the blocks and claims of the games that are named, and nothing else.
+
+Exit status: 0 done, 1 refused: Load (the state), Code; 2 command line, 3 file, 4 memory
+
+Examples:
+  census show anna.state
+  census show anna.state --only 0.77 --only 0.6",
+};
+
+/// What its words ask for.
+pub(crate) fn task<'a>(alloc: Global, found: &ArgMatches<'a>) -> Result<Task<'a>, Failure> {
+    let request = all_or_only(alloc, found, Request::Show, View::Catalogue)?;
+    asking(found, None, request)
+}

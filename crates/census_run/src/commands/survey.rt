@@ -1,0 +1,41 @@
+//! `census survey`: the same, and the period of each game.
+
+use crate::change::changing;
+use crate::found::{codes, form};
+use crate::numbers::heap_count;
+use crate::task::Task;
+use census_core::Request;
+use census_failure::Failure;
+use census_words::{Row, words};
+use clap::ArgMatches;
+use std::alloc::Global;
+
+/// Its row in the table.
+pub(crate) const ROW: Row = Row {
+    name: "survey",
+    words: &[words::STATE, words::HEAPS, words::CODES],
+    options: &[words::EACH_JSON],
+    line: "Does that, finds the period of each game, and claims it",
+    about: "Makes the first COUNT values of each game known, and finds and claims its period",
+    after: "\
+It does for each game in turn what extend does, and says what find says. A period that is found is
+claimed, unless the state has that claim. With --json it says it as `find --json` does. On a terminal
+a line on standard error says how far it is.
+The state is written on the way, as extend writes it.
+
+Exit status: 0 done (also where there is no period), 1 refused: Load (the state), Code, Issue,
+TooMany; 2 command line, 3 file, 4 memory
+
+Example, with the braces of the shell (the three-digit games of Winning Ways, chapter 4):
+  census survey ww.state 4096 0.{0..7}{0..7}{1..7}",
+};
+
+/// What its words ask for.
+pub(crate) fn task<'a>(alloc: Global, found: &ArgMatches<'a>) -> Result<Task<'a>, Failure> {
+    let request = Request::Survey {
+        count: heap_count(alloc, found)?,
+        codes: codes(alloc, found)?,
+        form: form(found),
+    };
+    changing(found, None, request)
+}

@@ -1,0 +1,150 @@
+//! `census union`: one delta of several.
+
+use crate::found::{out, repeated};
+use crate::printing::print_file;
+use crate::task::Task;
+use census_core::{Fault, Reply, unite};
+use census_diagnosis::{Given, of_delta};
+use census_failure::{Advice, Failure, INPUT_NAME};
+use census_files::{Out, Replaced, StateFile, is_standard, read_delta, read_standard};
+use census_words::{Row, words};
+use clap::ArgMatches;
+use std::alloc::Global;
+use std::fs::File;
+use std::io::{Read, Write};
+use std::rt::Files;
+use std::time::Clock;
+use written::write_out;
+
+/// Its row in the table.
+pub(crate) const ROW: Row = Row {
+    name: "union",
+    words: &[words::UNION, words::DELTAS],
+    options: &[words::REPLACE],
+    line: "Writes the union of such files as one; needs no state",
+    about: "Writes the union of delta files as one, and prints how many operations it has",
+    after: "\
+All files are read before OUT is written, and OUT is replaced as a whole, so it may be one of them.
+Where OUT is -, the delta goes to standard output, and nothing else is printed. A file that is no
+delta is named by its place among them, counted from 1; then nothing is written. Where OUT has bytes
+and is none of them, or is the name of another file with .lock or .new behind it, nothing is written
+either: that is the fault Occupied, unless --replace is said.
+
+Exit status: 0 done, 1 refused: Union (a file is no delta), TooMany; 2 command line, 3 file, 4 memory
+
+Example, as a merge driver of git (docs/GROUP.md):
+  git config merge.census.driver 'census union %A %A %B'",
+};
+
+/// What its words ask for.
+pub(crate) fn task<'a>(alloc: Global, found: &ArgMatches<'a>) -> Result<Task<'a>, Failure> {
+    Ok(Task::Union {
+        out: out(found, words::UNION)?,
+        deltas: repeated(alloc, found, words::DELTAS)?,
+    })
+}
+
+/// Writes the union of some delta files, which are all read before, to a file that is one of them, or in whose place none
+/// stands.
+pub(crate) fn run<R, I, O, E>(
+    rt: &R,
+    out: Out<'_>,
+    deltas: &[&str],
+    input: &mut I,
+    output: &mut O,
+    advice: &mut Advice<'_, E>,
+) -> Result<(), Failure>
+where
+    R: Files<File = File> + AllocGlobal + Clock,
+    I: Read,
+    O: Write,
+    E: Write,
+{
+    let piped = if deltas.iter().any(|path| is_standard(path)) {
+        read_standard(rt.alloc(), input)?
+    } else {
+        Vec::new(rt.alloc())
+    };
+    if is_standard(out.path) {
+        let reply = united(rt, deltas, &piped)?;
+        return print_file(rt.alloc(), &reply, output);
+    }
+    let done = if out.is_stream(rt) {
+        union_streamed(rt, out, deltas, &piped)
+    } else {
+        let file = StateFile::wait_telling(rt, out.path, advice)?;
+        let done = union_held(rt, &file, out, deltas, &piped, advice);
+        file.release(rt);
+        done
+    };
+    Ok(write_out(output, &done?.text)?)
+}
+
+// The same into a pipe or a device.
+fn union_streamed<R>(rt: &R, out: Out<'_>, deltas: &[&str], piped: &[u8]) -> Result<Reply, Failure>
+where
+    R: Files<File = File> + AllocGlobal,
+{
+    let reply = united(rt, deltas, piped)?;
+    if let Some(bytes) = &reply.file {
+        out.write_stream(rt, bytes)?;
+    }
+    Ok(reply)
+}
+
+// The same, while no other command changes the file.
+fn union_held<R, E>(
+    rt: &R,
+    file: &StateFile,
+    out: Out<'_>,
+    deltas: &[&str],
+    piped: &[u8],
+    advice: &mut Advice<'_, E>,
+) -> Result<Reply, Failure>
+where
+    R: Files<File = File> + AllocGlobal,
+    E: Write,
+{
+    let reply = united(rt, deltas, piped)?;
+    if let Some(bytes) = &reply.file {
+        out.write_held(rt, file, Replaced::OneOf(deltas), bytes, advice)?;
+    }
+    Ok(reply)
+}
+
+// The union of delta files, of which `-` stands for these bytes.
+fn united<R>(rt: &R, deltas: &[&str], piped: &[u8]) -> Result<Reply, Failure>
+where
+    R: Files + AllocGlobal,
+{
+    let mut files = Vec::new(rt.alloc());
+    for path in deltas {
+        let bytes = if is_standard(path) {
+            Vec::from_slice(rt.alloc(), piped)?
+        } else {
+            read_delta(rt, path)?
+        };
+        files.push(bytes).or(Err(Fault::OutOfMemory))?;
+    }
+    match unite(rt.alloc(), &files) {
+        Ok(reply) => Ok(reply),
+        Err(fault) => Err(of_union(rt.alloc(), fault, deltas, &files)),
+    }
+}
+
+// The failure of a union of these files.
+fn of_union(alloc: Global, fault: Fault, deltas: &[&str], files: &[Vec<u8>]) -> Failure {
+    let Fault::Union { place, cause } = fault else {
+        return Failure::from(fault);
+    };
+    let at = usize::try_from(place).unwrap_or(0).saturating_sub(1);
+    match (deltas.get(at), files.get(at)) {
+        (Some(name), Some(bytes)) => of_delta(alloc, fault, cause, Given::new(named(name), bytes)),
+        _ => Failure::from(fault),
+    }
+}
+
+// What a file that is read is called.
+fn named(path: &str) -> &str {
+    if is_standard(path) { INPUT_NAME } else { path }
+}

@@ -1,0 +1,134 @@
+//! What was found on a command line.
+
+use census_core::{Fault, Form, Request, View};
+use census_diagnosis::of_code;
+use census_failure::Failure;
+use census_files::Out;
+use census_words::words::{self, Word};
+use clap::ArgMatches;
+use oct_code::Code;
+use std::alloc::Global;
+
+/// A word of the command line.
+pub(crate) fn word<'a>(found: &ArgMatches<'a>, word: Word) -> Result<&'a str, Failure> {
+    match found.get_str(word.name) {
+        Some(text) => Ok(text),
+        None => Err(Failure::from(Fault::Words)),
+    }
+}
+
+/// A word that names the file that a command writes.
+pub(crate) fn out<'a>(found: &ArgMatches<'a>, which: Word) -> Result<Out<'a>, Failure> {
+    Ok(Out {
+        path: word(found, which)?,
+        is_forced: found.get_flag(words::REPLACE.name),
+    })
+}
+
+/// A copy of a word's bytes.
+pub(crate) fn bytes(
+    alloc: Global,
+    found: &ArgMatches<'_>,
+    which: Word,
+) -> Result<Vec<u8>, Failure> {
+    Ok(Vec::from_slice(alloc, word(found, which)?.as_bytes())?)
+}
+
+/// A word that stands once or more.
+pub(crate) fn repeated<'a>(
+    alloc: Global,
+    found: &ArgMatches<'a>,
+    which: Word,
+) -> Result<Vec<&'a str>, Failure> {
+    let Some(words) = found.get_strs(which.name) else {
+        return Err(Failure::from(Fault::Words));
+    };
+    let mut all = Vec::new(alloc);
+    for word in words {
+        all.push(*word).or(Err(Fault::OutOfMemory))?;
+    }
+    Ok(all)
+}
+
+/// A word that stands any number of times.
+pub(crate) fn repeated_or_none<'a>(
+    alloc: Global,
+    found: &ArgMatches<'a>,
+    which: Word,
+) -> Result<Vec<&'a str>, Failure> {
+    if found.get_strs(which.name).is_none() {
+        return Ok(Vec::new(alloc));
+    }
+    repeated(alloc, found, which)
+}
+
+/// Copies of the bytes of the codes, of which there are some.
+pub(crate) fn codes(alloc: Global, found: &ArgMatches<'_>) -> Result<Vec<Vec<u8>>, Failure> {
+    let codes = copies(alloc, found, words::CODES.name)?;
+    if codes.is_empty() {
+        return Err(Failure::from(Fault::Words));
+    }
+    Ok(codes)
+}
+
+/// Copies of the bytes of the words that stand under a name.
+pub(crate) fn copies(
+    alloc: Global,
+    found: &ArgMatches<'_>,
+    name: &str,
+) -> Result<Vec<Vec<u8>>, Failure> {
+    let mut copies = Vec::new(alloc);
+    if let Some(words) = found.get_strs(name) {
+        for word in words {
+            let copy = Vec::from_slice(alloc, word.as_bytes())?;
+            copies.push(copy).or(Err(Fault::OutOfMemory))?;
+        }
+    }
+    Ok(copies)
+}
+
+/// The games of the codes.
+pub(crate) fn games(alloc: Global, found: &ArgMatches<'_>) -> Result<Vec<Code>, Failure> {
+    let mut games = Vec::new(alloc);
+    for word in repeated(alloc, found, words::CODES)? {
+        let game = game(alloc, word)?;
+        games.push(game).or(Err(Fault::OutOfMemory))?;
+    }
+    Ok(games)
+}
+
+/// The game of a code.
+pub(crate) fn game(alloc: Global, word: &str) -> Result<Code, Failure> {
+    match Code::parse(word.as_bytes()) {
+        Ok(game) => Ok(game),
+        Err(cause) => Err(of_code(alloc, Fault::Code(cause), word.as_bytes())),
+    }
+}
+
+/// Whether nothing is printed where all is done.
+pub(crate) fn is_quiet(found: &ArgMatches<'_>) -> bool {
+    found.get_flag(words::QUIET.name)
+}
+
+/// How lines are written.
+pub(crate) fn form(found: &ArgMatches<'_>) -> Form {
+    if found.get_flag(words::EACH_JSON.name) {
+        Form::Json
+    } else {
+        Form::Lines
+    }
+}
+
+/// The request for all that is known, or the one for some games alone in this view, where some are named.
+pub(crate) fn all_or_only(
+    alloc: Global,
+    found: &ArgMatches<'_>,
+    all: Request,
+    view: View,
+) -> Result<Request, Failure> {
+    let codes = copies(alloc, found, words::ONLY.name)?;
+    if codes.is_empty() {
+        return Ok(all);
+    }
+    Ok(Request::Only { codes, view })
+}

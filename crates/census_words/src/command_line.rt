@@ -1,0 +1,85 @@
+//! The command line of the program, made from the table of the commands.
+
+use crate::table::{Part, Row};
+use crate::words::{self, Choice, Takes, Times, Word};
+use clap::{Arg, ArgAction, Command};
+use std::alloc::{AllocError, Global};
+
+/// The command line of a program with these commands, and with this first screen of its help.
+pub fn command<'a>(
+    alloc: Global,
+    parts: &[Part],
+    screen: &'a str,
+) -> Result<Command<'a>, AllocError> {
+    let mut command = Command::new(alloc, "census")
+        .bin_name("census")?
+        .version("1.1.0")
+        .override_help(screen)
+        .no_binary_name(true)
+        .subcommand_required(true)
+        .arg(explain(alloc))?;
+    for part in parts {
+        for row in part.rows {
+            command = command.subcommand(command_of(alloc, row)?)?;
+        }
+    }
+    Ok(command)
+}
+
+// The command of this row.
+fn command_of<'a>(alloc: Global, row: &Row) -> Result<Command<'a>, AllocError> {
+    let mut command = Command::new(alloc, row.name)
+        .about(row.about)
+        .after_help(row.after);
+    for &word in row.words {
+        command = command.arg(argument_of(alloc, word)?)?;
+        if let Times::OneOr(option) = word.times {
+            command = command.arg(option_of(alloc, option))?;
+        }
+    }
+    for &option in row.options {
+        command = command.arg(option_of(alloc, option))?;
+    }
+    Ok(command)
+}
+
+// The argument that this word is.
+fn argument_of<'a>(alloc: Global, word: Word) -> Result<Arg<'a>, AllocError> {
+    let argument = Arg::new(alloc, word.name).help(word.meaning);
+    match word.times {
+        Times::One => Ok(argument.required(true)),
+        Times::OneOr(option) => argument
+            .required_unless_present(option.name)?
+            .conflicts_with(option.name),
+        Times::OneOrNone => Ok(argument),
+        Times::OneOrMore => Ok(
+            argument
+                .action(ArgAction::Append)
+                .num_args(1..)
+                .required(true),
+        ),
+        Times::Any => Ok(argument.action(ArgAction::Append).num_args(0..)),
+    }
+}
+
+// The argument that this option is.
+fn option_of<'a>(alloc: Global, choice: Choice) -> Arg<'a> {
+    let option = Arg::new(alloc, choice.name)
+        .long(choice.name)
+        .help(choice.meaning);
+    let option = match choice.takes {
+        Takes::Nothing => option.action(ArgAction::SetTrue),
+        Takes::One(value) => option.value_name(value).action(ArgAction::Set),
+        Takes::Many(value) => option.value_name(value).action(ArgAction::Append),
+    };
+    match choice.default {
+        Some(value) => option.default_value(value),
+        None => option,
+    }
+}
+
+// The option that every command takes, also before its name. The help of the program says what it does, and that of a
+// command is no longer for it.
+fn explain<'a>(alloc: Global) -> Arg<'a> {
+    option_of(alloc, words::EXPLAIN).global(true).hide(true)
+}

@@ -1,0 +1,243 @@
+//! How shells complete the words of a command line, made from the table of the commands.
+
+use crate::table::{Part, Row};
+use crate::words::{Choice, Takes, Times, Word};
+use std::alloc::AllocError;
+
+/// A shell that completes words.
+#[derive(Clone, Copy)]
+pub enum Shell {
+    Bash,
+    Zsh,
+    Fish,
+}
+
+impl Shell {
+    /// The shell of this name, where it is one of them.
+    pub fn named(name: &str) -> Option<Shell> {
+        match name {
+            "bash" => Some(Shell::Bash),
+            "zsh" => Some(Shell::Zsh),
+            "fish" => Some(Shell::Fish),
+            _ => None,
+        }
+    }
+}
+
+/// Appends the completions of these commands for a shell.
+pub fn append_completions(
+    text: &mut String,
+    shell: Shell,
+    parts: &[Part],
+) -> Result<(), AllocError> {
+    match shell {
+        Shell::Bash => append_bash(text, parts),
+        Shell::Zsh => append_zsh(text, parts),
+        Shell::Fish => append_fish(text, parts),
+    }
+}
+
+// What stands before the commands, for bash.
+const BASH_FRONT: &str =
+    r#"# Completions of census for bash, as `census completion bash` prints them.
+_census() {
+  local command= options= word
+  for word in "${COMP_WORDS[@]:1:COMP_CWORD-1}"; do
+    case $word in
+    -*) ;;
+    *) command=$word && break ;;
+    esac
+  done
+  case $command in
+"#;
+
+// And behind them.
+const BASH_BACK: &str = r#"  esac
+  word=${COMP_WORDS[COMP_CWORD]}
+  if [[ -z $command || $word == -* ]]; then
+    COMPREPLY=($(compgen -W "$options" -- "$word"))
+  fi
+}
+complete -o default -F _census census
+"#;
+
+// The options that stand with every command, and without one.
+const EVERYWHERE: &str = "--explain --help";
+
+fn append_bash(text: &mut String, parts: &[Part]) -> Result<(), AllocError> {
+    text.push_str(BASH_FRONT)?;
+    text.push_str("  '') options='")?;
+    for part in parts {
+        for row in part.rows {
+            text.push_str(row.name)?;
+            text.push_str(" ")?;
+        }
+    }
+    append_all(text, &[EVERYWHERE, " --version' ;;\n"])?;
+    for part in parts {
+        for row in part.rows {
+            append_bash_row(text, row)?;
+        }
+    }
+    text.push_str(BASH_BACK)
+}
+
+// The options of a command, for bash.
+fn append_bash_row(text: &mut String, row: &Row) -> Result<(), AllocError> {
+    append_all(text, &["  ", row.name, ") options='"])?;
+    for word in row.words {
+        if let Times::OneOr(option) = word.times {
+            append_all(text, &["--", option.name, " "])?;
+        }
+    }
+    for option in row.options {
+        append_all(text, &["--", option.name, " "])?;
+    }
+    append_all(text, &[EVERYWHERE, "' ;;\n"])
+}
+
+// What stands before the commands, for zsh.
+const ZSH_FRONT: &str = r#"#compdef census
+# Completions of census for zsh, as `census completion zsh` prints them.
+_census() {
+  local -a commands options
+  commands=(
+"#;
+
+// Between the commands and their options.
+const ZSH_MIDDLE: &str = r#"  )
+  if ((CURRENT == 2)); then
+    _describe command commands
+    return
+  fi
+  case $words[2] in
+"#;
+
+// And behind them.
+const ZSH_BACK: &str = r#"  esac
+  _arguments $options '--explain[Says more on standard error]' '--help[Prints help]' '*:file:_files'
+}
+_census "$@"
+"#;
+
+fn append_zsh(text: &mut String, parts: &[Part]) -> Result<(), AllocError> {
+    text.push_str(ZSH_FRONT)?;
+    for part in parts {
+        for row in part.rows {
+            append_all(text, &["    '", row.name, ":"])?;
+            append_quoted(text, row.line, "'\\''")?;
+            text.push_str("'\n")?;
+        }
+    }
+    text.push_str(ZSH_MIDDLE)?;
+    for part in parts {
+        for row in part.rows {
+            append_zsh_row(text, row)?;
+        }
+    }
+    text.push_str(ZSH_BACK)
+}
+
+// The options of a command, for zsh.
+fn append_zsh_row(text: &mut String, row: &Row) -> Result<(), AllocError> {
+    append_all(text, &["  ", row.name, ") options=("])?;
+    for word in row.words {
+        if let Times::OneOr(option) = word.times {
+            append_zsh_option(text, option)?;
+        }
+    }
+    for option in row.options {
+        append_zsh_option(text, *option)?;
+    }
+    text.push_str(") ;;\n")
+}
+
+// An option, for zsh.
+fn append_zsh_option(text: &mut String, option: Choice) -> Result<(), AllocError> {
+    let (often, value) = match option.takes {
+        Takes::Nothing => ("", None),
+        Takes::One(value) => ("", Some(value)),
+        Takes::Many(value) => ("*", Some(value)),
+    };
+    append_all(text, &["'", often, "--", option.name, "["])?;
+    append_quoted(text, option.meaning, "'\\''")?;
+    text.push_str("]")?;
+    if let Some(value) = value {
+        append_all(text, &[":", value, ":"])?;
+    }
+    text.push_str("' ")
+}
+
+// What stands before the commands, for fish.
+const FISH_FRONT: &str =
+    r#"# Completions of census for fish, as `census completion fish` prints them.
+complete -c census -l explain -d 'Says more on standard error'
+complete -c census -l help -d 'Prints help'
+"#;
+
+fn append_fish(text: &mut String, parts: &[Part]) -> Result<(), AllocError> {
+    text.push_str(FISH_FRONT)?;
+    for part in parts {
+        for row in part.rows {
+            append_fish_row(text, row)?;
+        }
+    }
+    Ok(())
+}
+
+// A command and its options, for fish.
+fn append_fish_row(text: &mut String, row: &Row) -> Result<(), AllocError> {
+    let front = "complete -c census -f -n __fish_use_subcommand -a ";
+    append_all(text, &[front, row.name, " -d '"])?;
+    append_quoted(text, row.line, "\\'")?;
+    text.push_str("'\n")?;
+    for word in row.words {
+        append_fish_word(text, row.name, word)?;
+    }
+    for option in row.options {
+        append_fish_option(text, row.name, *option)?;
+    }
+    Ok(())
+}
+
+// The option that may stand in place of a word, for fish.
+fn append_fish_word(text: &mut String, command: &str, word: &Word) -> Result<(), AllocError> {
+    match word.times {
+        Times::OneOr(option) => append_fish_option(text, command, option),
+        _ => Ok(()),
+    }
+}
+
+// An option of a command, for fish.
+fn append_fish_option(text: &mut String, command: &str, option: Choice) -> Result<(), AllocError> {
+    let front = "complete -c census -n '__fish_seen_subcommand_from ";
+    let value = match option.takes {
+        Takes::Nothing => "",
+        Takes::One(_) | Takes::Many(_) => " -r",
+    };
+    text.push_str(front)?;
+    text.push_str(command)?;
+    append_all(text, &["' -l ", option.name, value, " -d '"])?;
+    append_quoted(text, option.meaning, "\\'")?;
+    text.push_str("'\n")
+}
+
+// Appends the texts.
+fn append_all(text: &mut String, parts: &[&str]) -> Result<(), AllocError> {
+    for part in parts {
+        text.push_str(part)?;
+    }
+    Ok(())
+}
+
+// Appends words that stand between quotes, with this in place of a quote.
+fn append_quoted(text: &mut String, words: &str, quote: &str) -> Result<(), AllocError> {
+    for sign in words.chars() {
+        if sign == '\'' {
+            text.push_str(quote)?;
+        } else {
+            text.push(sign)?;
+        }
+    }
+    Ok(())
+}
