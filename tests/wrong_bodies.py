@@ -1,0 +1,567 @@
+#!/usr/bin/env python3
+"""Tries the wrong bodies of crates/NAME/wrong/*.edit, many at once: the prover has to refuse each of them by a clause.
+
+    wrong_bodies.py [--anew] [--told] [--in FOLDER] [NAME ..]
+    wrong_bodies.py --read [--in FOLDER] [NAME ..]
+
+NAME limits it to these crates. --anew also tries what was refused before. --told says of each edit what refused it. --read only
+reads the edits, and says which no longer fit the sources. --in must-fail tries those of that folder in place of wrong/.
+
+A wrong body is an edit, in the form that `rt` without a word explains: lines `file:`, `old:` and `new:`. `rt ci` tries those of
+must-fail/ one by one. Here the edits of a crate are tried in groups, no two of them in one function. For the prover names each
+function that it refuses, and the place in its proof that no longer fits. A caller is proved by the contract of what it calls, and
+not by its body. So one wrong body hides no other, and none is refused for another's sake. What changes more than bodies, as a
+definition, a constant or a clause, is tried alone, and so is what is not refused in its group.
+
+Each check goes on from the work of one check of the crate as it stands, over the libraries that `rt ci` or `rt lib` left in out/.
+What a library lacks is built first. Some checks run side by side: as many as there are processors, or RT_JOBS, where each finds
+MEMORY bytes free. An edit is refused by a clause where an error stands in the proof of its function, or a goal of it is left open.
+It doesn't count where all errors are of names: a proof that names what the edit took away, or a text that doesn't compile.
+
+What was refused is kept by the checksum of all that was read, in ${XDG_CACHE_HOME:-~/.cache}/census/wrong-bodies, so that a later
+run tries only what changed. The exit status is 0 only where each edit is refused by a clause.
+"""
+
+import argparse
+import concurrent.futures
+import difflib
+import hashlib
+import importlib.machinery
+import importlib.util
+import json
+import os
+import re
+import shutil
+import signal
+import subprocess
+import sys
+import tempfile
+import time
+
+ROOT = os.path.dirname(os.path.dirname(os.path.abspath(__file__)))
+MOST = 24  # edits of a group: more would leave a lane at work when the others have ended
+MEMORY = 4_500_000_000  # what a check may take
+KEPT = os.path.join(os.environ.get("XDG_CACHE_HOME") or os.path.expanduser("~/.cache"), "census", "wrong-bodies")
+KEPT_DAYS = 60
+
+REFUSED = "refused"
+BY_NAME = "REFUSED BY A NAME ALONE"
+BY_LIMIT = "REFUSED BY A LIMIT ALONE"
+MISSED = "NOT REFUSED"
+BAD = "BAD EDIT"
+UNSURE = "NOT TRIED"
+
+# Errors of a proof that names what an edit took away, and of what rests on that proof. The words may stand below the first line.
+OF_A_NAME = re.compile(r"(note: )?(\./)?proofs/.*(has no field|is not in scope|has no `|was not admitted)", re.DOTALL)
+AT_A_PLACE = re.compile(r"(note: )?\S+:\d+:\d+:")
+PROOF_ERROR = re.compile(r"(?:\./)?proofs/(\S+)/[^/\s]+\.antt:\d+:\d+: error")
+FUNCTION = re.compile(r"fn (\S+): (.*)")
+
+
+def load_kit():
+    """Loads rt, from which the list of the crates, the words of a check and the reading of an edit are taken."""
+    program = shutil.which("rt") or sys.exit("wrong_bodies: there is no rt on the path")
+    sys.dont_write_bytecode = True
+    loader = importlib.machinery.SourceFileLoader("rt", os.path.realpath(program))
+    made = importlib.util.module_from_spec(importlib.util.spec_from_loader("rt", loader))
+    sys.modules["rt"] = made
+    loader.exec_module(made)
+    return made
+
+
+rt = load_kit()
+
+
+# What an edit changes
+
+
+def tokens_of(file):
+    """Returns the tokens of a source that are code, each with its line: no comment, no literal and no clause."""
+    with open(file, "rb") as it:
+        data = it.read()
+    ran = subprocess.run([rt.rtlib.RATTLE, "fmt", "--tokens", file], capture_output=True, check=True)
+    rows = re.finditer(rb"(?m)^(\d+) (\d+) (\d+) Code\b", ran.stdout)
+    return [(int(row[1]), data[int(row[2]) : int(row[3])].decode()) for row in rows]
+
+
+def after_generics(words):
+    """Returns what follows the parameters in < > at the front, if there are any."""
+    if not words or words[0] != "<":
+        return words
+    depth = 0
+    for at, word in enumerate(words):
+        depth += (word == "<") - (word == ">" and words[at - 1] != "-")
+        if not depth:
+            return words[at + 1 :]
+    return []
+
+
+def name_of_type(words):
+    """Returns the last name of a path, without what stands in < >."""
+    names = []
+    for word in words:
+        if word == "<":
+            break
+        if re.fullmatch(r"\w+", word) and word not in ("dyn", "mut"):
+            names.append(word)
+    return names[-1] if names else ""
+
+
+def name_of_impl(words):
+    """Returns how the prover begins the name of an impl: that of the type, and then that of the trait, if there is one."""
+    words, depth = after_generics(words), 0
+    for at, word in enumerate(words):
+        depth += (word == "<") - (word == ">" and words[at - 1] != "-")
+        if word == "for" and not depth:
+            return name_of_type(words[at + 1 :]) + name_of_type(words[:at]), True
+    return name_of_type(words), False
+
+
+def functions_of(file, module):
+    """Returns of each function of a source the lines of the braces of its body, and the place that its name has in the crate."""
+    tokens, found, scopes, pending, depth = tokens_of(file), [], [], None, 0
+    for at, (line, word) in enumerate(tokens):
+        following = tokens[at + 1][1] if at + 1 < len(tokens) else ""
+        in_body = any(kind == "fn" for kind, *_ in scopes)
+        if word in ("(", "["):
+            depth += 1
+        elif word in (")", "]"):
+            depth -= 1
+        elif word == "{":
+            scopes.append((*(pending or ("block", "")), line, depth))
+            pending, depth = None, 0
+        elif word == "}":
+            kind, name, first, depth = scopes.pop()
+            if kind == "fn" and not any(it[0] in ("fn", "macro") for it in scopes):
+                above = [it[1] for it in scopes if it[0] == "mod"]
+                owner = next((it[1] for it in scopes if it[0] in ("impl", "trait")), None)
+                found.append((first, line, (*module, *above, *([owner] if owner else []), name)))
+        elif word == ";" and not depth:
+            pending = None
+        elif not in_body and not pending:
+            if word in ("fn", "mod", "trait") and re.fullmatch(r"\w+", following):
+                pending = word, (following, False) if word == "trait" else following
+            elif word == "impl":
+                head = [it for _, it in tokens[at + 1 : at + 200]]
+                ends = [head.index(it) for it in ("{", "where") if it in head]
+                pending = "impl", name_of_impl(head[: min(ends, default=0)])
+            elif word == "macro_rules":
+                pending = "macro", ""
+    return found
+
+
+def is_named(place, names):
+    """Returns whether the names, those of a path of modules, lead to the function at this place, or to a closure in it."""
+    names = [it.partition("+")[0] for it in names if it != "fn"]
+    if len(names) < len(place):
+        return False
+    for part, name in zip(place, names):
+        if isinstance(part, tuple):
+            owner, has_trait = part
+            if not (name.startswith(owner) if has_trait else name == owner):
+                return False
+        elif part != name:
+            return False
+    return True
+
+
+def changes_of(was, now):
+    """Returns the lines that differ: where they begin and end in the first text, and what the second has in their place."""
+    was, now = was.splitlines(True), now.splitlines(True)
+    pairs = difflib.SequenceMatcher(None, was, now, autojunk=False).get_opcodes()
+    return [(first, end, now[start:stop]) for kind, first, end, start, stop in pairs if kind != "equal"]
+
+
+class Edit:
+    """A wrong body: the lines that it changes, by file, and the functions in whose bodies they stand, or None."""
+
+    def __init__(self, crate, path, functions):
+        self.name = f"{crate.name}/{os.path.splitext(os.path.basename(path))[0]}"
+        with open(path, "rb") as it:
+            self.sum = hashlib.sha256(it.read()).hexdigest()
+        texts, self.fault = rt.read_edit(path, crate.folder)
+        self.texts, self.changes, found = texts or {}, {}, []
+        for file, text in self.texts.items():
+            with open(f"{crate.folder}/{file}", encoding="utf-8") as it:
+                self.changes[file] = changes_of(it.read(), text)
+            for first, end, _ in self.changes[file]:
+                inside = (place for opens, closes, place in functions(file) if opens <= first and max(end, first + 1) < closes)
+                found.append(next(inside, None))
+        self.places = {*found} if found and None not in found else None
+
+
+class Crate:
+    """A crate with wrong bodies: those that are to be tried, the folders where it is tried, and what came of each."""
+
+    def __init__(self, known, folder):
+        self.known, self.name, self.sources = known, known.name, {}
+        at = f"{known.folder}/{folder}"
+        files = sorted(it for it in os.listdir(at) if it.endswith(".edit")) if os.path.isdir(at) else []
+        self.edits = [Edit(known, f"{at}/{it}", self.functions) for it in files]
+        self.found = {it: (BAD, it.fault) for it in self.edits if it.fault}
+        self.left, self.names, self.seed, self.copy = [], [], None, None
+        self.groups, self.checks, self.seconds, self.memory = 0, 0, 0.0, 0.0
+
+    def functions(self, file):
+        """Returns the functions of a source, and none of a definition."""
+        if not file.startswith("src/") or not file.endswith(".rt"):
+            return []
+        if file not in self.sources:
+            path = file[len("src/") : -len(".rt")].split("/")
+            module = path[:-1] if path[-1] in ("lib", "main", "mod") else path
+            self.sources[file] = functions_of(f"{self.known.folder}/{file}", module)
+        return self.sources[file]
+
+    def names_at(self, place):
+        """Returns how the prover names the function at a place, below the crate, without the closures in it."""
+        return ["::".join(it) for it in self.names if len(it) == len(place) and is_named(place, it)]
+
+    def stamp(self):
+        """Returns a sum of all that a check of the crate reads, and of what judges it here."""
+        total = hashlib.sha256(self.known.stamp().encode())
+        for file in (f"{rt.KIT}/KIT-ID", os.path.abspath(__file__)):
+            with open(file, "rb") as it:
+                total.update(it.read())
+        return total.hexdigest()
+
+    def begin(self, anew):
+        """Sets apart what an earlier run saw refused."""
+        self.first_stamp = self.stamp()
+        kept = {} if anew else self.kept()
+        self.found.update({it: (REFUSED, kept[it.sum]) for it in self.edits if it.sum in kept and it not in self.found})
+        self.left = [it for it in self.edits if it not in self.found]
+        self.old = sum(kind == REFUSED for kind, _ in self.found.values())
+
+    def kept(self):
+        try:
+            with open(f"{KEPT}/{self.name}-{self.first_stamp}.json", encoding="utf-8") as it:
+                return json.load(it)
+        except (OSError, ValueError):
+            return {}
+
+    def keep(self):
+        """Keeps what was refused, unless a file was changed while it was tried."""
+        if self.stamp() != self.first_stamp:
+            return
+        told = {it.sum: told for it, (kind, told) in self.found.items() if kind == REFUSED}
+        os.makedirs(KEPT, exist_ok=True)
+        with tempfile.NamedTemporaryFile("w", dir=KEPT, delete=False, encoding="utf-8") as it:
+            json.dump({**self.kept(), **told}, it)
+        os.replace(it.name, f"{KEPT}/{self.name}-{self.first_stamp}.json")
+
+
+# A check
+
+
+def is_left_by_ci(known):
+    """Returns whether the crate's library is one that rt ci left, which has no stamp, after the last change of a source."""
+    top = f"{known.folder}/out/rlib"
+    if os.path.exists(f"{top}/stamp") or not os.path.isfile(f"{known.rlib}/format"):
+        return False
+    made = os.stat(known.rlib).st_mtime
+    parts = [f"{it.folder}/{part}" for it in [known, *known.below()] for part in rt.rtlib.PARTS]
+    read = [path for part in parts for at, _, files in os.walk(part) for path in [at, *(f"{at}/{it}" for it in files)]]
+    return all(os.lstat(it).st_mtime < made for it in read)
+
+
+def build_libraries(crates):
+    """Builds the libraries below these crates, where rt ci has not just left them, and returns why that failed, if it did."""
+    below = []
+    for crate in crates:
+        below += [it for it in crate.known.below() if it not in below]
+    if all(is_left_by_ci(it) for it in below):
+        return None
+    for known in below:
+        if not known.is_built():
+            ran = subprocess.run([f"{rt.KIT}/bin/rt", "lib", "--jobs", "1"], cwd=known.folder, stdout=subprocess.PIPE, stderr=subprocess.STDOUT, text=True, errors="replace")
+            if ran.returncode:
+                return f"the library {known.name} did not build: {ran.stdout[-600:]}"
+    return None
+
+
+class Check:
+    """One check of a crate with some edits, over a copy of what its own check left, and what it came to."""
+
+    def __init__(self, crate, edits):
+        self.crate, self.edits, self.is_again = crate, edits, False
+        self.status, self.lines, self.seconds, self.memory = None, [], 0.0, 0.0
+
+    def texts(self):
+        """Returns the files with all edits in them."""
+        if len(self.edits) == 1:
+            return self.edits[0].texts
+        found = {}
+        for file in sorted({file for it in self.edits for file in it.changes}):
+            with open(f"{self.crate.copy}/{file}", encoding="utf-8") as it:
+                lines = it.read().splitlines(True)
+            for first, end, new in sorted((it for edit in self.edits for it in edit.changes.get(file, [])), key=lambda it: it[:2], reverse=True):
+                lines[first:end] = new
+            found[file] = "".join(lines)
+        return found
+
+    def run(self):
+        with tempfile.TemporaryDirectory(prefix="wrong-body-", dir=os.path.dirname(self.crate.copy)) as room:
+            work = self.crate.seed
+            if self.edits:
+                work = f"{room}/work"
+                rt.linked(self.crate.seed, work)
+            for part in rt.rtlib.PARTS:
+                if os.path.isdir(f"{self.crate.copy}/{part}"):
+                    shutil.copytree(f"{self.crate.copy}/{part}", f"{room}/{part}")
+            for file, text in self.texts().items():
+                with open(f"{room}/{file}", "w", encoding="utf-8") as it:
+                    it.write(text)
+            words = [rt.rtlib.RATTLE, "check", *self.crate.known.words(["--jobs", "1"], keeps=False), "--incremental", work]
+            if len(self.edits) > 1:
+                # what calls a refused function would be tried again, to no end
+                for name in sorted(name for it in self.edits for place in it.places for name in self.crate.names_at(place)):
+                    words += ["--only", name]
+            with open(f"{room}/said", "w+", encoding="utf-8", errors="replace") as said:
+                ran = subprocess.Popen([*rt.rtlib.guarded(), *words], cwd=room, stdin=subprocess.DEVNULL, stdout=said, stderr=subprocess.STDOUT)
+                _, status, used = os.wait4(ran.pid, 0)
+                ran.returncode = self.status = os.waitstatus_to_exitcode(status)
+                said.seek(0)
+                self.lines = said.read().rstrip("\n").split("\n")
+        self.seconds, self.memory = used.ru_utime + used.ru_stime, used.ru_maxrss / 1e6
+        return self
+
+
+# What a check came to
+
+
+def messages_of(lines):
+    """Returns what was said, each message with the indented lines below its first."""
+    found = []
+    for line in lines:
+        if line.startswith("  ") and found:
+            found[-1] += "\n" + line
+        else:
+            found.append(line)
+    return found
+
+
+def judged_together(check):
+    """Returns of each edit of a group what refused it by a clause, or None."""
+    said = messages_of(check.lines)
+    errors = [(match[1].split("/"), it) for it in said for match in [PROOF_ERROR.match(it)] if match]
+    told = [(match[1].split("::")[1:], it) for it in said for match in [FUNCTION.match(it)] if match]
+    open_goals = [it for it in told if "`search` did not prove" in it[1] or "`search` gave up" in it[1]]
+    found = {}
+    for edit in check.edits:
+        own = [it for place in edit.places for names, it in [*errors, *open_goals] if is_named(place, names)]
+        found[edit] = next((it for it in own if not OF_A_NAME.match(it)), None)
+    return found
+
+
+def judged_alone(check):
+    """Returns what an edit that was tried alone came to, and what was said, as rt judges one."""
+    lines = check.lines
+    if check.status == -signal.SIGKILL:
+        return UNSURE, "its check was killed, most likely for memory"
+    unread = next((it for it in lines if rt.unread(it, check.edits[0].texts)), None)
+    if check.status == 1 and unread:
+        return BAD, unread
+    if check.status == 1 and lines[-1].startswith("logic=not-proved"):
+        told = [it for it in messages_of(lines) if AT_A_PLACE.match(it)]
+        told = [it for it in told if ": error" in it or it.startswith("note: ")] or told
+        by_clause = [it for it in told if not OF_A_NAME.match(it)]
+        if told and not by_clause:
+            return BY_NAME, told[0]
+        return REFUSED, (by_clause or lines)[0]
+    if check.status == 0:
+        return MISSED, "the crate is still proved with this edit"
+    limit = next((it for it in lines if rt.LIMITS.search(it)), None)
+    if check.status == 3 and limit:
+        return BY_LIMIT, limit
+    error = next((it for it in lines if re.search(r"\berror\[[\w-]+\]", it)), None)
+    if check.status == 1 and error:
+        return BAD, error
+    return UNSURE, f"its check ended with status {check.status}: {' '.join(lines[:3])}"
+
+
+def parted(edits):
+    """Parts edits into groups of one size, no two of them in one function."""
+    counts = {}
+    for it in edits:
+        for place in it.places:
+            counts[place] = counts.get(place, 0) + 1
+    groups = [[] for _ in range(max(-(-len(edits) // MOST), max(counts.values(), default=0)))]
+    for edit in sorted(edits, key=lambda it: -max(counts[place] for place in it.places)):
+        groups.sort(key=len)
+        free = [it for it in groups if not any(edit.places & other.places for other in it)]
+        if free:
+            free[0].append(edit)
+        else:
+            groups.append([edit])
+    return groups
+
+
+# All of them
+
+
+class Trials:
+    """The checks that are to be made, side by side, and what is made of each that has ended."""
+
+    def __init__(self, crates, room):
+        self.crates, self.room, self.waiting = crates, room, []
+        for number, crate in enumerate(crates):
+            crate.copy, crate.seed = f"{room}/{number}-{crate.name}", f"{room}/{number}-{crate.name}.seed"
+            for part in rt.rtlib.PARTS:
+                if os.path.isdir(f"{crate.known.folder}/{part}"):
+                    shutil.copytree(f"{crate.known.folder}/{part}", f"{crate.copy}/{part}")
+            self.begin_seed(crate, rt.work_for(crate.known))
+
+    def begin_seed(self, crate, work):
+        """Has the crate checked as it stands, beginning with earlier work where there is some."""
+        shutil.rmtree(crate.seed, ignore_errors=True)
+        crate.begins_with = None
+        if work:
+            try:
+                rt.linked(work, crate.seed)
+                crate.begins_with = work
+            except (OSError, shutil.Error):
+                shutil.rmtree(crate.seed, ignore_errors=True)
+        os.makedirs(crate.seed, exist_ok=True)
+        self.waiting.append(Check(crate, []))
+
+    def run(self, lanes):
+        running = set()
+        with concurrent.futures.ThreadPoolExecutor(lanes) as pool:
+            while self.waiting or running:
+                # the crates' own checks come first, those of the largest crates before all
+                self.waiting.sort(key=lambda it: (bool(it.edits), -it.crate.known.count(rb"\n")))
+                while self.waiting and len(running) < lanes and (not running or rt.free() > MEMORY):
+                    running.add(pool.submit(self.waiting.pop(0).run))
+                ended, running = concurrent.futures.wait(running, return_when=concurrent.futures.FIRST_COMPLETED)
+                for it in ended:
+                    self.take(it.result())
+
+    def take(self, check):
+        """Takes what a check came to, and sets on those that follow from it."""
+        crate = check.crate
+        crate.checks, crate.seconds, crate.memory = crate.checks + 1, crate.seconds + check.seconds, max(crate.memory, check.memory)
+        if check.status == -signal.SIGKILL and not check.is_again:
+            # most likely for memory
+            check.is_again = True
+            self.waiting.append(check)
+        elif not check.edits:
+            self.take_seed(check)
+        elif len(check.edits) == 1:
+            self.settle(crate, check.edits[0], *judged_alone(check))
+        elif has_verdict(check):
+            for edit, told in judged_together(check).items():
+                if told:
+                    self.settle(crate, edit, REFUSED, told)
+                else:
+                    self.waiting.append(Check(crate, [edit]))
+        else:
+            # one of them doesn't compile, say
+            half = len(check.edits) // 2
+            self.waiting += [Check(crate, check.edits[:half]), Check(crate, check.edits[half:])]
+        if check.edits:
+            crate.keep()
+        if not crate.left:
+            shutil.rmtree(crate.seed, ignore_errors=True)
+            tried = len(crate.edits) - crate.old
+            took = f"{clock(crate.seconds)} of processor time, {crate.memory:.1f} GB at most"
+            print(f"{crate.name}: {tried} tried in {crate.groups} groups, {crate.checks} checks, {took}", flush=True)
+
+    def take_seed(self, check):
+        """Parts the edits of a crate that is proved as it stands."""
+        crate = check.crate
+        if check.status and crate.begins_with:
+            self.begin_seed(crate, None)
+        elif check.status:
+            said = next((it for it in check.lines if ": error" in it or "error[" in it), check.lines[-1])
+            for edit in [*crate.left]:
+                self.settle(crate, edit, UNSURE, f"the crate as it stands is not proved: {said}")
+        else:
+            crate.names = [match[1].split("::")[1:] for line in check.lines for match in [FUNCTION.match(line)] if match]
+            is_known = lambda edit: edit.places and all(crate.names_at(place) for place in edit.places)
+            groups = parted([it for it in crate.left if is_known(it)])
+            groups += [[it] for it in crate.left if not is_known(it)]
+            crate.groups = len(groups)
+            self.waiting += [Check(crate, it) for it in groups]
+
+    def settle(self, crate, edit, kind, told):
+        crate.found[edit] = kind, told
+        crate.left.remove(edit)
+        if kind != REFUSED:
+            print(f"{edit.name}: {kind}: {' '.join(told.split())[:400]}", flush=True)
+
+
+def has_verdict(check):
+    """Returns whether each edit of a group was read, so that the prover says of each function whether it is proved."""
+    if any(rt.unread(it, {file for edit in check.edits for file in edit.changes}) for it in check.lines):
+        return False
+    return check.status in (0, 1) and check.lines[-1].startswith("only=")
+
+
+def clock(seconds):
+    return f"{int(seconds) // 60}:{int(seconds) % 60:02}"
+
+
+def tell(crates, began):
+    """Says what came of the edits, and what it took; returns whether each was refused by a clause."""
+    edits, old = sum(len(it.edits) for it in crates), sum(it.old for it in crates)
+    lost = sum(kind != REFUSED for it in crates for kind, _ in it.found.values())
+    took = f"{clock(time.monotonic() - began)} by the clock and {clock(sum(it.seconds for it in crates))} of processor time"
+    print(f"wrong bodies: {edits}, of which {old} were refused by an earlier run; {took}")
+    print(f"{lost} of them are not refused by a clause" if lost else "each is refused by a clause")
+    return not lost
+
+
+def forget_old():
+    """Removes what no run has kept anew for long."""
+    for at, _, files in os.walk(KEPT):
+        for it in files:
+            if os.stat(f"{at}/{it}").st_mtime < time.time() - KEPT_DAYS * 86400:
+                os.remove(f"{at}/{it}")
+
+
+def main():
+    words = argparse.ArgumentParser(description=__doc__.split("\n")[0])
+    words.add_argument("names", nargs="*", metavar="NAME")
+    words.add_argument("--anew", action="store_true")
+    words.add_argument("--told", action="store_true")
+    words.add_argument("--read", action="store_true")
+    words.add_argument("--in", dest="folder", default="wrong")
+    words.add_argument("--root", default=ROOT, help=argparse.SUPPRESS)
+    given = words.parse_args()
+    began = time.monotonic()
+    rt.rtlib.guarded()
+    known = rt.rtlib.crates_below(os.path.abspath(given.root))
+    lacking = {*given.names} - {it.name for it in known}
+    if lacking:
+        words.error(f"crates.txt names no crate {min(lacking)}")
+    crates = [Crate(it, given.folder) for it in known if not given.names or it.name in given.names]
+    crates = [it for it in crates if it.edits]
+    if given.read:
+        bad = [f"{it.name}: {BAD}: {why}" for crate in crates for it, (_, why) in crate.found.items()]
+        print(*bad, f"{sum(len(it.edits) for it in crates)} edits read, {len(bad)} of them bad", sep="\n")
+        return 1 if bad else 0
+    for crate in crates:
+        crate.begin(given.anew)
+        for edit, (kind, why) in crate.found.items():
+            if kind != REFUSED:
+                print(f"{edit.name}: {kind}: {why}", flush=True)
+    tried = [it for it in crates if it.left]
+    why = build_libraries(tried)
+    if why:
+        print(f"wrong_bodies: {why}", file=sys.stderr)
+        return 1
+    lanes = int(os.environ.get("RT_JOBS") or 0) or max(1, min(rt.processors(), int(rt.free() // MEMORY)))
+    with tempfile.TemporaryDirectory(prefix="wrong-bodies-") as room:
+        Trials(tried, room).run(lanes)
+    if given.told:
+        for crate in crates:
+            for edit in crate.edits:
+                kind, told = crate.found[edit]
+                print(f"{edit.name}: {kind}: {' '.join(told.split())[:160]}")
+    if os.path.isdir(KEPT):
+        forget_old()
+    return 0 if tell(crates, began) else 1
+
+
+if __name__ == "__main__":
+    sys.exit(main())
