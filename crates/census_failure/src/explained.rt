@@ -2,7 +2,7 @@
 
 use crate::failure::{Failure, Reason};
 use crate::fault_words::{FaultWords, faults, words_of};
-use crate::shown::system_text;
+use crate::showing::system_text;
 use census_state::Fault;
 use std::alloc::{AllocError, Global};
 use std::io::ErrorKind;

@@ -1,6 +1,6 @@
 //! Why a command ended early, and what is known of it.
 
-use crate::shown::shown;
+use crate::showing::shown;
 use census_state::Fault;
 use oct_code::CodeError;
 use oct_record::LoadError;

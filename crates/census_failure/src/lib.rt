@@ -17,12 +17,12 @@ mod advice;
 mod explained;
 mod failure;
 mod fault_words;
-mod shown;
+mod showing;
 mod stream_names;
 
 pub use advice::{Advice, Audience, foreign_text};
 pub use explained::{explanation, faults_text, name_of};
 pub use failure::{Failure, Reason};
 pub use fault_words::{FaultWords, faults, words_of};
-pub use shown::{quoted, shown, shown_bytes};
+pub use showing::{quoted, shown, shown_bytes};
 pub use stream_names::{INPUT_NAME, OUTPUT_NAME};

@@ -15,15 +15,15 @@
 mod connection;
 mod endpoint;
 mod guest;
-mod hub;
 mod kept;
 mod moment;
 mod network;
+mod peers;
 mod record_file;
 mod shares;
 
 pub use connection::Patience;
 pub use endpoint::Endpoint;
-pub use hub::{Limits, hub};
 pub use network::{serve, sync};
+pub use peers::{Limits, hub};
 pub use record_file::record_of;

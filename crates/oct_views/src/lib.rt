@@ -12,8 +12,7 @@
 //!   and `write_style` how they look.
 //! - `laws` says that a style loads nothing.
 //!
-//! What there is to show is a sheet (`oct_sheet`), and its tables and pictures are those of `oct_tables` and `oct_plot`. What
-//! `oct_bfile`, `oct_plot`, `oct_json` and `oct_overview` write is passed on.
+//! What there is to show is a sheet (`oct_sheet`), and its tables and pictures are those of `oct_tables` and `oct_plot`.
 #![tactic(auto)]
 
 mod blocks_tables;
@@ -27,11 +26,5 @@ mod report;
 mod site;
 mod styles;
 
-pub use oct_bfile::{Bfile, BfileError, read_bfile, write_bfile};
-pub use oct_json::{write_game_json, write_json};
-pub use oct_overview::write_overview;
-pub use oct_plot::write_plot;
-pub use oct_sheet::{Called, Summary, Tally, author_name, naming_notes};
-pub use oct_text::{Form, Shown, Told};
 pub use report::write_report;
 pub use site::{write_game_html, write_index, write_style};

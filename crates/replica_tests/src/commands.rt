@@ -8,11 +8,12 @@ use crate::texts::{
 use census_core::{
     Fault, ImportError, Reply, Request, digest, number, perform, rejoin, rejoin_grown,
 };
+use oct_bfile::BfileError;
 use oct_code::CodeError;
 use oct_ops::{Dot, PeriodError};
 use oct_record::Record;
 use oct_replica::{ComputeError, LoadError, RemovalError, TakeError};
-use oct_views::{BfileError, Form, Shown};
+use oct_text::{Form, Shown};
 use std::alloc::{AllocError, Global};
 use std::process::Abort;
 use std::test::Fail;
