@@ -5,4 +5,4 @@ use Rattle.oct_pages.specs.Catalogue.{games}
 use Rattle.oct_pages.proofs.codes.codes_of.Given as goal
 
 abbrev pub invariant-loop-code : goal.invariant-loop-code
-invariant-loop-code l = l.codes.items ++ map (λ (e : Code × Operations). e.0) l.code-iterator ≡ games (listed l.fn.said.ops)
+invariant-loop-code g l = l.codes.items ++ map (λ (e : Code × Operations). e.0) l.code-iterator ≡ games (listed l.fn.said.ops)
