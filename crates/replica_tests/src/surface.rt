@@ -8,15 +8,14 @@ use census_core::{Fault, ImportError, Reply, Request, fold_lines, import_block, 
 use oct_code::Code;
 use oct_delta::{EncodeError, decode};
 use oct_join::Clock;
-use oct_notes::Notes;
 use oct_ops::{Block, Body, Dot, Note, OpList, Removal};
 use oct_pages::{Parts, write_catalogue, write_page};
 use oct_period::{Game, Outcome};
+use oct_record::Record;
 use oct_replica::{
     AuthorError, ComputeError, IssueError, LoadError, OutOfMemory, QueryError, RemovalError,
     Replica, TakeError,
 };
-use oct_store::Store;
 use oct_sync::{Progress, Role, Session, SyncError, drive};
 use serde_json::Value;
 use std::alloc::Global;
@@ -87,13 +86,12 @@ fn encode_refusal(error: EncodeError) -> &'static str {
 #[test]
 fn pages(rt: HostRuntime) -> Result<(), Fail> {
     let alloc = rt.alloc();
-    let store: Store<Global> = Store::new(alloc);
+    let said: Record<Global> = Record::new(alloc, 1).ok().expect(&rt, "an author");
     let games: BTreeMap<Code, Game<Global>> = BTreeMap::new(alloc);
-    let notes: Notes<Global> = Notes::new(alloc);
     let parts = Parts {
-        store: &store,
+        store: said.store(),
         games: &games,
-        notes: &notes,
+        notes: said.notes(),
     };
     let mut out = Vec::new(alloc);
     let written: Result<(), OutOfMemory> = write_catalogue(alloc, &parts, &mut out);
