@@ -11,6 +11,7 @@ export GIT_AUTHOR_NAME=test GIT_AUTHOR_EMAIL=test@example.org GIT_COMMITTER_NAME
 # What each member does once in a clone: a number of their own, and the merge driver.
 join_table() {
   git config merge.census.driver 'census union %A %A %B'
+  git config diff.census.textconv 'census read'
   census init "$1.state" "$2" >/dev/null
 }
 
@@ -29,7 +30,7 @@ git clone -q table.git anna 2>/dev/null
 cd anna
 git checkout -qb main
 join_table anna 1
-printf 'census.delta merge=census\n' >.gitattributes
+printf 'census.delta merge=census diff=census\n' >.gitattributes
 printf '*.state\n' >.gitignore
 census compute anna.state 0.77 168 >/dev/null
 census delta anna.state census.delta >/dev/null
@@ -68,6 +69,26 @@ cmp one other
 grep -qx 'block 2.1 at 68 count 4 refuted at 70 claimed 2 true 6' one
 grep -qx 'period 1.2 from 71 by 12 proved' one
 grep -qx 'note kayles 2.2 period 12 from heap 70?' one
+
+# Cleo's clone has no driver yet: git says that there is a conflict. With the driver the same pull is merged, and nothing is lost.
+(cd anna && census note anna.state kayles 'proved' >/dev/null && give anna 'A note' && git push -q origin main)
+git clone -q table.git cleo
+cd cleo
+git reset -q --hard HEAD~1
+census init cleo.state 3 >/dev/null
+census note cleo.state kayles 'found by Guy and Smith' >/dev/null
+give cleo 'Who found it'
+if git pull -q --no-rebase --no-edit origin main >said 2>&1; then false; fi
+grep -q 'CONFLICT.*census.delta' said
+git merge --abort
+git config merge.census.driver 'census union %A %A %B'
+git pull -q --no-rebase --no-edit origin main
+[ "$(census read census.delta | grep -c '^note kayles')" = 3 ]
+
+# git shows what a version adds as lines of the catalogue.
+git config diff.census.textconv 'census read'
+git diff HEAD^1 -- census.delta | grep -qx '+note kayles 1.3 proved'
+cd "$room"
 
 # A file that is no delta is named by its place, and nothing is written.
 cp anna/census.delta before
