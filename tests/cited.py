@@ -8,7 +8,9 @@
     `Name.antt`: `word`, `word`           a file of specs/ or proofs/, and words in it
     `crates/name/src/file.rt`             a file or a folder, also of docs/, tests/ and examples/
 
-One of several is written with braces, as `oct_verify::Ledger::{known, status}`. Takes a second.
+One of several is written with braces, as `oct_verify::Ledger::{known, status}`. The ways through the house, in ARCHITECTURE, also go
+down it: no file of one is of a crate that stands on the crate of the file before it, but where a way goes on behind "Back in". Takes
+a second.
 """
 
 import functools
@@ -24,6 +26,8 @@ FUNCTION = re.compile(r"`(?P<path>[a-z_0-9]+::[A-Za-z_0-9:]*(?:\{[^`]*\})?)`(?:\
 WRONG_BODY = re.compile(r"`(?P<crate>[a-z_0-9]+)/(?P<name>[a-z_0-9]+|\{[a-z_0-9, \n]+\})`")
 DEFINITION = re.compile(r"`(?P<file>[\w/]+\.antt)`(?:[:,]\s+(?P<words>`\w+`(?:,\s+`\w+`)*))?")
 FILE = re.compile(r"`(?P<path>(?:crates|docs|tests|examples|dist)/[\w./{}*, -]+)`")
+WAYS = re.compile(r"(?ms)^## Five ways through the house$(.*?)^## ")
+STEP = re.compile(r"`(?:(?P<crate>\w+)/src/)?(?P<file>[\w/]+\.rt)`")
 
 
 def each(text):
@@ -120,6 +124,32 @@ def missing_files(text):
             yield path
 
 
+@functools.cache
+def below():
+    """Of each crate those that it stands on, at once or by others."""
+    found = {}
+    for line in (TOP / "crates.txt").read_text(encoding="utf-8").splitlines():
+        if line and not line.startswith("#"):
+            name, _, named = line.partition(":")
+            found[name] = {more for it in named.split() for more in {it, *found.get(it, ())}}
+    return found
+
+
+def steps_back(text):
+    """What of the ways through the house is not there, or goes up."""
+    for ways in WAYS.finditer(text):
+        for way in re.findall(r"(?ms)^\*\*`(\w+)`\*\*(.*?)(?=^\*\*|\Z)", ways[1]):
+            for part in way[1].split("Back in"):
+                last = None
+                for step in STEP.finditer(part):
+                    crate = step["crate"] or last
+                    if not (TOP / "crates" / str(crate) / "src" / step["file"]).exists():
+                        yield f"{crate}/src/{step['file']}, of the way of {way[0]}"
+                    elif last in below()[crate]:
+                        yield f"way down from {last} to {crate}, which stands on it, in the way of {way[0]}"
+                    last = crate
+
+
 def main():
     crates = contracts.crates()
     known = clauses_by_name(crates)
@@ -131,6 +161,7 @@ def main():
             missing_wrong_bodies(text, crates),
             missing_definitions(text),
             missing_files(text),
+            steps_back(text),
         ):
             failed = True
             print(f"cited: {page.relative_to(TOP)}: there is no {missing}", file=sys.stderr)
