@@ -1,6 +1,10 @@
 //! The folder of a site.
 
 use crate::files::{beside, unless_missing};
+use crate::hindrance::{Hindrance, unlocked, unreplaced};
+use crate::lock::{Lock, Telling};
+use crate::new_text::NewText;
+use census_failure::{Advice, Failure};
 use census_state::Fault;
 use oct_code::Code;
 use std::alloc::AllocError;
@@ -8,70 +12,156 @@ use std::collections::BTreeSet;
 use std::fs::{self, File};
 use std::io::{self, Write};
 use std::rt::Files;
+use std::time::Clock;
 
 // The file by which a folder is known as a site, and what else belongs to no game.
 const MARKER: &str = "census-site";
 
 const COMMON: [&str; 3] = [MARKER, "index.html", "style.css"];
 
+// The lock of the folder.
+const LOCK: &str = "census-site.lock";
+
 // The ends of the names of a game's files.
 const ENDS: [&str; 4] = [".svg", ".txt", ".json", ".html"];
 
-/// A folder that takes the files of a site.
+// What everyone may do with a file of a site, as far as the umask leaves it.
+const SHARED: u32 = 0o666;
+
+/// A folder that takes the files of a site, from one command at a time.
 #[derive(Drop)]
-pub struct SiteFolder<'a, R> {
+pub struct SiteFolder<'a, 'b, R, E> {
     rt: &'a R,
     path: &'a str,
-    // The names of the files that it has taken.
+    advice: &'a mut Advice<'b, E>,
+    lock_path: String,
+    /// The lock of the folder, which is held from the first file on.
+    lock: Option<Lock>,
+    /// The names of the files that it has taken.
     names: BTreeSet<String>,
+    /// Why a file was not taken.
+    failure: Option<Failure>,
 }
 
-impl<'a, R: Files<File = File> + AllocGlobal> SiteFolder<'a, R> {
-    /// The folder at the path, where nothing would be lost. It is not made yet. The fault is `Occupied` where something
-    /// stands there that is no folder, or a folder that has anything but a site; `File` where that can't be seen; and
-    /// `OutOfMemory`.
-    pub fn open(rt: &'a R, path: &'a str) -> Result<SiteFolder<'a, R>, Fault>
-    where
-        R: Clone + Drop,
-    {
+impl<'a, 'b, R, E> SiteFolder<'a, 'b, R, E>
+where
+    R: Files<File = File> + AllocGlobal + Clock + Clone + Drop,
+    E: Write,
+{
+    /// The folder at the path, where nothing would be lost. It is not made yet, nor locked. The fault is `Occupied` where
+    /// something stands there that is no folder, or a folder that has anything but a site; `File` where that can't be
+    /// seen; and `OutOfMemory`.
+    pub fn open(
+        rt: &'a R,
+        path: &'a str,
+        advice: &'a mut Advice<'b, E>,
+    ) -> Result<SiteFolder<'a, 'b, R, E>, Failure> {
         check_free(rt, path)?;
+        let alloc = rt.alloc();
         Ok(SiteFolder {
             rt,
             path,
-            names: BTreeSet::new(rt.alloc()),
+            advice,
+            lock_path: format!(in alloc; "{path}/{LOCK}")?,
+            lock: None,
+            names: BTreeSet::new(alloc),
+            failure: None,
         })
     }
 
-    /// Writes a file of this name with these bytes beside, and gives it its name, whole. The folder is made before its first
-    /// file, where there is none. The fault is `File`, after which the file is as it was, and `OutOfMemory`.
+    /// Writes a file of this name with these bytes beside, and gives it its name, whole. Before its first file the folder
+    /// is made, where there is none, and locked, and it is looked again whether anything would be lost. The fault is
+    /// `File`, after which the file is as it was, `Occupied`, and `OutOfMemory`; `close` knows more of it.
     pub fn put(&mut self, name: &[u8], bytes: &[u8]) -> Result<(), Fault> {
+        match self.taken(name, bytes) {
+            Ok(()) => Ok(()),
+            Err(failure) => {
+                let fault = failure.fault;
+                self.failure = Some(failure);
+                Err(fault)
+            }
+        }
+    }
+
+    // The same, with what is known of the fault.
+    fn taken(&mut self, name: &[u8], bytes: &[u8]) -> Result<(), Failure> {
         let alloc = self.rt.alloc();
         let Ok(name) = str::from_utf8(name) else {
-            return Err(Fault::File);
+            return Err(Failure::of(alloc, Fault::File, self.path));
         };
-        if self.names.is_empty() && fs::create_dir_all(self.rt, self.path).is_err() {
-            return Err(Fault::File);
+        if self.lock.is_none() {
+            self.begin()?;
         }
         let path = self.path_of(name)?;
         let new_path = beside(alloc, path.as_str(), ".new")?;
-        if renewed(self.rt, path.as_str(), new_path.as_str(), bytes).is_err() {
-            let _ = fs::remove_file(self.rt, new_path.as_str());
-            return Err(Fault::File);
+        if let Err(why) = self.renew(path.as_str(), new_path.as_str(), bytes) {
+            return Err(unreplaced(alloc, &path, &self.lock_path, &new_path, why));
         }
         let name = String::from_str(alloc, name)?;
         let _ = self.names.insert(name).or(Err(Fault::OutOfMemory))?;
         Ok(())
     }
 
-    /// Removes what a site has had there and this one has not, as the pages of games that are gone. The fault is `File` where
-    /// the folder can't be read, and `OutOfMemory`.
-    pub fn remove_others(&self) -> Result<(), Fault>
-    where
-        R: Clone + Drop,
-    {
+    // Makes the folder, where there is none, and waits for its lock.
+    fn begin(&mut self) -> Result<(), Failure> {
+        let (rt, path) = (self.rt, self.path);
+        if let Err(error) = fs::create_dir_all(rt, path) {
+            return Err(Failure::of(rt.alloc(), Fault::File, path).because(error));
+        }
+        let mut waiting = Telling::new(rt, path, self.advice);
+        match Lock::take(rt, self.lock_path.as_str(), None, &mut waiting) {
+            Ok(lock) => self.lock = Some(lock),
+            Err(why) => return Err(unlocked(rt.alloc(), path, &self.lock_path, why)),
+        }
+        check_free(rt, path)
+    }
+
+    // Writes the bytes to a new file, and gives it the path. What a stop left in its place is removed.
+    fn renew(&self, path: &str, new_path: &str, bytes: &[u8]) -> Result<(), Hindrance> {
+        let Some(lock) = &self.lock else {
+            return Err(Hindrance::Lost);
+        };
+        lock.check(self.rt, self.lock_path.as_str())?;
+        let _ = fs::remove_file(self.rt, new_path);
+        let mut new = NewText::make(self.rt, new_path, SHARED)?;
+        let done = match new.file().write_all(bytes) {
+            Ok(()) => new.take_name(self.rt, path, lock, self.lock_path.as_str()),
+            Err(error) => Err(Hindrance::System(error)),
+        };
+        if done.is_err() {
+            new.remove(self.rt);
+        }
+        done
+    }
+
+    /// Ends the site. Where all files were put, what a site has had there and this one has not is removed, as the pages of
+    /// games that are gone. Then others may write the folder. The fault is the one that ended the site before, with what is
+    /// known of it; `File` where the folder can't be read; and `OutOfMemory`.
+    pub fn close(mut self, put: Result<(), Fault>) -> Result<(), Failure> {
+        let done = match put {
+            Ok(()) => self.remove_others(),
+            Err(fault) => Err(self.failure_of(fault)),
+        };
+        if let Some(lock) = self.lock {
+            lock.release(self.rt, self.lock_path.as_str());
+        }
+        done
+    }
+
+    // The failure of this fault, with what is known of it.
+    fn failure_of(&mut self, fault: Fault) -> Failure {
+        match self.failure.take() {
+            Some(failure) => failure,
+            None => Failure::of(self.rt.alloc(), fault, self.path),
+        }
+    }
+
+    // Removes what a site has had there and this one has not.
+    fn remove_others(&self) -> Result<(), Failure> {
         for name in &names_in(self.rt, self.path)? {
-            if is_of_site(name.as_str()) && !self.names.contains(name.as_str()) {
-                let path = self.path_of(name.as_str())?;
+            let name = name.as_str();
+            if name != LOCK && is_of_site(name) && !self.names.contains(name) {
+                let path = self.path_of(name)?;
                 let _ = fs::remove_file(self.rt, path.as_str());
             }
         }
@@ -85,64 +175,56 @@ impl<'a, R: Files<File = File> + AllocGlobal> SiteFolder<'a, R> {
     }
 }
 
-// Writes the bytes to the new path, and renames that file to the path.
-fn renewed<R: Files<File = File>>(
-    rt: &R,
-    path: &str,
-    new_path: &str,
-    bytes: &[u8],
-) -> io::Result<()> {
-    let mut file = fs::create(rt, new_path)?;
-    file.write_all(bytes)?;
-    fs::rename(rt, new_path, path)
-}
-
 // Refuses a path where something would be lost: what is no folder, and a folder with files in it that are not of a site.
-fn check_free<R>(rt: &R, path: &str) -> Result<(), Fault>
+fn check_free<R>(rt: &R, path: &str) -> Result<(), Failure>
 where
     R: Files<File = File> + AllocGlobal + Clone + Drop,
 {
     match unless_missing(fs::metadata(rt, path)) {
         Ok(None) => Ok(()),
-        Ok(Some(there)) if there.is_dir() => check_names(&names_in(rt, path)?),
-        Ok(Some(_)) => Err(Fault::Occupied),
-        Err(_) => Err(Fault::File),
+        Ok(Some(there)) if there.is_dir() && is_free(&names_in(rt, path)?) => Ok(()),
+        Ok(Some(_)) => Err(Failure::of(rt.alloc(), Fault::Occupied, path)),
+        Err(error) => Err(Failure::of(rt.alloc(), Fault::File, path).because(error)),
     }
 }
 
-// Refuses names that are not those of an empty folder or of a site.
-fn check_names(names: &[String]) -> Result<(), Fault> {
-    let is_site = names.iter().any(|name| name.as_str() == MARKER)
-        && names.iter().all(|name| is_of_site(name.as_str()));
-    if names.is_empty() || is_site {
-        Ok(())
-    } else {
-        Err(Fault::Occupied)
-    }
+// Whether the names are those of an empty folder, or of a site or of one that a stop left at its beginning.
+fn is_free(names: &[String]) -> bool {
+    let is_marked = names
+        .iter()
+        .any(|name| name.as_str() == MARKER || name.as_str() == LOCK);
+    names.is_empty() || is_marked && names.iter().all(|name| is_of_site(name.as_str()))
 }
 
 // The names in a folder.
-fn names_in<R>(rt: &R, path: &str) -> Result<Vec<String>, Fault>
+fn names_in<R>(rt: &R, path: &str) -> Result<Vec<String>, Failure>
 where
     R: Files<File = File> + AllocGlobal + Clone + Drop,
 {
-    let mut names = Vec::new(rt.alloc());
-    let Ok(entries) = fs::read_dir(rt, path) else {
-        return Err(Fault::File);
+    let alloc = rt.alloc();
+    let mut names = Vec::new(alloc);
+    let entries = match fs::read_dir(rt, path) {
+        Ok(entries) => entries,
+        Err(error) => return Err(Failure::of(alloc, Fault::File, path).because(error)),
     };
     for entry in entries {
-        let Ok(entry) = entry else {
-            return Err(Fault::File);
-        };
-        let name = String::from_str(rt.alloc(), entry.file_name())?;
-        names.push(name).or(Err(Fault::OutOfMemory))?;
+        match entry {
+            Ok(entry) => {
+                let name = String::from_str(alloc, entry.file_name())?;
+                names.push(name).or(Err(Fault::OutOfMemory))?;
+            }
+            Err(error) => return Err(Failure::of(alloc, Fault::File, path).because(error)),
+        }
     }
     Ok(names)
 }
 
 // Whether a site has files of this name: one of three names, or a code with one of four ends. A file that is being written
-// has `.new` behind its name.
+// has `.new` behind its name. The lock is one too.
 fn is_of_site(name: &str) -> bool {
+    if name == LOCK {
+        return true;
+    }
     let name = name.strip_suffix(".new").unwrap_or(name);
     COMMON.iter().any(|common| *common == name) || ENDS.iter().any(|end| is_of_game(name, end))
 }

@@ -1,13 +1,16 @@
 //! The file of a state, or of a delta, as one command at a time may change it.
 
 use crate::files::{beside, check_length, real_path, standing};
-use crate::lock::{Silent, Telling, Waiting, locked};
+use crate::hindrance::{Hindrance, unlocked, unreplaced, unwritten};
+use crate::lock::{Lock, Silent, Telling, Waiting};
+use crate::new_text::{NewText, remove_left};
+use crate::seen::Seen;
 use census_failure::{Advice, Failure, shown};
 use census_state::Fault;
 use std::alloc::{AllocError, Global};
-use std::fs::{self, File, Metadata, OpenOptions};
+use std::fs::{File, Metadata};
 use std::io::{self, ErrorKind, Write};
-use std::os::unix::fs::{MetadataExt, OpenOptionsExt, PermissionsExt, fchown};
+use std::os::unix::fs::{MetadataExt, PermissionsExt, fchown};
 use std::path::Path;
 use std::rt::Files;
 use std::time::Clock;
@@ -25,9 +28,10 @@ const OWNER_WRITES: u32 = 0o200;
 pub struct StateFile {
     path: String,
     lock_path: String,
-    lock: Option<File>,
-    /// Why there is no lock, where the system said so.
-    unlocked: Option<io::Error>,
+    new_path: String,
+    lock: Option<Lock>,
+    /// Why there is no lock, where that is known.
+    hindrance: Option<Hindrance>,
 }
 
 impl StateFile {
@@ -60,28 +64,35 @@ impl StateFile {
         R: Files<File = File> + AllocGlobal,
         W: Waiting,
     {
+        let alloc = rt.alloc();
         let Some(path) = real_path(rt, state)? else {
             return Ok(StateFile {
-                path: format!(in rt.alloc(); "{state}")?,
-                lock_path: String::new(rt.alloc()),
+                path: format!(in alloc; "{state}")?,
+                lock_path: String::new(alloc),
+                new_path: String::new(alloc),
                 lock: None,
-                unlocked: None,
+                hindrance: None,
             });
         };
-        let lock_path = beside(rt.alloc(), path.as_str(), ".lock")?;
-        let locked = match mode_of(rt, path.as_str()) {
-            Ok(mode) => locked(rt, lock_path.as_str(), mode | PRIVATE, waiting),
-            Err(error) => Err(error),
+        let lock_path = beside(alloc, path.as_str(), ".lock")?;
+        let new_path = beside(alloc, path.as_str(), ".new")?;
+        let taken = match standing(rt, path.as_str()) {
+            Ok(there) => Lock::take(rt, lock_path.as_str(), there.as_ref(), waiting),
+            Err(error) => Err(Hindrance::System(error)),
         };
-        let (lock, unlocked) = match locked {
-            Ok(lock) => (Some(lock), None),
-            Err(error) => (None, Some(error)),
+        let (lock, hindrance) = match taken {
+            Ok(lock) => {
+                remove_left(rt, new_path.as_str(), &lock);
+                (Some(lock), None)
+            }
+            Err(hindrance) => (None, Some(hindrance)),
         };
         Ok(StateFile {
             path,
             lock_path,
+            new_path,
             lock,
-            unlocked,
+            hindrance,
         })
     }
 
@@ -90,34 +101,69 @@ impl StateFile {
         self.path.as_str()
     }
 
-    /// Lets other commands change the state again, and removes the lock's file, which is still held then.
-    pub fn release<R: Files<File = File>>(self, rt: &R) {
-        if self.lock.is_some() {
-            let _ = fs::remove_file(rt, self.lock_path.as_str());
+    /// What stands there, as it is now; none where nothing does. The fault is `File`.
+    pub fn seen<R: Files + AllocGlobal>(&self, rt: &R) -> Result<Option<Seen>, Failure> {
+        match standing(rt, self.path.as_str()) {
+            Ok(there) => Ok(there.map(|there| Seen::of(&there))),
+            Err(error) => Err(unwritten(rt.alloc(), self.path.as_str(), error)),
         }
     }
 
-    /// Replaces the state by these bytes, whole: they are written to the name with `.new` behind it, and flushed to the
-    /// disk; then that file takes the state's name, and its permissions. A stop at any moment leaves the old state or
-    /// the new one. The fault is `TooLong` before anything is written, `File`, also where what stands there is no file
-    /// or its owner may not write it, and `OutOfMemory`.
+    /// Lets other commands change the state again, and removes the lock's file, which is still held then.
+    pub fn release<R: Files<File = File>>(self, rt: &R) {
+        if let Some(lock) = self.lock {
+            lock.release(rt, self.lock_path.as_str());
+        }
+    }
+
+    /// Replaces the state by these bytes, whole: they are written to a new file of the name with `.new` behind it, and
+    /// flushed to the disk; then that file takes the state's name, and its permissions, where the lock is still there. A
+    /// stop at any moment leaves the old state or the new one. The fault is `TooLong` before anything is written;
+    /// `Occupied` where somebody's file stands in the place of the lock or of the new file; `File`, also where what
+    /// stands in the place of the state is no file or its owner may not write it, and where the lock was removed
+    /// meanwhile; and `OutOfMemory`.
     pub fn replace<R>(&self, rt: &R, bytes: &[u8]) -> Result<(), Failure>
     where
         R: Files<File = File> + AllocGlobal,
     {
         check_length(rt.alloc(), bytes, self.path.as_str())?;
-        self.check_held(rt.alloc())?;
-        let new_path = beside(rt.alloc(), self.path.as_str(), ".new")?;
-        match renewed(rt, self.path.as_str(), new_path.as_str(), bytes) {
+        let Some(lock) = &self.lock else {
+            return Err(self.not_held(rt.alloc()));
+        };
+        match self.renew(rt, lock, bytes) {
             Ok(()) => Ok(()),
-            Err(error) => {
-                let _ = fs::remove_file(rt, new_path.as_str());
-                Err(unwritten(rt.alloc(), self.path.as_str(), error))
-            }
+            Err(hindrance) => Err(unreplaced(
+                rt.alloc(),
+                self.path.as_str(),
+                self.lock_path.as_str(),
+                self.new_path.as_str(),
+                hindrance,
+            )),
         }
     }
 
-    /// Refuses a state whose lock is not held. The fault is `File`.
+    // The same under the lock. Where it is hindered, the new file is removed.
+    fn renew<R>(&self, rt: &R, lock: &Lock, bytes: &[u8]) -> Result<(), Hindrance>
+    where
+        R: Files<File = File>,
+    {
+        let old = standing(rt, self.path.as_str())?;
+        check_replaceable(old.as_ref())?;
+        lock.check(rt, self.lock_path.as_str())?;
+        let mode = if old.is_some() { PRIVATE } else { SHARED };
+        let mut new = NewText::make(rt, self.new_path.as_str(), mode)?;
+        let done = match fill(lock, new.file(), old.as_ref(), bytes) {
+            Ok(()) => new.take_name(rt, self.path.as_str(), lock, self.lock_path.as_str()),
+            Err(error) => Err(Hindrance::System(error)),
+        };
+        match done {
+            Ok(()) => flush_folder(rt, self.path.as_str()),
+            Err(_) => new.remove(rt),
+        }
+        done
+    }
+
+    /// Refuses a state whose lock is not held. The fault is `File`, or `Occupied` where somebody's file stands in its place.
     pub fn check_held(&self, alloc: Global) -> Result<(), Failure> {
         if self.lock.is_none() {
             return Err(self.not_held(alloc));
@@ -127,11 +173,8 @@ impl StateFile {
 
     // The failure of a state that is not locked.
     fn not_held(&self, alloc: Global) -> Failure {
-        match self.unlocked {
-            Some(error) if error.kind() == ErrorKind::NotFound => {
-                unwritten(alloc, self.path.as_str(), error)
-            }
-            Some(error) => Failure::of(alloc, Fault::File, self.lock_path.as_str()).because(error),
+        match self.hindrance {
+            Some(why) => unlocked(alloc, self.path.as_str(), self.lock_path.as_str(), why),
             None => unfollowed(alloc, self.path.as_str()),
         }
     }
@@ -156,20 +199,6 @@ impl StateFile {
     }
 }
 
-// The failure of a file that can't be written.
-fn unwritten(alloc: Global, path: &str, error: io::Error) -> Failure {
-    let failure = Failure::of(alloc, Fault::File, path);
-    if error.kind() == ErrorKind::NotFound {
-        return failure.found(folder_text(alloc, path));
-    }
-    failure.because(error)
-}
-
-fn folder_text(alloc: Global, path: &str) -> Result<String, AllocError> {
-    let path = shown(alloc, path)?;
-    format!(in alloc; "{path}: the folder for it is not there")
-}
-
 // The failure of a file that is behind a link.
 fn unfollowed(alloc: Global, path: &str) -> Failure {
     Failure::of(alloc, Fault::File, path).found(link_text(alloc, path))
@@ -178,14 +207,6 @@ fn unfollowed(alloc: Global, path: &str) -> Failure {
 fn link_text(alloc: Global, path: &str) -> Result<String, AllocError> {
     let path = shown(alloc, path)?;
     format!(in alloc; "{path}: it is not known to which file this leads")
-}
-
-// The permissions of the file; those of a new one where there is none.
-fn mode_of<R: Files>(rt: &R, path: &str) -> io::Result<u32> {
-    match standing(rt, path)? {
-        Some(there) => Ok(there.permissions().mode() & 0o777),
-        None => Ok(SHARED),
-    }
 }
 
 // Whether the file has a further name, by a hard link.
@@ -205,30 +226,14 @@ fn warn_of_other_name<R: AllocGlobal, E: Write>(rt: &R, path: &str, advice: &mut
     }
 }
 
-// Writes the bytes to the new path, and renames that file to the path.
-fn renewed<R: Files<File = File>>(
-    rt: &R,
-    path: &str,
-    new_path: &str,
-    bytes: &[u8],
-) -> io::Result<()> {
-    let old = standing(rt, path)?;
-    check_replaceable(old.as_ref())?;
-    // What a stop left there.
-    let _ = fs::remove_file(rt, new_path);
-    let mut file = OpenOptions::new()
-        .write(true)
-        .create_new(true)
-        .mode(if old.is_some() { PRIVATE } else { SHARED })
-        .open(rt, new_path)?;
+// Has the lock name the new file, gives that the permissions of the old one, and writes it.
+fn fill(lock: &Lock, new: &mut File, old: Option<&Metadata>, bytes: &[u8]) -> io::Result<()> {
+    lock.name(new)?;
     if let Some(old) = old {
-        resemble(&file, &old)?;
+        resemble(new, old)?;
     }
-    file.write_all(bytes)?;
-    file.sync_all()?;
-    fs::rename(rt, new_path, path)?;
-    flush_folder(rt, path);
-    Ok(())
+    new.write_all(bytes)?;
+    new.sync_all()
 }
 
 // Refuses what is no file, and a file that its owner may not write.

@@ -3,14 +3,13 @@
 use crate::record_file::{Saved, record_of, save_held, written};
 use crate::shares::{Share, count_of, news, shares};
 use census_failure::Failure;
-use census_files::{StateFile, open_file, read_open, stateless};
+use census_files::{Seen, StateFile, open_file, read_open, stateless};
 use census_fold::record_digest;
 use census_state::{Fault, rejoin_grown, unchanged};
 use oct_ops::Dot;
 use oct_record::Record;
 use std::alloc::Global;
-use std::fs::{self, File, Metadata};
-use std::os::unix::fs::MetadataExt;
+use std::fs::{self, File};
 use std::rt::Files;
 
 /// What a state file said when it was read, and what sessions brought since.
@@ -41,16 +40,6 @@ impl Settled {
     pub(crate) fn foreign(&self) -> Option<Dot> {
         self.saved.foreign
     }
-}
-
-/// A file, and when it was last changed.
-#[derive(Clone, Copy, PartialEq, Eq, Drop)]
-struct Seen {
-    device: u64,
-    inode: u64,
-    size: u64,
-    seconds: i64,
-    nanoseconds: i64,
 }
 
 impl Kept {
@@ -195,19 +184,6 @@ impl Kept {
         match fs::metadata(rt, state) {
             Ok(there) => Seen::of(&there) == self.seen,
             Err(_) => false,
-        }
-    }
-}
-
-impl Seen {
-    // The file of these metadata.
-    fn of(there: &Metadata) -> Seen {
-        Seen {
-            device: there.dev(),
-            inode: there.ino(),
-            size: there.size(),
-            seconds: there.ctime(),
-            nanoseconds: there.ctime_nsec(),
         }
     }
 }

@@ -6,7 +6,7 @@ ghost use Rattle.oct_window.specs.Places.{IsKept};
 use crate::progress_line::ProgressLine;
 use census_diagnosis::{Given, of_saved};
 use census_failure::{Failure, shown};
-use census_files::{StateFile, check_apart, exists, read_file};
+use census_files::{Seen, StateFile, check_apart, exists, read_file};
 use census_search::{read_search, resume_in_windows, search_in_windows};
 use census_state::Fault;
 use oct_code::Code;
@@ -38,7 +38,8 @@ pub struct WindowSearch {
 ///
 /// The first fault is `File` where the file can't be locked; `Occupied` where its name is that of another file's lock or new
 /// text; `File` or `TooLong` where it can't be read; `Saved` where it holds no search of the game; then those of the search,
-/// among them `File` and `TooLong` where it can't be written.
+/// among them `Occupied` where another file was put in its place meanwhile, or somebody's file stands in the place of its lock
+/// or new text, and `File` and `TooLong` where it can't be written.
 pub fn search_saved<R, E>(
     rt: &R,
     sought: WindowSearch,
@@ -69,6 +70,7 @@ where
     let alloc = rt.alloc();
     file.check_held(alloc)?;
     check_apart(rt, file.path())?;
+    let seen = file.seen(rt)?;
     let place = saved_place(rt, sought.code, file.path())?;
     if let Some(place) = &place {
         tell_start(alloc, place, file.path(), progress);
@@ -77,6 +79,7 @@ where
         rt,
         file,
         progress,
+        seen,
         last: None,
         failure: None,
     };
@@ -142,12 +145,30 @@ fn start_text(alloc: Global, place: &Place<Global>, path: &str) -> Result<String
     format!(in alloc; "the search in {path} goes on behind {values} values")
 }
 
+// The failure of a file that is not the one which was read or written.
+fn foreign(alloc: Global, path: &str) -> Failure {
+    Failure::of(alloc, Fault::Occupied, path)
+        .found(foreign_text(alloc, path))
+        .advise(apart_text(alloc))
+}
+
+fn foreign_text(alloc: Global, path: &str) -> Result<String, AllocError> {
+    let path = shown(alloc, path)?;
+    format!(in alloc; "another file was put in the place of {path} meanwhile, and stays as it is")
+}
+
+fn apart_text(alloc: Global) -> Result<String, AllocError> {
+    format!(in alloc; "save the search in a file of its own")
+}
+
 // Saves the places of a search.
 #[derive(Drop)]
 struct Saver<'a, R, P> {
     rt: &'a R,
     file: &'a StateFile,
     progress: &'a mut P,
+    /// The file as it was read or last written; none where there was none.
+    seen: Option<Seen>,
     /// When a place was last saved.
     last: Option<Instant>,
     /// Why a place was not saved.
@@ -174,10 +195,15 @@ impl<R: Files<File = File> + AllocGlobal + Clock, P: Progress> Saver<'_, R, P> {
         }
     }
 
-    // Saves a place.
+    // Saves a place, unless another file was put there meanwhile.
     fn save(&mut self, place: &Place<Global>) -> Result<(), Failure> {
         let text = write_place(self.rt.alloc(), place)?;
+        let there = self.file.seen(self.rt)?;
+        if there.is_some() && there != self.seen {
+            return Err(foreign(self.rt.alloc(), self.file.path()));
+        }
         self.file.replace(self.rt, &text)?;
+        self.seen = self.file.seen(self.rt)?;
         self.last = Instant::now(self.rt).ok();
         Ok(())
     }

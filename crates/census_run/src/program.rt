@@ -219,7 +219,9 @@ where
             let mut advice = Advice::new(errors, audience);
             union::run(rt, *out, deltas, input, output, &mut advice)?;
         }
-        Task::Site { state, folder } => site::run(rt, state, folder)?,
+        Task::Site { state, folder } => {
+            site::run(rt, state, folder, &mut Advice::new(errors, audience))?;
+        }
         Task::Digest { files, form } => digest::run(rt, files, *form, output)?,
         Task::Serve { endpoint, is_quiet } => {
             let mut advice = Advice::new(errors, audience);

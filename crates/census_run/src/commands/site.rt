@@ -4,12 +4,14 @@ use crate::found::word;
 use crate::task::Task;
 use census_core::{Fault, Shelf, write_site};
 use census_diagnosis::{Given, of_state};
-use census_failure::Failure;
+use census_failure::{Advice, Failure};
 use census_files::{SiteFolder, read_state};
 use census_words::{Row, words};
 use clap::ArgMatches;
 use std::fs::File;
+use std::io::Write;
 use std::rt::Files;
+use std::time::Clock;
 
 /// Its row in the table.
 pub(crate) const ROW: Row = Row {
@@ -40,40 +42,41 @@ pub(crate) fn task<'a>(found: &ArgMatches<'a>) -> Result<Task<'a>, Failure> {
 }
 
 /// Makes the site of a state file in a folder, which is made where there is none, or replaces the site that stands there:
-/// each file is written beside and takes its name whole, and those of games that are gone are removed. The fault is that
-/// of the state, and `Occupied` where something stands there that is no folder, or a folder that has anything but a site;
-/// after these nothing is changed. It is `File` where the folder can't be written, with each file of it old or new.
-pub(crate) fn run<R>(rt: &R, state: &str, path: &str) -> Result<(), Failure>
+/// each file is written beside and takes its name whole, and those of games that are gone are removed. One command at a
+/// time writes the folder. The fault is that of the state, and `Occupied` where something stands there that is no folder,
+/// or a folder that has anything but a site; after these nothing is changed. It is `File` where the folder can't be
+/// written, with each file of it old or new.
+pub(crate) fn run<R, E>(
+    rt: &R,
+    state: &str,
+    path: &str,
+    advice: &mut Advice<'_, E>,
+) -> Result<(), Failure>
 where
-    R: Files<File = File> + AllocGlobal + Clone + Drop,
+    R: Files<File = File> + AllocGlobal + Clock + Clone + Drop,
+    E: Write,
 {
     let bytes = read_state(rt, state)?;
-    match filled(rt, &bytes, path) {
-        Ok(()) => Ok(()),
-        Err(Fault::Load(cause)) => Err(of_state(rt.alloc(), cause, Given::new(state, &bytes))),
-        Err(fault) => Err(Failure::of(rt.alloc(), fault, path)),
-    }
-}
-
-// Makes the site of these bytes of a state in the folder.
-fn filled<R>(rt: &R, bytes: &[u8], path: &str) -> Result<(), Fault>
-where
-    R: Files<File = File> + AllocGlobal + Clone + Drop,
-{
     let mut shelf = FolderShelf {
-        folder: SiteFolder::open(rt, path)?,
+        folder: SiteFolder::open(rt, path, advice)?,
     };
-    write_site(rt.alloc(), bytes, &mut shelf)?;
-    shelf.folder.remove_others()
+    match write_site(rt.alloc(), &bytes, &mut shelf) {
+        Err(Fault::Load(cause)) => Err(of_state(rt.alloc(), cause, Given::new(state, &bytes))),
+        put => shelf.folder.close(put),
+    }
 }
 
 // A folder, as the shelf that takes the files of a site.
 #[derive(Drop)]
-struct FolderShelf<'a, R> {
-    folder: SiteFolder<'a, R>,
+struct FolderShelf<'a, 'b, R, E> {
+    folder: SiteFolder<'a, 'b, R, E>,
 }
 
-impl<'a, R: Files<File = File> + AllocGlobal> Shelf for FolderShelf<'a, R> {
+impl<'a, 'b, R, E> Shelf for FolderShelf<'a, 'b, R, E>
+where
+    R: Files<File = File> + AllocGlobal + Clock + Clone + Drop,
+    E: Write,
+{
     ghost puts = { λ old name bytes new. Unit {0} };
 
     fn put(&mut self, name: &[u8], bytes: &[u8]) -> Result<(), Fault> {
