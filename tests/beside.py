@@ -172,7 +172,7 @@ def reasons_of_a_site():
     os.mkdir("public/index.html")
     status, out, err = run("site", "s", "public", "--explain")
     expect((status, out) == (3, "") and err.startswith("census: File\n"), f"a site over a folder: {status}, {err!r}")
-    expect("public/index.html: " in err and "irectory" in err, f"no reason of the system: {err!r}")
+    expect("  public/index.html: it is a folder\n" in err, f"no reason of the system: {err!r}")
     expect(run("site", "s", "public")[2] == "census: File\n", "the line is another one")
 
 

@@ -213,8 +213,8 @@ def two_bring():
             peer.sendall(frame(END))
             need(read_frame(peer) == (END, b""), "the session was not done")
             need(read_frame(peer) is None, "something came after the end")
-        brought = [int(hub.await_peer(peer, r"new (\d+) operations 2").group(1)) for peer in peers]
-        need(sum(brought) == 2, f"{brought} operations are new")
+        there = [int(hub.await_peer(peer, r"new 1 operations (\d+)").group(1)) for peer in peers]
+        need(sorted(there) == [1, 2], f"{there} operations are there")
         for who in (21, 22):
             need(f"note brought {who}.1 by {who}\n" in done("show", "both"), f"what {who} brought is not in the file")
         for who in (21, 22):

@@ -71,12 +71,7 @@ fn occupied(alloc: Global, place: &str, what: &str, path: &str) -> Failure {
         .advise(apart_text(alloc))
 }
 
-fn occupied_text(
-    alloc: Global,
-    place: &str,
-    what: &str,
-    path: &str,
-) -> Result<String, AllocError> {
+fn occupied_text(alloc: Global, place: &str, what: &str, path: &str) -> Result<String, AllocError> {
     let place = shown(alloc, place)?;
     let path = shown(alloc, path)?;
     format!(in alloc; "{place} stands where {what} of {path} is to be, and stays as it is")

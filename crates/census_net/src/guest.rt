@@ -6,6 +6,7 @@ use census_failure::Failure;
 use census_state::Fault;
 use mio::net::TcpStream;
 use mio::{Interest, Registry, Token};
+use oct_record::Record;
 use oct_sync::{Progress, Session, SyncError};
 use std::alloc::{AllocError, Global};
 use std::fs::File;
@@ -31,30 +32,33 @@ pub(crate) struct Guest {
     stream: TcpStream,
     bounds: Bounds,
     session: Session<Global>,
+    /// What came. It is not in the state before it is saved.
+    brought: Record<Global>,
+    /// Whether the session has answered the peer's clock, which needs what the state has.
+    has_answered: bool,
     /// What is to be sent, from the first byte on that was not sent.
     owed: Vec<u8>,
     sent: usize,
     /// How many bytes came.
     came: u64,
-    /// Whether an operation came that was not there.
-    has_brought: bool,
     /// What stands in the state after the session; none before all came, and what came was saved.
     settled: Option<Settled>,
     /// Whether the next read or write may go without waiting.
     is_ready: bool,
-    /// Until when it may be silent.
-    patient: Option<Instant>,
+    /// When it last took or sent something.
+    heard: Instant,
     /// When its session ends at the latest.
     end: Option<Instant>,
 }
 
 impl Guest {
-    /// A peer that connected now.
+    /// A peer that connected now, and the empty record for what it brings.
     pub(crate) fn new(
         alloc: Global,
         stream: TcpStream,
         peer: SocketAddr,
         bounds: Bounds,
+        brought: Record<Global>,
         now: Instant,
     ) -> Guest {
         let end = match bounds.patience.session {
@@ -66,13 +70,14 @@ impl Guest {
             stream,
             bounds,
             session: Session::server(alloc),
+            brought,
+            has_answered: false,
             owed: Vec::new(alloc),
             sent: 0,
             came: 0,
-            has_brought: false,
             settled: None,
             is_ready: true,
-            patient: now.checked_add(bounds.patience.silence),
+            heard: now,
             end,
         }
     }
@@ -95,12 +100,25 @@ impl Guest {
 
     /// When the peer is given up, if nothing comes before; never where there is none.
     pub(crate) fn deadline(&self) -> Option<Instant> {
-        sooner(self.patient, self.end)
+        sooner(
+            self.heard.checked_add(self.bounds.patience.silence),
+            self.end,
+        )
     }
 
-    /// Whether an operation came that was not there.
-    pub(crate) fn has_brought(&self) -> bool {
-        self.has_brought
+    /// The failure of a peer that was silent too long.
+    pub(crate) fn silent(&self) -> Failure {
+        self.given_up(false)
+    }
+
+    /// When it last took or sent something.
+    pub(crate) fn heard(&self) -> Instant {
+        self.heard
+    }
+
+    /// Closes the connection, and gives what came.
+    pub(crate) fn into_brought(self) -> Record<Global> {
+        self.brought
     }
 
     /// Whether the session is done, and all of it was sent.
@@ -178,8 +196,8 @@ impl Guest {
         }
     }
 
-    // Feeds the session what came, over the state as its file says now. Where the session is done, its last frame is
-    // owed once all that came is saved.
+    // Feeds the session what came, of one frame at most: the peer's clock over the state as its file says now, and what
+    // follows over what this session brought. Where the session is done, its last frame is owed once all that came is saved.
     fn take<R>(&mut self, rt: &R, state: &str, kept: &mut Kept, piece: &[u8]) -> Result<(), Failure>
     where
         R: Files<File = File> + AllocGlobal,
@@ -191,14 +209,16 @@ impl Guest {
                 self.bounds.most,
             )));
         }
-        kept.renew(rt, state)?;
-        let before = kept.said.len();
-        let fed = self.session.feed(&mut kept.said, piece, &mut self.owed);
-        if kept.said.len() != before {
-            self.has_brought = true;
-        }
-        if let Progress::Done = fed? {
-            self.settled = Some(kept.settle(rt, state)?);
+        let progress = if self.has_answered {
+            self.session.feed(&mut self.brought, piece, &mut self.owed)?
+        } else {
+            kept.renew(rt, state)?;
+            self.session.feed(&mut kept.said, piece, &mut self.owed)?
+        };
+        // The answer is the first that is sent, and no delta is taken before it.
+        self.has_answered = self.has_answered || !self.owed.is_empty();
+        if let Progress::Done = progress {
+            self.settled = Some(kept.settle(rt, state, &self.brought)?);
         }
         Ok(())
     }
@@ -218,7 +238,7 @@ impl Guest {
 
     // The peer took or sent something.
     fn hear(&mut self, now: Instant) {
-        self.patient = now.checked_add(self.bounds.patience.silence);
+        self.heard = now;
     }
 
     // Refuses a peer that is waited for no longer, as a failed read, or a failed write where something is owed.

@@ -12,15 +12,14 @@ use std::alloc::Global;
 use std::fs::{self, File};
 use std::rt::Files;
 
-/// What a state file said when it was read, and what sessions brought since.
+/// What a state file says, as it was last read or written.
 #[derive(Drop)]
 pub(crate) struct Kept {
-    /// The record that it said, with what sessions brought since.
+    /// The record that it says. Nothing is in it that is not saved.
     pub(crate) said: Record<Global>,
-    /// How many of its operations are saved, and how many of these are by each author.
-    saved: usize,
+    /// How many of its operations are by each author.
     shares: Vec<Share>,
-    /// The digest of what is saved.
+    /// Its digest.
     digest: Vec<u8>,
     /// The file. While it is open, no other has its inode.
     file: File,
@@ -60,7 +59,6 @@ impl Kept {
         let bytes = read_open(rt.alloc(), &mut file, state)?;
         let said = record_of(rt.alloc(), state, &bytes)?;
         Ok(Kept {
-            saved: said.len(),
             shares: shares(rt.alloc(), &said)?,
             digest: record_digest(rt.alloc(), &said)?,
             said,
@@ -69,46 +67,62 @@ impl Kept {
         })
     }
 
-    /// Reads the state again where its file is not the one that was read, or was changed since. What is not saved yet is
-    /// kept beside what the file says. The fault is that of `read`; and `Author` where the file is another author's and
-    /// something is not saved. After a fault all is as it was.
+    /// A record without operations, for what a session brings.
+    pub(crate) fn empty(&self, alloc: Global) -> Record<Global> {
+        match Record::new(alloc, self.said.author()) {
+            Ok(said) => said,
+            Err(_) => unreachable!(),
+        }
+    }
+
+    /// Reads the state again where its file is not the one that was read, or was changed since. The fault is that of
+    /// `read`, after which all is as it was.
     pub(crate) fn renew<R>(&mut self, rt: &R, state: &str) -> Result<(), Failure>
     where
         R: Files<File = File> + AllocGlobal,
     {
-        if self.stands(rt, state) {
-            return Ok(());
+        if !self.stands(rt, state) {
+            *self = Kept::read(rt, state)?;
         }
-        let mut there = Kept::read(rt, state)?;
-        if !self.is_saved() {
-            if there.said.author() != self.said.author() {
-                return Err(Failure::of(rt.alloc(), Fault::Author, state));
-            }
-            there.said.join(&self.said)?;
-        }
-        *self = there;
         Ok(())
     }
 
-    /// Saves the union of this and of what the file holds by now, where something is not saved. After a fault nothing
-    /// more is saved than before.
-    pub(crate) fn settle<R>(&mut self, rt: &R, state: &str) -> Result<Settled, Failure>
+    /// Whether the session brought an operation that the state has not.
+    pub(crate) fn lacks(&self, brought: &Record<Global>) -> bool {
+        let there = self.said.store();
+        brought.store().iter().any(|op| !there.contains(op))
+    }
+
+    /// Saves the union of what the file holds by now and of what a session brought, where the file has not all of it. After
+    /// a fault what is kept is what the file says.
+    pub(crate) fn settle<R>(
+        &mut self,
+        rt: &R,
+        state: &str,
+        brought: &Record<Global>,
+    ) -> Result<Settled, Failure>
     where
         R: Files<File = File> + AllocGlobal,
     {
-        if self.is_saved() {
-            return Ok(Settled {
-                saved: Saved {
-                    text: unchanged(rt.alloc(), &self.said)?,
-                    foreign: None,
-                },
-                news: Vec::new(rt.alloc()),
-            });
+        self.renew(rt, state)?;
+        if !self.lacks(brought) {
+            return self.settled_already(rt.alloc());
         }
         let file = StateFile::wait(rt, state)?;
-        let settled = self.save(rt, &file, state);
+        let settled = self.save(rt, &file, state, brought);
         file.release(rt);
         settled
+    }
+
+    // What stands in the state where nothing is new to it.
+    fn settled_already(&self, alloc: Global) -> Result<Settled, Failure> {
+        Ok(Settled {
+            saved: Saved {
+                text: unchanged(alloc, &self.said)?,
+                foreign: None,
+            },
+            news: Vec::new(alloc),
+        })
     }
 
     /// The digest of what is saved, in hexadecimal digits.
@@ -117,29 +131,77 @@ impl Kept {
     }
 
     // The same, while no other command changes the file, which is read first where it is not known.
-    fn save<R>(&mut self, rt: &R, file: &StateFile, state: &str) -> Result<Settled, Failure>
+    fn save<R>(
+        &mut self,
+        rt: &R,
+        file: &StateFile,
+        state: &str,
+        brought: &Record<Global>,
+    ) -> Result<Settled, Failure>
     where
         R: Files<File = File> + AllocGlobal,
     {
         self.renew(rt, state)?;
+        let fresh = self.fresh(rt.alloc(), brought)?;
+        let before = self.said.len();
+        let settled = match self.said.join(&fresh) {
+            Ok(()) => self.write(rt, file, state, before),
+            Err(refused) => Err(Failure::from(refused)),
+        };
+        if settled.is_ok() {
+            self.look(rt, state);
+        } else {
+            self.take_back(&fresh);
+        }
+        settled
+    }
+
+    // What the session brought that the state has not.
+    fn fresh(&self, alloc: Global, brought: &Record<Global>) -> Result<Record<Global>, Failure> {
+        let mut fresh = self.empty(alloc);
+        for op in brought.store().iter_shared() {
+            if !self.said.store().contains(op.as_ref()) {
+                let _ = fresh.share(op)?;
+            }
+        }
+        Ok(fresh)
+    }
+
+    // Takes what could not be saved out of the record again.
+    fn take_back(&mut self, fresh: &Record<Global>) {
+        for op in fresh.store().iter() {
+            let _ = self.said.remove(op);
+        }
+    }
+
+    // Writes all, and knows then how many operations are by whom. So many were there before.
+    fn write<R>(
+        &mut self,
+        rt: &R,
+        file: &StateFile,
+        state: &str,
+        before: usize,
+    ) -> Result<Settled, Failure>
+    where
+        R: Files<File = File> + AllocGlobal,
+    {
         let shares = shares(rt.alloc(), &self.said)?;
         let news = news(rt.alloc(), &self.shares, &shares)?;
         let digest = record_digest(rt.alloc(), &self.said)?;
-        let saved = self.write(rt, file, state, &shares)?;
-        self.saved = self.said.len();
+        let saved = self.write_grown(rt, file, state, before, &shares)?;
         self.shares = shares;
         self.digest = digest;
-        self.look(rt, state);
         Ok(Settled { saved, news })
     }
 
-    // Writes all where the file holds what was saved, and nothing else. It is not read again, unless an operation came by the
-    // state's own number, which is looked for there.
-    fn write<R>(
+    // Writes all where the file holds what was there before, and nothing else. It is not read again, unless an operation came by
+    // the state's own number, which is looked for there.
+    fn write_grown<R>(
         &self,
         rt: &R,
         file: &StateFile,
         state: &str,
+        before: usize,
         shares: &[Share],
     ) -> Result<Saved, Failure>
     where
@@ -149,10 +211,10 @@ impl Kept {
         if count_of(shares, author) != count_of(&self.shares, author) {
             return save_held(rt, file, state, &self.said);
         }
-        if self.saved > self.said.len() {
+        if before > self.said.len() {
             return Err(Failure::from(Fault::File));
         }
-        let reply = rejoin_grown(rt.alloc(), self.saved, &self.said)?;
+        let reply = rejoin_grown(rt.alloc(), before, &self.said)?;
         Ok(Saved {
             text: written(rt, file, reply)?,
             foreign: None,
@@ -172,11 +234,6 @@ impl Kept {
             self.seen = Seen::of(&there);
             self.file = file;
         }
-    }
-
-    // Whether the file has all, or had when it was last read or written.
-    fn is_saved(&self) -> bool {
-        self.said.len() == self.saved
     }
 
     // Whether the file that was read stands at the path, and was not changed since. Nothing of it is read.

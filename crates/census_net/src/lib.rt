@@ -7,9 +7,10 @@
 //! - `serve` has one session with whoever connects, and `sync` one with whoever serves, each over a `Connection` that fails
 //!   where it would wait too long.
 //! - `hub` has many sessions at once, within its `Limits`, in one thread: each is a `Guest`, which goes on whenever its
-//!   connection is ready, and `kept` is the one record for which all of them speak. `shares` says by whom what is new is, and
-//!   `moment` when a session ended.
-//! - `record_file` reads the record of a state file (`record_of`), and saves it joined with what the file holds by then.
+//!   connection is ready, and `kept` is the one record for which all of them speak; what one brings is joined with it where it
+//!   is saved. `shares` says by whom what is new is, `moment` when a session ended, and `room` whether a line can be printed.
+//! - `record_file` reads the record of a state file (`record_of`), and saves it joined with what the file holds by then;
+//!   `unsaved` is what is said where that failed.
 #![tactic(auto)]
 
 mod connection;
@@ -20,7 +21,9 @@ mod moment;
 mod network;
 mod peers;
 mod record_file;
+mod room;
 mod shares;
+mod unsaved;
 
 pub use connection::Patience;
 pub use endpoint::Endpoint;

@@ -3,6 +3,7 @@
 use crate::connection::Connection;
 use crate::endpoint::{Endpoint, accepted, bound, connected};
 use crate::record_file::{load, save};
+use crate::unsaved::unsaved;
 use census_failure::{Advice, Failure};
 use census_state::Fault;
 use oct_record::Record;
@@ -106,7 +107,9 @@ where
         Ok(()) => save_telling(rt, state, said, advice),
         Err(failure) => {
             if let Fault::Sync(_) = failure.fault {
-                let _ = save_telling(rt, state, said, advice);
+                if let Err(why) = save_telling(rt, state, said, advice) {
+                    return Err(unsaved(rt.alloc(), failure, &why));
+                }
             }
             Err(failure)
         }

@@ -4,6 +4,8 @@ use crate::endpoint::{Endpoint, bound};
 use crate::guest::{Bounds, Guest, sooner};
 use crate::kept::{Kept, Settled};
 use crate::moment::Moment;
+use crate::room::{OUTPUT, has_room};
+use crate::unsaved::unsaved;
 use census_diagnosis::unserved;
 use census_failure::{Failure, explanation, foreign_text};
 use census_state::Fault;
@@ -27,6 +29,12 @@ const PAUSE: u64 = 100;
 
 /// How many digits of a digest are shown.
 const DIGITS: usize = 8;
+
+/// How long a line may be before further authors are only counted. With that it has 4,000 bytes at most.
+const LONGEST: usize = 3_900;
+
+/// After how many seconds a silent peer gives way to one for which there is no room.
+const SILENCE: u64 = 10;
 
 /// The listener among the sources of events. The others are the guests, by their keys.
 const LISTENER: Token = Token(usize::MAX);
@@ -61,13 +69,17 @@ struct Host<'a, R> {
     is_called: bool,
     /// Until when none is taken.
     pause: Option<Instant>,
+    /// How many lines were dropped since the last one that was printed.
+    dropped: u64,
 }
 
 /// Serves so many connections to the address, and says where it listens and how each session ended. Many sessions go
-/// on at once, each whenever its connection is ready; further connections wait. What ends a session early does not end
-/// the hub. What the state says is kept in memory: its file is read again where another stands in its place, and
-/// written before the last frame of a session where something is not in it. The fault is that of the state, as it is
-/// read first; then `Net`; and `Write`.
+/// on at once, each whenever its connection is ready; further connections wait, but the peer that was silent longest, for
+/// ten seconds or more, gives way to one. What ends a session early does not end the hub. What the state says is kept in
+/// memory: its file is read again where another stands in its place, and written before the last frame of a session that
+/// brought something; what could not be saved is dropped with the session. Lines for which the output has no room are
+/// dropped, and counted. The fault is that of the state, as it is read first; then `Net`; and `Write` where it can't be said
+/// where the hub listens.
 pub fn hub<R, O, E>(
     rt: &R,
     endpoint: Endpoint<'_>,
@@ -118,6 +130,7 @@ where
             left: limits.peers,
             is_called: true,
             pause: None,
+            dropped: 0,
         })
     }
 
@@ -144,7 +157,7 @@ where
         self.wait(now)?;
         let now = self.now()?;
         for key in 0..self.limits.sessions {
-            self.go_on(key, now, output, errors)?;
+            self.go_on(key, now, output, errors);
         }
         Ok(())
     }
@@ -162,9 +175,44 @@ where
         unserved(self.rt.alloc(), self.endpoint.address, error)
     }
 
-    // Whether a connection may wait for which there is room.
-    fn has_call(&self) -> bool {
-        self.is_called && self.left > 0 && self.guests.len() < self.limits.sessions
+    // Whether a connection may wait for which there is room, or a guest that gives way.
+    fn has_call(&self, now: Instant) -> bool {
+        self.may_wait() && (!self.is_full() || self.idlest(now).is_some())
+    }
+
+    // Whether a connection may wait that is to be served.
+    fn may_wait(&self) -> bool {
+        self.is_called && self.left > 0
+    }
+
+    // Whether there are as many sessions as there may be.
+    fn is_full(&self) -> bool {
+        self.guests.len() >= self.limits.sessions
+    }
+
+    // The guest that was silent longest, where that is long enough to give way.
+    fn idlest(&self, now: Instant) -> Option<usize> {
+        let mut found = None;
+        let mut last = now.checked_sub(Duration::from_secs(SILENCE))?;
+        for (key, guest) in self.guests.iter() {
+            if guest.heard() <= last {
+                last = guest.heard();
+                found = Some(key);
+            }
+        }
+        found
+    }
+
+    // Has the guest that was silent longest give way, where there is no room.
+    fn make_room<E: Write>(&mut self, now: Instant, errors: &mut E) {
+        if self.is_full() {
+            if let Some(key) = self.idlest(now) {
+                if let Some(guest) = self.guests.try_remove(key) {
+                    let failure = guest.silent();
+                    self.give_up(guest, failure, errors);
+                }
+            }
+        }
     }
 
     // Takes the connections that wait, as far as there is room. After one that could not be taken there is a pause.
@@ -174,12 +222,13 @@ where
         }
         self.pause = None;
         for _ in 0..self.limits.sessions {
-            if !self.has_call() {
+            if !self.has_call(now) {
                 return;
             }
             match self.listener.accept() {
                 Ok((stream, peer)) => {
                     self.left = self.left.saturating_sub(1);
+                    self.make_room(now, errors);
                     if let Err(failure) = self.seat(stream, peer, now) {
                         say_failure(self.rt, errors, peer, failure);
                     }
@@ -200,7 +249,8 @@ where
             patience: self.endpoint.patience,
             most: self.limits.most,
         };
-        let mut guest = Guest::new(self.rt.alloc(), stream, peer, bounds, now);
+        let alloc = self.rt.alloc();
+        let mut guest = Guest::new(alloc, stream, peer, bounds, self.kept.empty(alloc), now);
         let token = Token(self.guests.vacant_key());
         if let Err(error) = guest.register(self.poll.registry(), token) {
             return Err(self.unserved(error));
@@ -230,7 +280,7 @@ where
     // How long nothing can happen but what the system reports; without end where there is none.
     fn timeout(&self, now: Instant) -> Option<Duration> {
         let mut first = None;
-        if self.has_call() {
+        if self.has_call(now) {
             match self.pause {
                 None => return Some(Duration::ZERO),
                 pause => first = pause,
@@ -241,6 +291,9 @@ where
                 return Some(Duration::ZERO);
             }
             first = sooner(first, guest.deadline());
+            if self.may_wait() {
+                first = sooner(first, way_given(guest.heard()));
+            }
         }
         first.map(|first| first.saturating_duration_since(now))
     }
@@ -252,16 +305,16 @@ where
         now: Instant,
         output: &mut O,
         errors: &mut E,
-    ) -> Result<(), Failure> {
+    ) {
         let Some(guest) = self.guests.get_mut(key) else {
-            return Ok(());
+            return;
         };
         let state = self.endpoint.state;
         match guest.step(self.rt, state, &mut self.kept, &mut self.buffer, now) {
             Ok(()) => {
                 if guest.is_over() {
                     if let Some(guest) = self.guests.try_remove(key) {
-                        self.say(&guest, output, errors)?;
+                        self.say(&guest, output, errors);
                     }
                 }
             }
@@ -271,26 +324,45 @@ where
                 }
             }
         }
-        Ok(())
     }
 
     // Says how a session ended that was done.
-    fn say<O: Write, E: Write>(
-        &self,
-        guest: &Guest,
-        output: &mut O,
-        errors: &mut E,
-    ) -> Result<(), Failure> {
+    fn say<O: Write, E: Write>(&mut self, guest: &Guest, output: &mut O, errors: &mut E) {
         if let Some(settled) = guest.settled() {
-            let line = self.line(guest.peer, settled)?;
-            write_out(output, &line)?;
+            let printed = match self.line(guest.peer, settled) {
+                Ok(line) => self.print(&line, output),
+                Err(failure) => Err(failure),
+            };
+            self.dropped = match printed {
+                Ok(()) => 0,
+                Err(_) => self.dropped.saturating_add(1),
+            };
             warn_of_number(self.rt.alloc(), errors, settled.foreign());
         }
-        Ok(())
+    }
+
+    // Prints a line, and before it how many were dropped, where any were. The fault is `Write`, also where the output has no
+    // room, as a pipe that nobody reads.
+    fn print<O: Write>(&self, line: &[u8], output: &mut O) -> Result<(), Failure> {
+        if !has_room(self.rt, OUTPUT) {
+            return Err(Failure::from(Fault::Write));
+        }
+        let alloc = self.rt.alloc();
+        let mut lines = Vec::new(alloc);
+        if self.dropped > 0 {
+            let text = format!(in alloc;
+                "{} lines dropped {}\n",
+                Moment::now(self.rt),
+                self.dropped
+            )?;
+            lines.extend_from_slice(text.as_bytes())?;
+        }
+        lines.extend_from_slice(line)?;
+        Ok(write_out(output, &lines)?)
     }
 
     // The line of a session that was done: when and whose it was, how many operations are new and how many there are, the first
-    // digits of their digest, and by whom the new ones are.
+    // digits of their digest, and by whom the new ones are, as far as a line may be long.
     fn line(&self, peer: SocketAddr, settled: &Settled) -> Result<Vec<u8>, Failure> {
         let alloc = self.rt.alloc();
         let mut line = Vec::new(alloc);
@@ -302,6 +374,12 @@ where
         line.extend_from_slice(digits.get(..DIGITS).unwrap_or(digits))?;
         for (at, share) in settled.news.iter().enumerate() {
             let mark = if at == 0 { ';' } else { ',' };
+            if line.len() > LONGEST {
+                let rest = settled.news.len().saturating_sub(at);
+                let text = format!(in alloc; "{mark} and {rest} authors")?;
+                line.extend_from_slice(text.as_bytes())?;
+                break;
+            }
             let text = format!(in alloc; "{mark} {} by {}", share.count, share.author)?;
             line.extend_from_slice(text.as_bytes())?;
         }
@@ -313,16 +391,27 @@ where
     // want of memory, or where the saving was what failed.
     fn give_up<E: Write>(&mut self, guest: Guest, failure: Failure, errors: &mut E) {
         let peer = guest.peer;
-        let is_of_peer = matches!(failure.fault, Fault::Sync(_) | Fault::TooLong);
-        let is_to_save = guest.has_brought() && is_of_peer;
-        drop(guest);
-        if is_to_save {
-            if let Ok(settled) = self.kept.settle(self.rt, self.endpoint.state) {
-                warn_of_number(self.rt.alloc(), errors, settled.foreign());
+        let is_to_save = guest.settled().is_none() && is_of_peer(&failure);
+        let brought = guest.into_brought();
+        let mut failure = failure;
+        if is_to_save && !brought.is_empty() {
+            match self.kept.settle(self.rt, self.endpoint.state, &brought) {
+                Ok(settled) => warn_of_number(self.rt.alloc(), errors, settled.foreign()),
+                Err(why) => failure = unsaved(self.rt.alloc(), failure, &why),
             }
         }
         say_failure(self.rt, errors, peer, failure);
     }
+}
+
+// When a guest gives way that was last heard then.
+fn way_given(heard: Instant) -> Option<Instant> {
+    heard.checked_add(Duration::from_secs(SILENCE))
+}
+
+// Whether a session ended by what its peer did.
+fn is_of_peer(failure: &Failure) -> bool {
+    matches!(failure.fault, Fault::Sync(_) | Fault::TooLong)
 }
 
 // Listens at the address without waiting, and reports each connection under the token of the listener. The fault is
