@@ -1,5 +1,6 @@
 pub mod Deltas
 pub mod Digests
 pub mod Folded
+pub mod Lacking
 pub mod Reading
 pub mod Unions

@@ -2,6 +2,7 @@
 //!
 //! - `fold_lines` reads lines of deltas, and writes the catalogue of what they say; `fold_intake` also gives what they came to.
 //! - `read_together` gives the catalogue of what several files hold.
+//! - `left_in` gives the games of a list of which several files lack one of the first values.
 //! - `unite` makes one delta of several files, and `delta` one of a state.
 //! - `digest` names the set of operations of a file by 64 digits, and `record_digest` that of a record.
 //! - `laws` says that the catalogue and the digest depend on the set alone.
@@ -11,6 +12,7 @@ mod deltas;
 mod digests;
 mod fold;
 mod hexadecimal;
+mod lacking;
 pub mod laws;
 mod lines;
 mod reading;
@@ -20,6 +22,7 @@ mod unions;
 pub use deltas::delta;
 pub use digests::{digest, record_digest};
 pub use fold::{fold_intake, fold_lines};
+pub use lacking::left_in;
 pub use reading::read_together;
 pub use taken::Intake;
 pub use unions::unite;

@@ -32,8 +32,8 @@ fn catalogue_text(alloc: Global, held: &Record<Global>) -> Result<Vec<u8>, Alloc
     Ok(text)
 }
 
-// What the files hold.
-fn held_together(alloc: Global, files: &[Vec<u8>]) -> Result<Record<Global>, Fault>
+/// What the files hold.
+pub(crate) fn held_together(alloc: Global, files: &[Vec<u8>]) -> Result<Record<Global>, Fault>
     ensures ok { IfOk result (λ all. held_onto empty (map (λ file. file.items) files.now) ≡ Ok all.ops) }
     ensures err { IfErr result (λ e. e ≢ Fault.OutOfMemory → held_onto empty (map (λ file. file.items) files.now) ≡ Err e) }
 {
