@@ -11,7 +11,7 @@ export GIT_AUTHOR_NAME=test GIT_AUTHOR_EMAIL=test@example.org GIT_COMMITTER_NAME
 # What each member does once in a clone: a number of their own, and the merge driver.
 join_table() {
   git config merge.census.driver 'census union %A %A %B'
-  git config diff.census.textconv 'census read'
+  git config diff.census.textconv 'census log'
   census init "$1.state" "$2" >/dev/null
 }
 
@@ -85,9 +85,9 @@ git config merge.census.driver 'census union %A %A %B'
 git pull -q --no-rebase --no-edit origin main
 [ "$(census read census.delta | grep -c '^note kayles')" = 3 ]
 
-# git shows what a version adds as lines of the catalogue.
-git config diff.census.textconv 'census read'
-git diff HEAD^1 -- census.delta | grep -qx '+note kayles 1.3 proved'
+# git shows who said what a version adds.
+git config diff.census.textconv 'census log'
+git diff HEAD^1 -- census.delta | grep -qx '+1.3 note kayles proved'
 cd "$room"
 
 # A file that is no delta is named by its place, and nothing is written.

@@ -8,7 +8,8 @@
 //!   of them, and gives a `Keeper` each `Place` that it comes to; `write_place` writes one, `read_search` reads it, and
 //!   `resume_in_windows` goes on from there.
 //! - `check` compares a b-file with computed values.
-//! - `unite` makes one delta of several files, and `read_together` the catalogue of what several files hold.
+//! - `unite` makes one delta of several files, `read_together` the catalogue of what several files hold, and `log_together` their
+//!   log: a line for each operation that is `Wanted`. `diff` says how two differ.
 //! - `digest` names the set of operations of a file by 64 digits.
 //! - `write_site` puts the files of a site on a `Shelf`, one game in memory at a time.
 //! - `rejoin` gives what a state file is to hold after a session, `rejoin_grown` does so where the file need not be read, and
@@ -25,7 +26,8 @@ pub mod laws;
 mod progress;
 
 pub use census_fold::{
-    Intake, digest, fold_intake, fold_lines, read_together, record_digest, unite,
+    Intake, diff, digest, fold_intake, fold_lines, log_together, read_together, record_digest,
+    unite,
 };
 pub use census_issue::{Aim, Turns, check_count, import_block};
 pub use census_judge::{Checked, Judged, Verdict, check, judge, tally};
@@ -39,6 +41,7 @@ pub use census_state::{
 };
 pub use census_tell::{Shelf, write_site};
 pub use command::{perform, perform_watched};
+pub use oct_log::Wanted;
 pub use oct_saved::write_place;
 pub use oct_text::{Form, Told};
 pub use oct_window::{Forgetful, Keeper, Place, Progress, Unkept};

@@ -4,6 +4,9 @@ use Rattle.oct_delta.specs.Text.{Bytes}
 use Rattle.oct_ops.specs.Operations.{Operations, empty, listed, union}
 use Rattle.oct_text.specs.Words.{Text}
 use Rattle.oct_pages.specs.Catalogue.{catalogue}
+use Rattle.oct_log.specs.Diff.{diff_text}
+use Rattle.oct_log.specs.Log.{log_text}
+use Rattle.oct_log.specs.declared.wanted.Wanted.{Wanted}
 use Rattle.census_fold.specs.Digests.{operations_in}
 use Rattle.census_state.specs.Steps.{◌>>=◌}
 use Rattle.census_state.specs.declared.fault.Fault.{Fault}
@@ -16,3 +19,11 @@ held_onto ops (file ∷ files) = operations_in file >>= λ more. held_onto (unio
 -- the catalogue of what the files hold together
 abbrev pub read_together : List Bytes → Result Text Fault
 read_together files = held_onto empty files >>= λ ops. Ok (catalogue (listed ops))
+
+-- the log of what the files hold together
+abbrev pub log_together : Wanted → List Bytes → Result Text Fault
+log_together wanted files = held_onto empty files >>= λ ops. Ok (log_text wanted (listed ops))
+
+-- the lines by which two files differ, each a state or a delta, or the fault of the first that is neither
+abbrev pub diff_of_files : Bytes → Bytes → Result Text Fault
+diff_of_files one other = operations_in one >>= λ a. operations_in other >>= λ b. Ok (diff_text a b)

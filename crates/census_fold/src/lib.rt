@@ -1,7 +1,7 @@
 //! What lines and files hold: their operations, in one set, and what is written of it.
 //!
 //! - `fold_lines` reads lines of deltas, and writes the catalogue of what they say; `fold_intake` also gives what they came to.
-//! - `read_together` gives the catalogue of what several files hold.
+//! - `read_together` gives the catalogue of what several files hold, and `log_together` their log; `diff` says how two differ.
 //! - `left_in` gives the games of a list of which several files lack one of the first values.
 //! - `unite` makes one delta of several files, and `delta` one of a state.
 //! - `digest` names the set of operations of a file by 64 digits, and `record_digest` that of a record.
@@ -23,6 +23,6 @@ pub use deltas::delta;
 pub use digests::{digest, record_digest};
 pub use fold::{fold_intake, fold_lines};
 pub use lacking::left_in;
-pub use reading::read_together;
+pub use reading::{diff, log_together, read_together};
 pub use taken::Intake;
 pub use unions::unite;

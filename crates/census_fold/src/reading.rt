@@ -1,12 +1,14 @@
 //! What several files hold together.
 
 ghost use Rattle.std.specs.Prelude.{◌≡◌, ◌≢◌, Ok, Err, IfOk, IfErr, map};
-ghost use Rattle.oct_ops.specs.Operations.{empty, listed};
+ghost use Rattle.oct_ops.specs.Operations.{empty, listed, union};
 ghost use Rattle.oct_pages.specs.Catalogue.{catalogue};
-ghost use Rattle.census_fold.specs.Reading.{held_onto, read_together};
+ghost use Rattle.oct_log.specs.Log.{log_text};
+ghost use Rattle.census_fold.specs.Reading.{diff_of_files, held_onto, log_together, read_together};
 
 use crate::digests::read_held;
 use census_state::{Fault, nothing};
+use oct_log::{Wanted, write_diff, write_log};
 use oct_pages::write_catalogue_of;
 use oct_record::Record;
 use std::alloc::{AllocError, Global};
@@ -21,6 +23,43 @@ pub fn read_together(alloc: Global, files: &[Vec<u8>]) -> Result<Vec<u8>, Fault>
     let all = held_together(alloc, files)?;
     let text = catalogue_text(alloc, &all)?;
     Ok(text)
+}
+
+/// The log of what files hold together, each a state or a delta: a line for each operation that is wanted. The fault is as above.
+pub fn log_together(alloc: Global, files: &[Vec<u8>], wanted: &Wanted) -> Result<Vec<u8>, Fault>
+    ensures ok { IfOk result (λ text. log_together wanted.now (map (λ file. file.items) files.now) ≡ Ok text.items) }
+    ensures err { IfErr result (λ e. e ≢ Fault.OutOfMemory → log_together wanted.now (map (λ file. file.items) files.now) ≡ Err e) }
+{
+    let all = held_together(alloc, files)?;
+    let text = write_log(&all, wanted)?;
+    Ok(text)
+}
+
+/// The lines by which the operations of two files differ, each a state or a delta; none where they are the same. The fault is
+/// that of the first file that is neither: `Load` where it begins as a state, and else `Merge`. `OutOfMemory` may come before that.
+pub fn diff(alloc: Global, one: &[u8], other: &[u8]) -> Result<Vec<u8>, Fault>
+    ensures ok { IfOk result (λ text. diff_of_files one.now other.now ≡ Ok text.items) }
+    ensures err { IfErr result (λ e. e ≢ Fault.OutOfMemory → diff_of_files one.now other.now ≡ Err e) }
+{
+    let one = read_held(alloc, one)?;
+    let other = read_held(alloc, other)?;
+    let all = both(alloc, &one, &other)?;
+    let text = write_diff(one.store(), other.store(), &all)?;
+    Ok(text)
+}
+
+// The operations of both records.
+fn both(
+    alloc: Global,
+    one: &Record<Global>,
+    other: &Record<Global>,
+) -> Result<Record<Global>, AllocError>
+    ensures { IfOk result (λ all. all.ops ≡ union one.now.ops other.now.ops) }
+{
+    let mut all = nothing(alloc);
+    all.join(one)?;
+    all.join(other)?;
+    Ok(all)
 }
 
 // The catalogue of what is held.

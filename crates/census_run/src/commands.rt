@@ -25,6 +25,7 @@ pub(crate) mod claim;
 pub(crate) mod completion;
 pub(crate) mod compute;
 pub(crate) mod delta;
+pub(crate) mod diff;
 pub(crate) mod digest;
 pub(crate) mod explain;
 pub(crate) mod extend;
@@ -35,6 +36,7 @@ pub(crate) mod hub;
 pub(crate) mod import;
 pub(crate) mod init;
 pub(crate) mod json;
+pub(crate) mod log;
 pub(crate) mod manual;
 pub(crate) mod merge;
 pub(crate) mod note;
@@ -64,6 +66,8 @@ pub(crate) fn parts() -> [Part; 4] {
 const ALONE: &[Row] = &[
     fold::ROW,
     read::ROW,
+    log::ROW,
+    diff::ROW,
     search::ROW,
     check::ROW,
     explain::ROW,

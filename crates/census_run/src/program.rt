@@ -1,8 +1,8 @@
 //! The program over any three streams.
 
 use crate::commands::{
-    check, completion, digest, explain, fold, hub, init, manual, parts, read, search, serve, site,
-    sync, union,
+    check, completion, diff, digest, explain, fold, hub, init, log, manual, parts, read, search,
+    serve, site, sync, union,
 };
 use crate::system::System;
 use crate::task::{Task, read_task};
@@ -197,6 +197,8 @@ where
     match task {
         Task::Fold => fold::run(rt.alloc(), input, output, errors)?,
         Task::Read { files } => read::run(rt, files, output)?,
+        Task::Log { files, wanted } => log::run(rt, files, wanted, output)?,
+        Task::Diff { one, other } => return diff::run(rt, one, other, input, output),
         Task::Search(asked) => {
             let mut progress = ProgressLine::new(rt, errors, audience);
             search::run(rt, asked, output, &mut progress)?;

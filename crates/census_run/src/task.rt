@@ -4,7 +4,7 @@ use crate::ask::Ask;
 use crate::change::Change;
 use crate::commands::search::Search;
 use crate::commands::{self, parts};
-use census_core::{Fault, Form};
+use census_core::{Fault, Form, Wanted};
 use census_failure::{Failure, Reason};
 use census_files::Out;
 use census_net::{Endpoint, Limits};
@@ -23,6 +23,16 @@ pub(crate) enum Task<'a> {
     /// The catalogue of what files hold together.
     Read {
         files: Vec<&'a str>,
+    },
+    /// What was said in files: the operations that are wanted.
+    Log {
+        files: Vec<&'a str>,
+        wanted: Wanted,
+    },
+    /// What one file has and another has not.
+    Diff {
+        one: &'a str,
+        other: &'a str,
     },
     /// The period of each game.
     Search(Search<'a>),
@@ -117,6 +127,8 @@ fn task_of<'a, R: AllocGlobal + RandomSource>(
     match name {
         "fold" => Ok(Task::Fold),
         "read" => commands::read::task(alloc, found),
+        "log" => commands::log::task(alloc, found),
+        "diff" => commands::diff::task(found),
         "search" => commands::search::task(alloc, found),
         "check" => commands::check::task(found),
         "explain" => commands::explain::task(alloc, found),

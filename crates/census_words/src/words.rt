@@ -86,6 +86,20 @@ pub const FILES: Word = Word {
     times: Times::OneOrMore,
 };
 
+/// The first of two files that are compared.
+pub const ONE: Word = Word {
+    name: "FILE",
+    meaning: "A state or a delta, or -",
+    times: Times::One,
+};
+
+/// The second.
+pub const OTHER: Word = Word {
+    name: "OTHER",
+    meaning: "Another one, or -",
+    times: Times::One,
+};
+
 /// The file of a block.
 pub const FILE: Word = Word {
     name: "FILE",
@@ -277,6 +291,22 @@ pub const ONLY: Choice = Choice {
     name: "only",
     takes: Takes::Many("CODE"),
     meaning: "Shows this game alone; may stand several times",
+    default: None,
+};
+
+/// The author whose operations alone are listed.
+pub const BY: Choice = Choice {
+    name: "author",
+    takes: Takes::One("ID"),
+    meaning: "Lists what this author said alone, 1 to 4294967295",
+    default: None,
+};
+
+/// The game whose blocks and claims alone are listed.
+pub const OF: Choice = Choice {
+    name: "game",
+    takes: Takes::One("CODE"),
+    meaning: "Lists the blocks and claims of this game alone",
     default: None,
 };
 

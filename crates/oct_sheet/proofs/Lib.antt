@@ -1,2 +1,3 @@
+mod FoundNames
 pub mod Pushing
 pub mod RecordGames

@@ -1,6 +1,9 @@
 -- The names of authors. An author is called by the text of its last live note of the name `author-name`, in the order of operations.
-use Rattle.std.specs.Prelude.{ℕ, ◌==◌, ◌&&◌, Bool, if◌then◌else◌, List, [], codes}
+use Rattle.std.specs.Prelude.{ℕ, ◌==◌, ◌&&◌, Bool, if◌then◌else◌, List, [], codes, Option, Some, None}
 use Rattle.std.specs.List.{filter, fold}
+use Rattle.std.specs.BTreeMap as tree
+use Rattle.std.specs.BTreeMap.{BTreeMap}
+use Rattle.std.specs.Ordering.{nat_cmp}
 use Rattle.oct_ops.specs.Body as kind
 use Rattle.oct_ops.specs.Body.{Body, Operation}
 use Rattle.oct_notes.specs.Notes.{is_named}
@@ -32,6 +35,15 @@ renamed author name o = if names author o then text_of o.body else name
 -- the name by the live notes, which are listed by name and then in the order of operations; empty where there is none
 abbrev pub author_name : List Operation → ℕ → Text
 author_name notes author = fold (renamed author) [] notes
+
+-- the name that is found, and the empty one where none is
+abbrev pub name_at : {R : Type 0} → (R → Text) → Option R → Text
+name_at text None = []
+name_at text (Some name) = text name
+
+-- the name of an author in a table
+abbrev pub name_in : {R : Type 0} → (R → Text) → BTreeMap ℕ R → ℕ → Text
+name_in text table author = name_at text (tree.get nat_cmp table author)
 
 -- an author with its name
 pub record Called : Type 0 where

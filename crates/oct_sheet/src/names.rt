@@ -8,6 +8,7 @@ ghost use Rattle.oct_ops.specs.Views.{content};
 ghost use Rattle.oct_sheet.specs.Names.{author_name, called, is_naming, names, naming, text_of};
 ghost use Rattle.oct_sheet.specs.Sheet.{names_of};
 
+use crate::name_table::{name_in, names_by_author};
 use oct_ops::{Body, Op};
 use oct_record::Record;
 use oct_store::Author;
@@ -60,11 +61,12 @@ pub fn with_names<'a, A: Allocator + Copy>(
 ) -> Result<Vec<Called<'a>, A>, AllocError>
     ensures { IfOk result (λ found. found.items ≡ map (called (map (λ op. op.now) notes.now)) authors.now) }
 {
+    let names = names_by_author(alloc, notes)?;
     let mut found = Vec::with_capacity(alloc, authors.len())?;
     for author in authors {
         found.push(Called {
             author: *author,
-            name: author_name(notes, author.author),
+            name: name_in(&names, author.author),
         })?;
     }
     Ok(found)
@@ -94,8 +96,8 @@ pub fn naming_among<'a, A: Allocator + Copy>(
     Ok(found)
 }
 
-// Whether the operation is a note that names its author.
-fn is_naming<A: Allocator>(op: &Op<A>) -> bool
+/// Whether the operation is a note that names its author.
+pub(crate) fn is_naming<A: Allocator>(op: &Op<A>) -> bool
     ensures { result ≡ is_naming op.now }
 {
     name_of(op.body()) == NAMING
@@ -118,8 +120,8 @@ fn name_of<A: Allocator>(body: &Body<A>) -> &[u8]
     }
 }
 
-// The text of a note; other bodies have none.
-fn text_of<A: Allocator>(body: &Body<A>) -> &[u8]
+/// The text of a note; other bodies have none.
+pub(crate) fn text_of<A: Allocator>(body: &Body<A>) -> &[u8]
     ensures value { result.now ≡ text_of (content body.now) }
     ensures ascii { IsAscii result.now }
 {

@@ -64,8 +64,12 @@ where
     Ok(u8::from(checked.wrong > 0))
 }
 
-// The name of a file that is read, and its bytes. The word `-` is standard input.
-fn read_input<'a, R, I>(rt: &R, path: &'a str, input: &mut I) -> Result<(&'a str, Vec<u8>), Failure>
+/// The name of a file that is read, and its bytes. The word `-` is standard input.
+pub(crate) fn read_input<'a, R, I>(
+    rt: &R,
+    path: &'a str,
+    input: &mut I,
+) -> Result<(&'a str, Vec<u8>), Failure>
 where
     R: Files + AllocGlobal,
     I: Read,

@@ -45,28 +45,41 @@ where
     R: Files + AllocGlobal,
     O: Write,
 {
-    let mut files = Vec::new(rt.alloc());
-    for path in paths {
-        let bytes = read_file(rt, path)?;
-        files.push(bytes).or(Err(Fault::OutOfMemory))?;
-    }
+    let files = files_at(rt, paths)?;
     match read_together(rt.alloc(), &files) {
         Ok(text) => Ok(write_out(output, &text)?),
         Err(fault) => Err(of_files(rt.alloc(), fault, paths, &files)),
     }
 }
 
-// The failure of the first of these files that is neither a state nor a delta.
-fn of_files(alloc: Global, fault: Fault, paths: &[&str], files: &[Vec<u8>]) -> Failure {
+/// The bytes of files.
+pub(crate) fn files_at<R>(rt: &R, paths: &[&str]) -> Result<Vec<Vec<u8>>, Failure>
+where
+    R: Files + AllocGlobal,
+{
+    let mut files = Vec::new(rt.alloc());
+    for path in paths {
+        let bytes = read_file(rt, path)?;
+        files.push(bytes).or(Err(Fault::OutOfMemory))?;
+    }
+    Ok(files)
+}
+
+/// The failure of the first of these files that is neither a state nor a delta.
+pub(crate) fn of_files(alloc: Global, fault: Fault, paths: &[&str], files: &[Vec<u8>]) -> Failure {
     for (path, bytes) in paths.iter().zip(files) {
-        let is_refused = if bytes.starts_with(b"OGS1") {
-            oct_record::read_state(bytes).is_err()
-        } else {
-            read_ops(bytes).is_err()
-        };
-        if is_refused {
+        if is_refused(bytes) {
             return of_either(alloc, fault, Given::new(path, bytes));
         }
     }
     Failure::from(fault)
+}
+
+/// Whether the bytes of a file are neither a state nor a delta.
+pub(crate) fn is_refused(bytes: &[u8]) -> bool {
+    if bytes.starts_with(b"OGS1") {
+        oct_record::read_state(bytes).is_err()
+    } else {
+        read_ops(bytes).is_err()
+    }
 }

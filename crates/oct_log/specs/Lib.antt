@@ -1,0 +1,3 @@
+pub use Rattle.oct_ops.specs.Operations
+pub mod Diff
+pub mod Log

@@ -1,0 +1,20 @@
+//! A log: what was said, by whom, an operation a line, whether it is true or not.
+//!
+//!     write_log(&said, &wanted)?            // 2.1 (Anna Berg) block 0.77 at 1 count 199
+//!
+//! A line has the dot of the operation, the name of its author where it has one, and what it says. No nim-value is computed.
+//!
+//! - `write_log` gives the lines of the operations that are `Wanted`.
+//! - `write_diff` gives those by which two sets differ, each behind the sign of the set that has it.
+//! - `append_said` appends what an operation says.
+#![tactic(auto)]
+
+mod diff;
+mod log;
+mod said;
+mod wanted;
+
+pub use diff::write_diff;
+pub use log::write_log;
+pub use said::append_said;
+pub use wanted::Wanted;

@@ -1,0 +1,46 @@
+//! Which operations are asked for.
+
+ghost use Rattle.std.specs.Prelude.{◌≡◌};
+ghost use Rattle.oct_log.specs.Log.{is_by, is_of, is_wanted};
+
+use oct_code::Code;
+use oct_ops::Op;
+use std::alloc::Allocator;
+
+/// The operations that are asked for: those of an author, of a game, or of both. Where neither is named they are all.
+#[derive(Clone, Copy)]
+pub struct Wanted {
+    /// The author.
+    pub author: Option<u32>,
+    /// The game, of which blocks and claims are.
+    pub game: Option<Code>,
+}
+
+impl Wanted {
+    /// Whether the operation is asked for.
+    pub fn has<A: Allocator>(&self, op: &Op<A>) -> bool
+        ensures { result ≡ is_wanted self.now op.now }
+    {
+        is_by(self.author, op) && is_of(self.game, op)
+    }
+}
+
+// Whether the operation is by the author, where one is named.
+fn is_by<A: Allocator>(author: Option<u32>, op: &Op<A>) -> bool
+    ensures { result ≡ is_by author op.now }
+{
+    match author {
+        Some(author) => op.dot().author() == author,
+        None => true,
+    }
+}
+
+// Whether the operation is a block or a claim of the game, where one is named.
+fn is_of<A: Allocator>(game: Option<Code>, op: &Op<A>) -> bool
+    ensures { result ≡ is_of game op.now }
+{
+    match game {
+        Some(_) => op.body().code() == game,
+        None => true,
+    }
+}
