@@ -10,6 +10,7 @@
 //! - `check` compares a b-file with computed values.
 //! - `unite` makes one delta of several files, `read_together` the catalogue of what several files hold, and `log_together` their
 //!   log: a line for each operation that is `Wanted`. `diff` says how two differ.
+//!   `left_in` gives the games of a list of which several files lack one of the first values.
 //! - `digest` names the set of operations of a file by 64 digits.
 //! - `write_site` puts the files of a site on a `Shelf`, one game in memory at a time.
 //! - `rejoin` gives what a state file is to hold after a session, `rejoin_grown` does so where the file need not be read, and
@@ -26,8 +27,8 @@ pub mod laws;
 mod progress;
 
 pub use census_fold::{
-    Intake, diff, digest, fold_intake, fold_lines, log_together, read_together, record_digest,
-    unite,
+    Intake, diff, digest, fold_intake, fold_lines, left_in, log_together, read_together,
+    record_digest, unite,
 };
 pub use census_issue::{Aim, Turns, check_count, import_block};
 pub use census_judge::{Checked, Judged, Verdict, check, judge, tally};

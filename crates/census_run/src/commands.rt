@@ -36,6 +36,7 @@ pub(crate) mod hub;
 pub(crate) mod import;
 pub(crate) mod init;
 pub(crate) mod json;
+pub(crate) mod left;
 pub(crate) mod log;
 pub(crate) mod manual;
 pub(crate) mod merge;
@@ -68,6 +69,7 @@ const ALONE: &[Row] = &[
     read::ROW,
     log::ROW,
     diff::ROW,
+    left::ROW,
     search::ROW,
     check::ROW,
     explain::ROW,

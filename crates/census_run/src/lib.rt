@@ -3,8 +3,8 @@
 //! A command line is read to a `Task`, and the task is done. Each command stands in one file of `commands`: its row, from which
 //! its help is made, what its words ask for, and what it does with that.
 //!
-//! - `task` has the tasks, and reads them; `found` and `numbers` read words, `endpoint` the address of a peer, and `drawing`
-//!   draws the number of an author where none is given.
+//! - `task` has the tasks, and reads them; `found` and `numbers` read words, `lists` files of codes, `endpoint` the address of a
+//!   peer, and `drawing` draws the number of an author where none is given.
 //! - `change` and `ask` do what most commands are: a request that changes a state, or that leaves it as it is. `printing` has
 //!   what several print.
 //! - `program` does a task: `run` that of any words, and `run_called` (`arguments`) that of the words that the program was
@@ -23,6 +23,7 @@ mod commands;
 mod drawing;
 mod endpoint;
 mod found;
+mod lists;
 mod numbers;
 mod printing;
 mod program;

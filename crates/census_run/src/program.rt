@@ -1,8 +1,8 @@
 //! The program over any three streams.
 
 use crate::commands::{
-    check, completion, diff, digest, explain, fold, hub, init, log, manual, parts, read, search,
-    serve, site, sync, union,
+    check, completion, diff, digest, explain, fold, hub, init, left, log, manual, parts, read,
+    search, serve, site, sync, union,
 };
 use crate::system::System;
 use crate::task::{Task, read_task};
@@ -199,6 +199,7 @@ where
         Task::Read { files } => read::run(rt, files, output)?,
         Task::Log { files, wanted } => log::run(rt, files, wanted, output)?,
         Task::Diff { one, other } => return diff::run(rt, one, other, input, output),
+        Task::Left(asked) => left::run(rt, asked, input, output)?,
         Task::Search(asked) => {
             let mut progress = ProgressLine::new(rt, errors, audience);
             search::run(rt, asked, output, &mut progress)?;

@@ -2,6 +2,7 @@
 
 use crate::ask::Ask;
 use crate::change::Change;
+use crate::commands::left::Left;
 use crate::commands::search::Search;
 use crate::commands::{self, parts};
 use census_core::{Fault, Form, Wanted};
@@ -34,6 +35,8 @@ pub(crate) enum Task<'a> {
         one: &'a str,
         other: &'a str,
     },
+    /// The games of a list that lack values in files.
+    Left(Left<'a>),
     /// The period of each game.
     Search(Search<'a>),
     /// The first values of a game, as a b-file.
@@ -129,6 +132,7 @@ fn task_of<'a, R: AllocGlobal + RandomSource>(
         "read" => commands::read::task(alloc, found),
         "log" => commands::log::task(alloc, found),
         "diff" => commands::diff::task(found),
+        "left" => commands::left::task(alloc, found),
         "search" => commands::search::task(alloc, found),
         "check" => commands::check::task(found),
         "explain" => commands::explain::task(alloc, found),

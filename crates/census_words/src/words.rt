@@ -100,6 +100,13 @@ pub const OTHER: Word = Word {
     times: Times::One,
 };
 
+/// The files that may hold values.
+pub const HELD: Word = Word {
+    name: "FILE",
+    meaning: "States and deltas; nothing is known where there is none",
+    times: Times::Any,
+};
+
 /// The file of a block.
 pub const FILE: Word = Word {
     name: "FILE",
@@ -307,6 +314,22 @@ pub const OF: Choice = Choice {
     name: "game",
     takes: Takes::One("CODE"),
     meaning: "Lists the blocks and claims of this game alone",
+    default: None,
+};
+
+/// The file of a list of codes.
+pub const LIST: Choice = Choice {
+    name: "codes",
+    takes: Takes::One("FILE"),
+    meaning: "Takes the codes of this file, or of -: one or more a line; a # begins a comment",
+    default: None,
+};
+
+/// The part of a list that alone is taken.
+pub const PART: Choice = Choice {
+    name: "part",
+    takes: Takes::One("I/N"),
+    meaning: "Takes the I-th of the codes, the I+N-th, and so on: one of N parts, 1 to 65536",
     default: None,
 };
 

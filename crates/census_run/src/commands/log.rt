@@ -1,6 +1,6 @@
 //! `census log`: who said what.
 
-use super::read::{files_at, of_files};
+use super::read::{of_files, read_files};
 use crate::found::{game, repeated};
 use crate::numbers::{FROM_1, option_of};
 use crate::task::Task;
@@ -76,7 +76,7 @@ where
     R: Files + AllocGlobal,
     O: Write,
 {
-    let files = files_at(rt, paths)?;
+    let files = read_files(rt, paths)?;
     match log_together(rt.alloc(), &files, wanted) {
         Ok(text) => Ok(write_out(output, &text)?),
         Err(fault) => Err(of_files(rt.alloc(), fault, paths, &files)),

@@ -45,15 +45,15 @@ where
     R: Files + AllocGlobal,
     O: Write,
 {
-    let files = files_at(rt, paths)?;
+    let files = read_files(rt, paths)?;
     match read_together(rt.alloc(), &files) {
         Ok(text) => Ok(write_out(output, &text)?),
         Err(fault) => Err(of_files(rt.alloc(), fault, paths, &files)),
     }
 }
 
-/// The bytes of files.
-pub(crate) fn files_at<R>(rt: &R, paths: &[&str]) -> Result<Vec<Vec<u8>>, Failure>
+/// All the bytes of each file.
+pub(crate) fn read_files<R>(rt: &R, paths: &[&str]) -> Result<Vec<Vec<u8>>, Failure>
 where
     R: Files + AllocGlobal,
 {
