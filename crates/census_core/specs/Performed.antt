@@ -1,5 +1,5 @@
 -- What each command gives, by the bytes of its files.
-use Rattle.std.specs.Prelude.{◌==◌, Option, Some, None, Result, map, if◌then◌else◌}
+use Rattle.std.specs.Prelude.{◌==◌, List, [], Option, Some, None, Result, map, if◌then◌else◌}
 use Rattle.std.specs.Result.{result_err}
 use Rattle.oct_delta.specs.Text.{Bytes}
 use Rattle.census_fold.specs.Deltas as deltas
@@ -8,6 +8,7 @@ use Rattle.census_issue.specs.Claiming as claiming
 use Rattle.census_issue.specs.Extending as extending
 use Rattle.census_issue.specs.Finding as finding
 use Rattle.census_issue.specs.Issuing as issuing
+use Rattle.census_issue.specs.Turns.{Turn}
 use Rattle.census_tell.specs.Moving as moving
 use Rattle.census_tell.specs.Overview as overview
 use Rattle.census_state.specs.States as states
@@ -52,3 +53,9 @@ number_fault (Renumber id) = if id == 0 then Some Zero else None
 number_fault (Extend count codes) = result_err (extending.wanted count)
 number_fault (Survey count codes form) = result_err (extending.wanted count)
 number_fault request = None
+
+-- what is done after each game of a command that gives games their turns, up to the first fault
+abbrev pub stages_of : Request → Bytes → List Turn
+stages_of (Extend count codes) state = extending.stages_in_turns extending.extend_turn state count (map (λ word. word.items) codes.items)
+stages_of (Survey count codes form) state = extending.stages_in_turns (finding.survey_turn form) state count (map (λ word. word.items) codes.items)
+stages_of request state = []

@@ -1,12 +1,15 @@
 //! Commands over the bytes of their files.
 
-ghost use Rattle.std.specs.Prelude.{◌≡◌, ◌≢◌, Ok, Err, IfOk, IfErr, IfSome};
-ghost use Rattle.census_core.specs.Performed.{number_fault, performed};
+ghost use Rattle.std.specs.Prelude.{◌≡◌, ◌≢◌, false, Ok, Err, IfOk, IfErr, IfSome, OnOk};
+ghost use Rattle.census_core.specs.Performed.{number_fault, performed, stages_of};
+ghost use Rattle.census_issue.specs.Turns.{Kept, KeptSome};
 ghost use Rattle.census_state.specs.Replies.{answer_of};
 
 use crate::progress::Nobody;
 use census_fold::delta;
-use census_issue::{Aim, claim, compute, find, give_turns, import, note, unnote};
+use census_issue::{
+    Aim, NoKeeper, TurnKeeper, claim, compute, find, give_turns, import, note, unnote,
+};
 use census_state::{Fault, Reply, Request, View, init, merge, renumber};
 use census_tell::{Question, answer, games, page, show, show_only};
 use oct_window::Progress;
@@ -22,19 +25,23 @@ pub fn perform(alloc: Global, request: &Request, state: &[u8], file: &[u8]) -> R
     ensures err { IfErr result (λ e. e ≢ Fault.OutOfMemory → performed request.now state.now file.now ≡ Err e) }
     ensures numbers { IfSome (number_fault request.now) (λ e. result ≡ Err e) }
 {
-    perform_watched(alloc, request, state, file, &mut Nobody)
+    perform_kept(alloc, request, state, file, &mut Nobody, &mut NoKeeper)
 }
 
-/// Does one command as `perform`, and tells how far it is.
-pub fn perform_watched<P: Progress>(
+/// Does one command as `perform`, tells how far it is, and hands the keeper what is done after each game of `Extend` and `Survey`.
+/// The fault is also `File`, where the keeper refuses. What was kept before a fault stands.
+pub fn perform_kept<P: Progress, K: TurnKeeper<P>>(
     alloc: Global,
     request: &Request,
     state: &[u8],
     file: &[u8],
     progress: &mut P,
+    keeper: &mut K,
 ) -> Result<Reply, Fault>
     ensures ok { IfOk result (λ reply. performed request.now state.now file.now ≡ Ok (answer_of reply)) }
-    ensures err { IfErr result (λ e. e ≢ Fault.OutOfMemory → performed request.now state.now file.now ≡ Err e) }
+    ensures kept { OnOk result (Kept K.keeps keeper.old (stages_of request.now state.now) keeper.new) }
+    ensures err { IfErr result (λ e. e ≢ Fault.OutOfMemory → (e ≡ Fault.File → K.may_refuse ≡ false) → performed request.now state.now file.now ≡ Err e) }
+    ensures stands { IfErr result (λ e. e ≢ Fault.File → KeptSome K.keeps keeper.old (stages_of request.now state.now) keeper.new) }
     ensures numbers { IfSome (number_fault request.now) (λ e. result ≡ Err e) }
 {
     match request {
@@ -44,11 +51,12 @@ pub fn perform_watched<P: Progress>(
         Request::Claim { code } => claim(alloc, state, code, file),
         Request::Compute { code, count } => compute(alloc, state, code, *count),
         Request::Extend { count, codes } => {
-            give_turns(alloc, state, *count, codes, Aim::Extend, progress)
+            give_turns(alloc, state, *count, codes, Aim::Extend, progress, keeper)
         }
         Request::Find { codes, form } => find(alloc, state, codes, *form),
         Request::Survey { count, codes, form } => {
-            give_turns(alloc, state, *count, codes, Aim::Survey(*form), progress)
+            let aim = Aim::Survey(*form);
+            give_turns(alloc, state, *count, codes, aim, progress, keeper)
         }
         Request::Period { code, e, p } => census_issue::period(alloc, state, code, *e, *p),
         Request::Note { name, text } => note(alloc, state, name, text),

@@ -2,7 +2,7 @@
 //!
 //! - `fold_lines` reads lines of deltas, and writes the catalogue of what they say; `fold_intake` also gives what they came to.
 //! - `perform` does a `Request`, from the bytes of the state file and of another file to the `Reply` that is to be written;
-//!   `perform_watched` tells a `Progress` how far it is.
+//!   `perform_kept` tells a `Progress` how far it is, and hands a `TurnKeeper` what is done on the way.
 //! - `search` says which period the nim-values of a game prove, computed until they prove one, and the nim-values of any heaps;
 //!   `first_values` computes as many as are asked for, and `write_values` writes them as a b-file. `search_in_windows` keeps few
 //!   of them, and gives a `Keeper` each `Place` that it comes to; `write_place` writes one, `read_search` reads it, and
@@ -30,7 +30,7 @@ pub use census_fold::{
     Intake, diff, digest, fold_intake, fold_lines, left_in, log_together, read_together,
     record_digest, unite,
 };
-pub use census_issue::{Aim, Turns, check_count, import_block};
+pub use census_issue::{NoKeeper, TurnKeeper, check_count, import_block};
 pub use census_judge::{Checked, Judged, Verdict, check, judge, tally};
 pub use census_search::{
     SEARCH_LIMIT, WINDOW_LIMIT, first_values, read_search, resume_in_windows, search,
@@ -41,7 +41,7 @@ pub use census_state::{
     read_whole, rejoin, rejoin_grown, unchanged,
 };
 pub use census_tell::{Shelf, write_site};
-pub use command::{perform, perform_watched};
+pub use command::{perform, perform_kept};
 pub use oct_log::Wanted;
 pub use oct_saved::write_place;
 pub use oct_text::{Form, Told};

@@ -1,5 +1,6 @@
 -- What is known of games after blocks of their next nim-values were issued.
-use Rattle.std.specs.Prelude.{◌≡◌, ◌≤◌, ℕ, zero, suc, ◌+◌, ◌-◌, ◌&&◌, nat_le, min, List, [], ◌++◌, codes, Result, Ok, Err, if◌then◌else◌}
+use Rattle.std.specs.Prelude.{◌≡◌, ◌≤◌, ℕ, zero, suc, ◌+◌, ◌-◌, ◌&&◌, nat_le, min, List, [], ◌++◌, codes, Result, Ok, Err, unwrap_or, if◌then◌else◌}
+use Rattle.std.specs.Result.{result_ok}
 use Rattle.oct_code.specs.Code.{Code}
 use Rattle.oct_code.specs.CodeText.{code_text}
 use Rattle.oct_code.specs.declared.limits.TheConstants.{LIMIT}
@@ -18,7 +19,7 @@ use Rattle.census_issue.specs.Issuing.{with_body}
 use Rattle.census_state.specs.Replies.{Answer}
 use Rattle.census_state.specs.Steps.{◌>>=◌}
 use Rattle.census_state.specs.Stored.{loaded, saved}
-use Rattle.census_issue.specs.Turns.{Turn, in_turn}
+use Rattle.census_issue.specs.Turns.{Turn, in_turn, stages}
 use Rattle.census_state.specs.declared.fault.Fault.{Fault}
 use Rattle.census_state.specs.declared.fault.Fault.TheVariants.{Number}
 
@@ -78,6 +79,14 @@ in_turns turn state count words = do
   games ← codes_of words
   end ← in_turn (turn count) games (record { replica = replica; text = [] })
   saved end.replica end.text
+
+-- what is done after each of them, up to the first fault
+abbrev pub stages_in_turns : (ℕ → Code → RecordContent → Result Turn Fault) → Bytes → ℕ → List Bytes → List Turn
+stages_in_turns turn state count words = unwrap_or (result_ok (do
+  count ← wanted count
+  replica ← loaded state
+  games ← codes_of words
+  Ok (stages (turn count) games (record { replica = replica; text = [] })))) []
 
 abbrev pub extend : Bytes → ℕ → List Bytes → Result Answer Fault
 extend = in_turns extend_turn

@@ -4,5 +4,4 @@ pub mod Finding
 pub mod FoundObjects
 pub mod Imported
 pub mod Issuing
-pub mod OneByOne
 pub mod Turns

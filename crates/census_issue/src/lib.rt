@@ -4,7 +4,7 @@
 //!   claim, `note` a note, and `unnote` the removal of notes. `import_block` reads the block of a JSON value.
 //! - `find` says which periods the known nim-values of games prove.
 //! - `give_turns` gives each of several games its turn: so many of its nim-values become known, and an `Aim` says what is done
-//!   then. `Turns` gives the same turns one at a time.
+//!   then. A `TurnKeeper` is handed what is done after each game; `NoKeeper` keeps nothing.
 //! - `laws` says that the blocks of a turn are always enough.
 #![tactic(auto)]
 
@@ -18,7 +18,7 @@ pub mod laws;
 mod opened;
 mod surveying;
 mod texts;
-mod turning;
+mod turn_keeper;
 
 pub use claiming::claim;
 pub use extending::check_count;
@@ -26,4 +26,4 @@ pub use finding::find;
 pub use issuing::{compute, import, note, period, unnote};
 pub use json_block::import_block;
 pub use surveying::{Aim, give_turns};
-pub use turning::Turns;
+pub use turn_keeper::{NoKeeper, TurnKeeper};

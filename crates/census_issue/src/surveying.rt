@@ -1,15 +1,16 @@
 //! The commands that give each of several games its turn.
 
-ghost use Rattle.std.specs.Prelude.{◌≡◌, ◌≢◌, ◌≤◌, [], Ok, Err, IfOk, IfErr, map};
+ghost use Rattle.std.specs.Prelude.{◌≡◌, ◌≢◌, ◌≤◌, [], false, Ok, Err, IfOk, IfErr, OnOk, map};
 ghost use Rattle.oct_code.specs.declared.limits.TheConstants.{LIMIT};
-ghost use Rattle.census_issue.specs.Extending.{in_turns, wanted};
+ghost use Rattle.census_issue.specs.Extending.{in_turns, stages_in_turns, wanted};
 ghost use Rattle.census_issue.specs.Finding.{turn_of};
 ghost use Rattle.census_state.specs.Replies.{answer_of};
-ghost use Rattle.census_issue.specs.Turns.{in_turn};
+ghost use Rattle.census_issue.specs.Turns.{Kept, KeptSome, in_turn, stages};
 
 use crate::extending::{check_count, extend_game};
 use crate::finding::survey_known;
 use crate::texts::extended_line;
+use crate::turn_keeper::TurnKeeper;
 use census_state::{Fault, Reply, load, read_codes, save};
 use oct_code::Code;
 use oct_pages::game_of;
@@ -27,50 +28,60 @@ pub enum Aim {
     Survey(Form),
 }
 
-/// Makes so many values of each game known, by blocks of the next ones, and does with it what is aimed at. `Number` is
-/// answered before any memory is asked for.
-pub fn give_turns<P: Progress>(
+/// Makes so many values of each game known, by blocks of the next ones, and does with it what is aimed at. After each game the
+/// keeper is handed what is done so far. `Number` is answered before any memory is asked for, and `File` where the keeper
+/// refuses; what was kept before a fault stands.
+pub fn give_turns<P: Progress, K: TurnKeeper<P>>(
     alloc: Global,
     state: &[u8],
     count: u32,
     codes: &[Vec<u8>],
     aim: Aim,
     progress: &mut P,
+    keeper: &mut K,
 ) -> Result<Reply, Fault>
     ensures ok { IfOk result (λ reply. in_turns (turn_of aim) state.now count (map (λ word. word.items) codes.now) ≡ Ok (answer_of reply)) }
-    ensures err { IfErr result (λ e. e ≢ Fault.OutOfMemory → in_turns (turn_of aim) state.now count (map (λ word. word.items) codes.now) ≡ Err e) }
+    ensures kept { OnOk result (Kept K.keeps keeper.old (stages_in_turns (turn_of aim) state.now count (map (λ word. word.items) codes.now)) keeper.new) }
+    ensures err { IfErr result (λ e. e ≢ Fault.OutOfMemory → (e ≡ Fault.File → K.may_refuse ≡ false) → in_turns (turn_of aim) state.now count (map (λ word. word.items) codes.now) ≡ Err e) }
+    ensures stands { IfErr result (λ e. e ≢ Fault.File → KeptSome K.keeps keeper.old (stages_in_turns (turn_of aim) state.now count (map (λ word. word.items) codes.now)) keeper.new) }
     ensures number { IfErr (wanted count) (λ e. result ≡ Err e) }
 {
     check_count(count)?;
     let mut said = load(alloc, state)?;
     let codes = read_codes(alloc, codes)?;
-    let text = turns(alloc, &mut said, count, &codes, aim, progress)?;
+    let text = turns(alloc, &mut said, count, &codes, aim, progress, keeper)?;
     save(alloc, &said, state.len(), text)
 }
 
 // Gives each game its turn, and a line.
-fn turns<P: Progress>(
+fn turns<P: Progress, K: TurnKeeper<P>>(
     alloc: Global,
     said: &mut Record<Global>,
     count: u32,
     codes: &[Code],
     aim: Aim,
     progress: &mut P,
+    keeper: &mut K,
 ) -> Result<Vec<u8>, Fault>
     requires { count ≤ LIMIT }
     ensures ok { IfOk result (λ text. in_turn (turn_of aim count) codes.now (record { replica = said.old; text = [] }) ≡ Ok (record { replica = said.new; text = text.items })) }
-    ensures err { IfErr result (λ e. e ≢ Fault.OutOfMemory → in_turn (turn_of aim count) codes.now (record { replica = said.old; text = [] }) ≡ Err e) }
+    ensures kept { OnOk result (Kept K.keeps keeper.old (stages (turn_of aim count) codes.now (record { replica = said.old; text = [] })) keeper.new) }
+    ensures err { IfErr result (λ e. e ≢ Fault.OutOfMemory → (e ≡ Fault.File → K.may_refuse ≡ false) → in_turn (turn_of aim count) codes.now (record { replica = said.old; text = [] }) ≡ Err e) }
+    ensures stands { IfErr result (λ e. e ≢ Fault.File → KeptSome K.keeps keeper.old (stages (turn_of aim count) codes.now (record { replica = said.old; text = [] })) keeper.new) }
 {
     let mut text = Vec::new(alloc);
     for code in codes {
         let line = turn(alloc, said, count, *code, aim, progress)?;
         text.extend_from_slice(&line)?;
+        let Ok(()) = keeper.keep(said, &text, progress) else {
+            return Err(Fault::File);
+        };
     }
     Ok(text)
 }
 
-/// Gives a game its turn. It is built, and dropped at the end.
-pub(crate) fn turn<P: Progress>(
+// Gives a game its turn. It is built, and dropped at the end.
+fn turn<P: Progress>(
     alloc: Global,
     said: &mut Record<Global>,
     count: u32,

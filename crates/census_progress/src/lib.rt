@@ -4,18 +4,19 @@
 //! a stop costs little of it.
 //!
 //! - `ProgressLine` is the line on a terminal.
-//! - `give_turns` gives `Games` their turns, for `extend` and `survey`, and writes the state on the way.
+//! - `TurnSaver` saves the state while `extend` and `survey` give games their turns.
 //! - `search_saved` does a `WindowSearch` that is saved in a file, and goes on from there.
 //! - `say_what_became` says whether the blocks and claims that are new in a `Changed` state are proved, refuted or pending, where
 //!   that is wanted (`is_told`); `say_of_records` says so of what two records hold.
 #![tactic(auto)]
 
+mod pause;
 mod progress_line;
 mod saved_search;
-mod turns;
+mod turn_saver;
 mod verdict_line;
 
 pub use progress_line::ProgressLine;
 pub use saved_search::{WindowSearch, search_saved};
-pub use turns::{Games, give_turns};
+pub use turn_saver::TurnSaver;
 pub use verdict_line::{Changed, is_told, say_of_records, say_what_became};

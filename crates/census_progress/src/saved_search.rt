@@ -3,6 +3,7 @@
 ghost use Rattle.std.specs.Prelude.{IfOk, IfSome};
 ghost use Rattle.oct_window.specs.Places.{IsKept};
 
+use crate::pause::Pause;
 use crate::progress_line::ProgressLine;
 use census_diagnosis::{Given, of_saved};
 use census_failure::{Failure, shown};
@@ -17,7 +18,7 @@ use std::alloc::{AllocError, Global};
 use std::fs::File;
 use std::io::Write;
 use std::rt::Files;
-use std::time::{Clock, Duration, Instant};
+use std::time::Clock;
 
 // How many seconds pass at least between two saves, but for the last one.
 const PAUSE: u64 = 120;
@@ -80,7 +81,7 @@ where
         file,
         progress,
         seen,
-        last: None,
+        pause: Pause::over(PAUSE),
         failure: None,
     };
     match search_from(alloc, sought, place, &mut saver) {
@@ -169,24 +170,12 @@ struct Saver<'a, R, P> {
     progress: &'a mut P,
     /// The file as it was read or last written; none where there was none.
     seen: Option<Seen>,
-    /// When a place was last saved.
-    last: Option<Instant>,
+    pause: Pause,
     /// Why a place was not saved.
     failure: Option<Failure>,
 }
 
 impl<R: Files<File = File> + AllocGlobal + Clock, P: Progress> Saver<'_, R, P> {
-    // Whether it is time to save a place. Where there is no clock it always is.
-    fn is_due(&self) -> bool {
-        let Some(last) = self.last else {
-            return true;
-        };
-        match last.elapsed(self.rt) {
-            Ok(passed) => passed >= Duration::from_secs(PAUSE),
-            Err(_) => true,
-        }
-    }
-
     // The failure of the search.
     fn failure_of(self, fault: Fault) -> Failure {
         match (fault, self.failure) {
@@ -204,7 +193,7 @@ impl<R: Files<File = File> + AllocGlobal + Clock, P: Progress> Saver<'_, R, P> {
         }
         self.file.replace(self.rt, &text)?;
         self.seen = self.file.seen(self.rt)?;
-        self.last = Instant::now(self.rt).ok();
+        self.pause.begin(self.rt);
         Ok(())
     }
 }
@@ -221,7 +210,7 @@ impl<R: Files<File = File> + AllocGlobal + Clock, P: Progress> Keeper<Global> fo
     ghost may_refuse = { true };
 
     fn keep(&mut self, place: &Place<Global>, is_last: bool) -> Result<(), Unkept> {
-        if !is_last && !self.is_due() {
+        if !is_last && !self.pause.is_due(self.rt) {
             return Ok(());
         }
         match self.save(place) {

@@ -4,11 +4,11 @@ use crate::found::{is_quiet, word};
 use crate::printing::print_unless;
 use crate::system::System;
 use crate::task::Task;
-use census_core::{Reply, Request, perform_watched};
-use census_diagnosis::{Given, of_request};
+use census_core::{Fault, Reply, Request, perform_kept};
+use census_diagnosis::{Given, of_games, of_request};
 use census_failure::{Advice, Failure, INPUT_NAME};
 use census_files::{StateFile, is_standard, read_delta, read_file, read_standard, read_state};
-use census_progress::{Changed, Games, ProgressLine, give_turns, say_what_became};
+use census_progress::{Changed, ProgressLine, TurnSaver, say_what_became};
 use census_words::words::{self, Word};
 use clap::ArgMatches;
 use oct_record::Record;
@@ -63,11 +63,11 @@ where
         request,
         is_quiet,
     } = change;
-    if let Some(games) = Games::of(state, request) {
-        return give_turns(rt, games, output, progress);
-    }
-    let done = change_state(rt, state, *read, request, input, progress)?;
-    print_unless(*is_quiet, &done.reply.text, output)?;
+    let beside = Beside::of(rt.alloc(), *read, input)?;
+    let done = change_locked(rt, state, beside, request, output, progress);
+    progress.clear();
+    let done = done?;
+    print_unless(*is_quiet, done.unprinted(), output)?;
     if !*is_quiet && is_judged(request) {
         done.tell(rt.alloc(), state, progress.advice());
     }
@@ -79,9 +79,16 @@ where
 struct Performed {
     before: Vec<u8>,
     reply: Reply,
+    // How many bytes of its text are printed already.
+    printed: usize,
 }
 
 impl Performed {
+    // What is to be printed now, when other commands may change the state again.
+    fn unprinted(&self) -> &[u8] {
+        self.reply.text.get(self.printed..).unwrap_or(b"")
+    }
+
     // Says what became of what is new in the state.
     fn tell<E: Write>(&self, alloc: Global, state: &str, advice: &mut Advice<'_, E>) {
         if let Some(later) = &self.reply.state {
@@ -102,29 +109,10 @@ fn is_judged(request: &Request) -> bool {
         | Request::Import
         | Request::Claim { .. }
         | Request::Period { .. }
+        | Request::Survey { .. }
         | Request::Merge => true,
         _ => false,
     }
-}
-
-// Changes a state file. What the reply says is to be printed then, when other commands may change it again.
-fn change_state<R, I, E>(
-    rt: &R,
-    state: &str,
-    read: Option<&str>,
-    request: &Request,
-    input: &mut I,
-    progress: &mut ProgressLine<'_, R, E>,
-) -> Result<Performed, Failure>
-where
-    R: System,
-    I: Read,
-    E: Write,
-{
-    let beside = Beside::of(rt.alloc(), read, input)?;
-    let done = change_locked(rt, state, beside, request, progress);
-    progress.clear();
-    done
 }
 
 // What a command reads beside the state.
@@ -166,43 +154,51 @@ impl<'a> Beside<'a> {
 }
 
 // Changes a state file, and holds its lock from before it is read until it is replaced.
-fn change_locked<R, E>(
+fn change_locked<R, O, E>(
     rt: &R,
     state: &str,
     beside: Beside<'_>,
     request: &Request,
+    output: &mut O,
     progress: &mut ProgressLine<'_, R, E>,
 ) -> Result<Performed, Failure>
 where
     R: System,
+    O: Write,
     E: Write,
 {
     let file = StateFile::wait_telling(rt, state, progress.advice())?;
-    let done = change_held(rt, &file, state, beside, request, progress);
+    let done = change_held(rt, &file, state, beside, request, output, progress);
     file.release(rt);
     done
 }
 
 // The same, while no other command changes the state.
-fn change_held<R, E>(
+fn change_held<R, O, E>(
     rt: &R,
     file: &StateFile,
     state: &str,
     beside: Beside<'_>,
     request: &Request,
+    output: &mut O,
     progress: &mut ProgressLine<'_, R, E>,
 ) -> Result<Performed, Failure>
 where
     R: System,
+    O: Write,
     E: Write,
 {
     let bytes = read_state(rt, state)?;
     let (name, read) = beside.read(rt, request)?;
-    let reply = match perform_watched(rt.alloc(), request, &bytes, &read, progress) {
+    let mut saver = TurnSaver::new(rt, file, bytes.len(), output);
+    let reply = match perform_kept(rt.alloc(), request, &bytes, &read, progress, &mut saver) {
         Ok(reply) => reply,
         Err(fault) => {
             let (state, read) = (Given::new(state, &bytes), Given::new(name, &read));
-            return Err(of_request(rt.alloc(), fault, request, state, read));
+            return Err(match saver.into_failure() {
+                Some(failure) => failure,
+                None => of_change(rt.alloc(), fault, request, state, read),
+            });
         }
     };
     if let Some(text) = &reply.state {
@@ -214,7 +210,24 @@ where
     Ok(Performed {
         before: bytes,
         reply,
+        printed: saver.printed(),
     })
+}
+
+// The failure of a request to change a state.
+fn of_change(
+    alloc: Global,
+    fault: Fault,
+    request: &Request,
+    state: Given<'_>,
+    read: Given<'_>,
+) -> Failure {
+    match request {
+        Request::Extend { codes, .. } | Request::Survey { codes, .. } => {
+            of_games(alloc, fault, codes, state)
+        }
+        _ => of_request(alloc, fault, request, state, read),
+    }
 }
 
 // Warns where a delta brought an operation by the state's own number that the state never held.

@@ -1,7 +1,7 @@
 //! Who is told how far a command is.
 
 use crate::texts::{EMPTY_STATE, bytes};
-use census_core::{Form, Progress, Request, perform_watched, search};
+use census_core::{Form, NoKeeper, Progress, Request, perform_kept, search};
 use oct_code::Code;
 use std::alloc::{AllocError, Global};
 use std::process::Abort;
@@ -80,7 +80,14 @@ fn each_block_is_told_before(rt: HostRuntime) {
         expected: TOLD,
         is_right: true,
     };
-    let reply = perform_watched(rt.alloc(), &request, &state, b"", &mut listener);
+    let reply = perform_kept(
+        rt.alloc(),
+        &request,
+        &state,
+        b"",
+        &mut listener,
+        &mut NoKeeper,
+    );
     assert!(&rt; reply.is_ok(), "refused");
     assert!(&rt; listener.is_right, "something else is told");
     assert!(&rt; listener.expected.is_empty(), "less is told");

@@ -57,13 +57,31 @@ where
     E: Write,
 {
     let bytes = read_state(rt, state)?;
+    let Err(failure) = filled(rt, &bytes, path, advice) else {
+        return Ok(());
+    };
+    match failure.fault {
+        Fault::Load(cause) => Err(of_state(rt.alloc(), cause, Given::new(state, &bytes))),
+        _ => Err(failure),
+    }
+}
+
+// Makes the site of these bytes of a state in the folder.
+fn filled<'a, R, E>(
+    rt: &'a R,
+    bytes: &[u8],
+    path: &'a str,
+    advice: &'a mut Advice<'_, E>,
+) -> Result<(), Failure>
+where
+    R: Files<File = File> + AllocGlobal + Clock + Clone + Drop,
+    E: Write,
+{
     let mut shelf = FolderShelf {
         folder: SiteFolder::open(rt, path, advice)?,
     };
-    match write_site(rt.alloc(), &bytes, &mut shelf) {
-        Err(Fault::Load(cause)) => Err(of_state(rt.alloc(), cause, Given::new(state, &bytes))),
-        put => shelf.folder.close(put),
-    }
+    let put = write_site(rt.alloc(), bytes, &mut shelf);
+    shelf.folder.close(put)
 }
 
 // A folder, as the shelf that takes the files of a site.
