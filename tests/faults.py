@@ -45,6 +45,9 @@ CASES = [
     ("merge a.state cut.delta", "Merge Refused", 1, ["cut.delta is cut off", "byte 8"]),
     ("digest bad.delta", "Merge Refused", 1, ["bad.delta is damaged", "the operation that begins at byte 47"]),
     ("union new.delta a.delta a.state", "Union 2 Version", 1, ["a.state is a state, and no delta"]),
+    ("log a.state bad.delta", "Merge Refused", 1, ["bad.delta is damaged", "the operation that begins at byte 47"]),
+    ("diff a.state cut.state", "Load Refused", 1, ["cut.state is cut off", "the operation that begins at byte 16"]),
+    ("diff b.txt cut.state", "Merge Version", 1, ["b.txt is no"]),
     # Saved searches.
     ("show a.search", "Load Version", 1, ["a.search is a saved search, and no state"]),
     ("merge a.state a.search", "Merge Version", 1, ["a.search is a saved search, and no delta"]),

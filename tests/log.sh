@@ -16,10 +16,10 @@ census delta ben ben.delta >/dev/null
 cat >both <<'END'
 1.1 (Anna Berg) note author-name Anna Berg
 1.2 (Anna Berg) note kayles from 1 on
-1.3 (Anna Berg) block 0.77 at 0 count 5
+1.3 (Anna Berg) block 0.77 at 1 count 5
 1.4 (Anna Berg) period 0.77 71 12
 1.5 (Anna Berg) takes back 1.2
-2.1 block 0.07 at 0 count 3
+2.1 block 0.07 at 1 count 3
 2.2 note empty 
 END
 census log anna ben.delta | cmp - both
@@ -49,8 +49,8 @@ status=0
 census diff ben - <cleo >said || status=$?
 [ "$status" = 1 ]
 cmp said - <<'END'
-- 2.4 block 0.3 at 0 count 2
-- 2.3 block 0.07 at 3 count 2
+- 2.4 block 0.3 at 1 count 2
+- 2.3 block 0.07 at 4 count 2
 + 3.1 note kayles of cleo
 END
 census diff - ben.delta <ben.delta | cmp - /dev/null

@@ -13,4 +13,10 @@ for shell in bash zsh fish; do
   done
 done
 bash -n <(census completion bash)
+
+# No line of the page is a request that roff does not know, or loses words: those who show it find nothing to warn of.
+if command -v groff >/dev/null; then
+  groff -man -Tutf8 -ww "$top/docs/census.1" 2>said >/dev/null
+  [ ! -s said ]
+fi
 echo "manual: docs/census.1 is the page that the program prints, which is version $version, and shells complete its commands"

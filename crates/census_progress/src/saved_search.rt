@@ -193,8 +193,21 @@ impl<R: Files<File = File> + AllocGlobal + Clock, P: Progress> Saver<'_, R, P> {
         }
         self.file.replace(self.rt, &text)?;
         self.seen = self.file.seen(self.rt)?;
+        self.check_own(&text)?;
         self.pause.begin(self.rt);
         Ok(())
+    }
+
+    // Refuses another file that was put there since this text was: what was seen after that may have been the other one.
+    fn check_own(&self, text: &[u8]) -> Result<(), Failure> {
+        let Ok(there) = read_file(self.rt, self.file.path()) else {
+            return Ok(());
+        };
+        if there.as_slice() == text {
+            Ok(())
+        } else {
+            Err(foreign(self.rt.alloc(), self.file.path()))
+        }
     }
 }
 

@@ -131,7 +131,7 @@ fn task_of<'a, R: AllocGlobal + RandomSource>(
         "fold" => Ok(Task::Fold),
         "read" => commands::read::task(alloc, found),
         "log" => commands::log::task(alloc, found),
-        "diff" => commands::diff::task(found),
+        "diff" => commands::diff::task(alloc, found),
         "left" => commands::left::task(alloc, found),
         "search" => commands::search::task(alloc, found),
         "check" => commands::check::task(found),

@@ -117,7 +117,11 @@ const ZSH_MIDDLE: &str = r#"  )
 const ZSH_BACK: &str = r#"  esac
   _arguments $options '--explain[Says more on standard error]' '--help[Prints help]' '*:file:_files'
 }
-_census "$@"
+if [[ ${funcstack[1]} = _census ]]; then
+  _census "$@"
+else
+  compdef _census census
+fi
 "#;
 
 fn append_zsh(text: &mut String, parts: &[Part]) -> Result<(), AllocError> {

@@ -34,7 +34,7 @@ of at most 4294967296) and
 .I HEAP
 is one of at most 18446744073709551615, each of one or more digits.
 Where a file is read or written beside a state, the word \- is standard input or output;
-./\- is a file of that name. Standard input is read first.
+\&./\- is a file of that name. Standard input is read first.
 The values of a block lie within the heaps 0 to 65535. The last page of a catalogue has the lines that are left.
 .B find
 says how many values of a game are known, too, and
@@ -50,16 +50,18 @@ The state file. Where it is a link, the file it points to is replaced, and the l
 a hard link is replaced under the one that is given. It is a plain file that its owner may write.
 .TP
 .IB STATE .lock
-An empty file beside it. A command that changes the state holds the system's lock on it from before
+A small file beside it. A command that changes the state holds the system's lock on it from before
 it reads the state until
-it has replaced it, and removes the file then; another one waits. Nothing is locked while a command
+it has replaced it, and removes the file then; another one waits. A file that is somebody's stays,
+and keeps the state from being changed. Nothing is locked while a command
 waits for a peer, for its input or for a reader of
 its output.
 .TP
 .IB STATE .new
 The new state, which is written and flushed to the disk, and then renamed; it has the permissions of
 the old one. A stop at
-any moment leaves the old state or the new one, whole.
+any moment leaves the old state or the new one, whole. A file that is somebody's stays, and keeps the
+state from being changed.
 .TP
 .I OUT
 The file of

@@ -37,10 +37,11 @@ Examples:
 };
 
 /// What its words ask for.
-pub(crate) fn task<'a>(found: &ArgMatches<'a>) -> Result<Task<'a>, Failure> {
+pub(crate) fn task<'a>(alloc: Global, found: &ArgMatches<'a>) -> Result<Task<'a>, Failure> {
     let (one, other) = (word(found, words::ONE)?, word(found, words::OTHER)?);
     if is_standard(one) && is_standard(other) {
-        return Err(Failure::from(Fault::Words));
+        let text = String::from_str(alloc, "only one of the two files can be -");
+        return Err(Failure::from(Fault::Words).found(text));
     }
     Ok(Task::Diff { one, other })
 }
