@@ -59,9 +59,42 @@ leaves '' 1 --codes list
 printf '# nothing\n' > list
 leaves '' 1 --codes list
 
+# Other commands take lists and parts too: the words come first, and then the list, and a part is of both.
+printf '0.77 # Kayles\n0.6\n' > few
+census find one.state 0.07 --codes few | diff <(census find one.state 0.07 0.77 0.6) -
+census find one.state 0.07 --part 2/2 --codes - < few | diff <(census find one.state 0.77) -
+census games one.state --codes few 0.07 | diff <(census games one.state 0.07 0.77 0.6) -
+census games one.state --codes few --part 3/3 | diff /dev/null -
+census games one.state --part 2/2 0.77 | diff /dev/null -
+census search 300 --codes few --part 2/2 | diff <(census search 300 0.6) -
+census show one.state --only 0.07 --codes few | diff <(census show one.state --only 0.07 --only 0.77 --only 0.6) -
+census json one.state --codes few | diff <(census json one.state --only 0.77 --only 0.6) -
+census survey one.state 400 --codes few --part 1/2 | diff <(census survey one.state 400 0.77) -
+census extend one.state 400 --codes list | diff /dev/null -
+for command in 'survey one.state 1' 'find one.state' 'search 1'; do
+  if census $command 2> told; then exit 1; fi
+  grep -qx '  <CODE>...' told
+done
+refused 2 Words games one.state --part 1/2
+refused 2 Words search 1 --bfile 0.77 --codes few
+refused 2 Words search 1 --window --save file 0.77 --part 1/1
+refused 3 File survey one.state 1 --codes none
+refused 2 Number survey one.state 1 --codes few --part 3/2
+
+# The operations of some games are those whose game is one of them.
+census note one.state kayles 'of no game' > told
+census delta one.state few.delta --codes few --only 0.07 > told
+diff <(census log one.state | grep -E ' (block|period) 0\.(07|77|6) ') <(census log few.delta)
+census delta one.state part.delta --codes few --part 2/2 > told
+diff <(census log one.state --game 0.6) <(census log part.delta)
+census delta one.state none.delta --codes list | diff <(echo 'operations 0') -
+test ! -s <(census log none.delta)
+
 # A word that is no code is named by its line.
 printf '0.77\n\n0.6 0.8 # 0.9\n0.x\n' > list
 refused 1 'Code Digit' left 1 --codes list
+refused 1 'Code Digit' survey nobody 1 --codes list
+refused 1 'Code Digit' delta nobody nothing.delta --codes list
 census left 1 --codes list --explain 2> told && exit 1
 grep -q 'list, line 3: .*0\.8' told
 for part in 0/3 4/3 1/65537 1 x/3 1/ /3 1/3/3; do

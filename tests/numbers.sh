@@ -24,6 +24,14 @@ grep -qx 'author [1-9][0-9]*' second
 if cmp -s first second; then exit 1; fi
 anna=$(sed 's/author //' first)
 
+# The number of a text is the first eight digits of its SHA-256, so that one text has one number.
+for text in '4096 3/64' '' 'é, 0 and more'; do
+  rm -f text
+  census init text --for "$text" | diff <(echo "author $((16#$(printf %s "$text" | sha256sum | cut -c 1-8)))") -
+done
+if census init none --for one --draw 2>fault; then exit 1; fi
+if census init none 1 --for one 2>fault; then exit 1; fi
+
 # A number, or one that is drawn, and not both; nor neither.
 if census init none 1 --draw 2>fault; then exit 1; fi
 if census init none 2>fault; then exit 1; fi

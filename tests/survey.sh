@@ -40,10 +40,25 @@ prints '0.77 period 12 from 71 needs 168 known 17000' survey state 17000 0.77
 prints '{"code":"0.77","period":12,"from":71,"needs":168,"known":17000}' survey state 17000 0.77 --json
 cmp state before
 
+# What the state's author said already is left out, and what others said is not.
+prints 'left out 2
+0.077 known 1100 issued 2' extend state 1100 0.77 0.077 0.6 --skip-done
+prints 'left out 0' survey state 1100 --codes - --skip-done </dev/null
+prints '{"left_out":1}' survey state 1100 0.6 --json --skip-done
+cp state before
+prints 'left out 3' survey state 1100 0.6 0.6 0.077 --skip-done
+cmp state before
+census delta state all.delta >told
+census init other 8 >told
+census merge other all.delta >told
+prints 'left out 0
+0.6 known 1100 issued 0' extend other 1100 0.6 --skip-done
+
 # A fault changes nothing.
 changes_nothing 1 'Code Digit' extend state 1200 0.6 0.8
 changes_nothing 1 'Code Head' survey state 1200 0.6 5.7 0.8
 changes_nothing 1 'Code Digit' find state 0.6 0.8
+changes_nothing 1 'Code Digit' survey state 1200 0.6 0.8 --skip-done
 for count in 0 65537 x; do
   changes_nothing 2 Number extend state "$count" 0.6
   changes_nothing 2 Number survey state "$count" 0.6

@@ -11,12 +11,16 @@ A wrong body is an edit, in the form that `rt` without a word explains: lines `f
 must-fail/ one by one. Here the edits of a crate are tried in groups, no two of them in one function. For the prover names each
 function that it refuses, and the place in its proof that no longer fits. A caller is proved by the contract of what it calls, and
 not by its body. So one wrong body hides no other, and none is refused for another's sake. What changes more than bodies, as a
-definition, a constant or a clause, is tried alone, and so is what is not refused in its group.
+definition, a constant or a clause, is tried alone, and so is what is not refused in its group. Such an edit has a line
+`in: PATH` with the function that has to be refused, as `in: reading::read_list`: with it that function alone is proved, and the
+whole crate only where that is not refused.
 
-Each check goes on from the work of one check of the crate as it stands, over the libraries that `rt ci` or `rt lib` left in out/.
-What a library lacks is built first. Some checks run side by side: as many as there are processors, or RT_JOBS, where each finds
-MEMORY bytes free. An edit is refused by a clause where an error stands in the proof of its function, or a goal of it is left open.
-It doesn't count where all errors are of names: a proof that names what the edit took away, or a text that doesn't compile.
+The crate as it stands is proved already: `rt ci` or `rt lib` left its library in out/, or it is built first, and so is what it
+stands on. A check proves the functions of its edits, and what they call. The first one of a crate begins with what `rt check` kept,
+or with nothing, and the others go on from its work. Some checks run side by side: as many as there are processors, or RT_JOBS,
+where each finds MEMORY bytes free. An edit is refused by a clause where an error stands in the proof of its function, or a goal of
+it is left open. It doesn't count where all errors are of names: a proof that names what the edit took away, or a text that doesn't
+compile.
 
 What was refused is kept by the checksum of all that was read, in ${XDG_CACHE_HOME:-~/.cache}/census/wrong-bodies, so that a later
 run tries only what changed. The exit status is 0 only where each edit is refused by a clause.
@@ -56,6 +60,7 @@ OF_A_NAME = re.compile(r"(note: )?(\./)?proofs/.*(has no field|is not in scope|h
 AT_A_PLACE = re.compile(r"(note: )?\S+:\d+:\d+:")
 PROOF_ERROR = re.compile(r"(?:\./)?proofs/(\S+)/[^/\s]+\.antt:\d+:\d+: error")
 FUNCTION = re.compile(r"fn (\S+): (.*)")
+NO_FUNCTION = re.compile(r"has no function `(\S+)`")
 
 
 def load_kit():
@@ -150,6 +155,13 @@ def functions_of(file, module):
     return found
 
 
+def path_of(place):
+    """Returns the path that a check is given for the function at a place, and that of its module, if it is not the crate's root."""
+    names = [it[0] if isinstance(it, tuple) else it for it in place]
+    owner = next((at for at, it in enumerate(place) if isinstance(it, tuple)), len(place) - 1)
+    return "::".join(names), "::".join(names[:owner])
+
+
 def is_named(place, names):
     """Returns whether the names, those of a path of modules, lead to the function at this place, or to a closure in it."""
     names = [it.partition("+")[0] for it in names if it != "fn"]
@@ -173,12 +185,15 @@ def changes_of(was, now):
 
 
 class Edit:
-    """A wrong body: the lines that it changes, by file, and the functions in whose bodies they stand, or None."""
+    """A wrong body: the lines that it changes, by file, the functions in whose bodies they stand, or None, and the functions that the
+    edit itself names as those that are refused."""
 
     def __init__(self, crate, path, functions):
         self.name = f"{crate.name}/{os.path.splitext(os.path.basename(path))[0]}"
         with open(path, "rb") as it:
-            self.sum = hashlib.sha256(it.read()).hexdigest()
+            data = it.read()
+        self.sum = hashlib.sha256(data).hexdigest()
+        self.named = re.findall(r"(?m)^in: (\S+)$", data.decode(errors="replace"))
         texts, self.fault = rt.read_edit(path, crate.folder)
         self.texts, self.changes, found = texts or {}, {}, []
         for file, text in self.texts.items():
@@ -199,7 +214,7 @@ class Crate:
         files = sorted(it for it in os.listdir(at) if it.endswith(".edit")) if os.path.isdir(at) else []
         self.edits = [Edit(known, f"{at}/{it}", self.functions) for it in files]
         self.found = {it: (BAD, it.fault) for it in self.edits if it.fault}
-        self.left, self.names, self.seed, self.copy = [], [], None, None
+        self.left, self.later, self.seed, self.copy = [], [], None, None
         self.groups, self.checks, self.seconds, self.memory = 0, 0, 0.0, 0.0
 
     def functions(self, file):
@@ -211,10 +226,6 @@ class Crate:
             module = path[:-1] if path[-1] in ("lib", "main", "mod") else path
             self.sources[file] = functions_of(f"{self.known.folder}/{file}", module)
         return self.sources[file]
-
-    def names_at(self, place):
-        """Returns how the prover names the function at a place, below the crate, without the closures in it."""
-        return ["::".join(it) for it in self.names if len(it) == len(place) and is_named(place, it)]
 
     def stamp(self):
         """Returns a sum of all that a check of the crate reads, and of what judges it here."""
@@ -265,13 +276,14 @@ def is_left_by_ci(known):
 
 
 def build_libraries(crates):
-    """Builds the libraries below these crates, where rt ci has not just left them, and returns why that failed, if it did."""
-    below = []
+    """Builds the libraries of these crates and those below, where rt ci has not just left them, and returns why that failed, if it did.
+    A crate whose library is there is proved as it stands."""
+    wanted = []
     for crate in crates:
-        below += [it for it in crate.known.below() if it not in below]
-    if all(is_left_by_ci(it) for it in below):
+        wanted += [it for it in [*crate.known.below(), crate.known] if it not in wanted]
+    if all(is_left_by_ci(it) for it in wanted):
         return None
-    for known in below:
+    for known in wanted:
         if not known.is_built():
             ran = subprocess.run([f"{rt.KIT}/bin/rt", "lib", "--jobs", "1"], cwd=known.folder, stdout=subprocess.PIPE, stderr=subprocess.STDOUT, text=True, errors="replace")
             if ran.returncode:
@@ -280,11 +292,36 @@ def build_libraries(crates):
 
 
 class Check:
-    """One check of a crate with some edits, over a copy of what its own check left, and what it came to."""
+    """One check of a crate with some edits, and what it came to. Where it is the crate's first it leaves its work for the others, which
+    go on from a copy."""
 
     def __init__(self, crate, edits):
-        self.crate, self.edits, self.is_again = crate, edits, False
+        self.crate, self.edits, self.is_first, self.is_again, self.unknown = crate, edits, False, False, set()
+        self.is_whole = False
         self.status, self.lines, self.seconds, self.memory = None, [], 0.0, 0.0
+
+    def paths(self):
+        """Returns what is to be proved: the functions that are changed, or the module of one that the prover calls otherwise than the
+        source does; those that an edit names; or, where there are none, the whole crate."""
+        if self.is_whole:
+            return []
+        # (what calls a refused function would be tried again, to no end)
+        changed = [path_of(place) for it in self.edits for place in it.places or []]
+        found = {module if path in self.unknown else path for path, module in changed}
+        found.update(path for it in self.edits if not it.places for path in it.named)
+        return [] if "" in found else sorted(found)
+
+    def unknown_path(self):
+        """Returns the path of a changed function that the prover said not to know, if it did."""
+        said = next((match[1] for it in self.lines for match in [NO_FUNCTION.search(it)] if match), None)
+        known = {path_of(place)[0] for it in self.edits for place in it.places or []}
+        return said if said in known - self.unknown else None
+
+    def has_verdict(self):
+        """Returns whether each edit was read, so that the prover says of each function whether it is proved."""
+        if any(rt.unread(it, {file for edit in self.edits for file in edit.changes}) for it in self.lines):
+            return False
+        return self.status in (0, 1) and self.lines[-1].startswith(("only=", "logic="))
 
     def texts(self):
         """Returns the files with all edits in them."""
@@ -302,7 +339,7 @@ class Check:
     def run(self):
         with tempfile.TemporaryDirectory(prefix="wrong-body-", dir=os.path.dirname(self.crate.copy)) as room:
             work = self.crate.seed
-            if self.edits:
+            if not self.is_first:
                 work = f"{room}/work"
                 rt.linked(self.crate.seed, work)
             for part in rt.rtlib.PARTS:
@@ -312,17 +349,14 @@ class Check:
                 with open(f"{room}/{file}", "w", encoding="utf-8") as it:
                     it.write(text)
             words = [rt.rtlib.RATTLE, "check", *self.crate.known.words(["--jobs", "1"], keeps=False), "--incremental", work]
-            if len(self.edits) > 1:
-                # what calls a refused function would be tried again, to no end
-                for name in sorted(name for it in self.edits for place in it.places for name in self.crate.names_at(place)):
-                    words += ["--only", name]
+            words += [word for path in self.paths() for word in ("--only", path)]
             with open(f"{room}/said", "w+", encoding="utf-8", errors="replace") as said:
                 ran = subprocess.Popen([*rt.rtlib.guarded(), *words], cwd=room, stdin=subprocess.DEVNULL, stdout=said, stderr=subprocess.STDOUT)
                 _, status, used = os.wait4(ran.pid, 0)
                 ran.returncode = self.status = os.waitstatus_to_exitcode(status)
                 said.seek(0)
                 self.lines = said.read().rstrip("\n").split("\n")
-        self.seconds, self.memory = used.ru_utime + used.ru_stime, used.ru_maxrss / 1e6
+        self.seconds, self.memory = self.seconds + used.ru_utime + used.ru_stime, max(self.memory, used.ru_maxrss / 1e6)
         return self
 
 
@@ -361,7 +395,7 @@ def judged_alone(check):
     unread = next((it for it in lines if rt.unread(it, check.edits[0].texts)), None)
     if check.status == 1 and unread:
         return BAD, unread
-    if check.status == 1 and lines[-1].startswith("logic=not-proved"):
+    if check.status == 1 and lines[-1].startswith(("logic=not-proved", "only=")):
         told = [it for it in messages_of(lines) if AT_A_PLACE.match(it)]
         told = [it for it in told if ": error" in it or it.startswith("note: ")] or told
         by_clause = [it for it in told if not OF_A_NAME.match(it)]
@@ -369,7 +403,7 @@ def judged_alone(check):
             return BY_NAME, told[0]
         return REFUSED, (by_clause or lines)[0]
     if check.status == 0:
-        return MISSED, "the crate is still proved with this edit"
+        return MISSED, "it is still proved with this edit"
     limit = next((it for it in lines if rt.LIMITS.search(it)), None)
     if check.status == 3 and limit:
         return BY_LIMIT, limit
@@ -409,27 +443,25 @@ class Trials:
             for part in rt.rtlib.PARTS:
                 if os.path.isdir(f"{crate.known.folder}/{part}"):
                     shutil.copytree(f"{crate.known.folder}/{part}", f"{crate.copy}/{part}")
-            self.begin_seed(crate, rt.work_for(crate.known))
+            begin_seed(crate)
+            groups = parted([it for it in crate.left if it.places])
+            groups += [[it] for it in crate.left if not it.places]
+            crate.groups = len(groups)
+            crate.later = [Check(crate, it) for it in groups]
+            self.begin_first(crate)
 
-    def begin_seed(self, crate, work):
-        """Has the crate checked as it stands, beginning with earlier work where there is some."""
-        shutil.rmtree(crate.seed, ignore_errors=True)
-        crate.begins_with = None
-        if work:
-            try:
-                rt.linked(work, crate.seed)
-                crate.begins_with = work
-            except (OSError, shutil.Error):
-                shutil.rmtree(crate.seed, ignore_errors=True)
-        os.makedirs(crate.seed, exist_ok=True)
-        self.waiting.append(Check(crate, []))
+    def begin_first(self, crate):
+        """Has one check of a crate go before the others, which begin with its work."""
+        first = crate.later.pop(0)
+        first.is_first = True
+        self.waiting.append(first)
 
     def run(self, lanes):
         running = set()
         with concurrent.futures.ThreadPoolExecutor(lanes) as pool:
             while self.waiting or running:
-                # the crates' own checks come first, those of the largest crates before all
-                self.waiting.sort(key=lambda it: (bool(it.edits), -it.crate.known.count(rb"\n")))
+                # the first check of each crate comes first, those of the largest crates before all
+                self.waiting.sort(key=lambda it: (not it.is_first, -it.crate.known.count(rb"\n")))
                 while self.waiting and len(running) < lanes and (not running or rt.free() > MEMORY):
                     running.add(pool.submit(self.waiting.pop(0).run))
                 ended, running = concurrent.futures.wait(running, return_when=concurrent.futures.FIRST_COMPLETED)
@@ -439,49 +471,55 @@ class Trials:
     def take(self, check):
         """Takes what a check came to, and sets on those that follow from it."""
         crate = check.crate
-        crate.checks, crate.seconds, crate.memory = crate.checks + 1, crate.seconds + check.seconds, max(crate.memory, check.memory)
-        if check.status == -signal.SIGKILL and not check.is_again:
-            # most likely for memory
-            check.is_again = True
-            self.waiting.append(check)
-        elif not check.edits:
-            self.take_seed(check)
-        elif len(check.edits) == 1:
-            self.settle(crate, check.edits[0], *judged_alone(check))
-        elif has_verdict(check):
-            for edit, told in judged_together(check).items():
-                if told:
-                    self.settle(crate, edit, REFUSED, told)
-                else:
-                    self.waiting.append(Check(crate, [edit]))
-        else:
-            # one of them doesn't compile, say
-            half = len(check.edits) // 2
-            self.waiting += [Check(crate, check.edits[:half]), Check(crate, check.edits[half:])]
-        if check.edits:
+        following = self.following(check)
+        if check not in following:
+            crate.checks, crate.seconds, crate.memory = crate.checks + 1, crate.seconds + check.seconds, max(crate.memory, check.memory)
             crate.keep()
+        if check in following or not check.is_first:
+            self.waiting += following
+        else:
+            crate.later += following
+            if check.status in (0, 1):
+                self.waiting += crate.later
+                crate.later = []
+            elif crate.later:
+                self.begin_first(crate)
         if not crate.left:
             shutil.rmtree(crate.seed, ignore_errors=True)
             tried = len(crate.edits) - crate.old
             took = f"{clock(crate.seconds)} of processor time, {crate.memory:.1f} GB at most"
             print(f"{crate.name}: {tried} tried in {crate.groups} groups, {crate.checks} checks, {took}", flush=True)
 
-    def take_seed(self, check):
-        """Parts the edits of a crate that is proved as it stands."""
-        crate = check.crate
-        if check.status and crate.begins_with:
-            self.begin_seed(crate, None)
-        elif check.status:
-            said = next((it for it in check.lines if ": error" in it or "error[" in it), check.lines[-1])
-            for edit in [*crate.left]:
-                self.settle(crate, edit, UNSURE, f"the crate as it stands is not proved: {said}")
-        else:
-            crate.names = [match[1].split("::")[1:] for line in check.lines for match in [FUNCTION.match(line)] if match]
-            is_known = lambda edit: edit.places and all(crate.names_at(place) for place in edit.places)
-            groups = parted([it for it in crate.left if is_known(it)])
-            groups += [[it] for it in crate.left if not is_known(it)]
-            crate.groups = len(groups)
-            self.waiting += [Check(crate, it) for it in groups]
+    def following(self, check):
+        """Settles what a check tells of its edits, and returns the checks that are still wanted for them."""
+        unknown = check.unknown_path()
+        if unknown:
+            check.unknown.add(unknown)
+            return [check]
+        if check.status == -signal.SIGKILL and not check.is_again:
+            # most likely for memory
+            check.is_again = True
+            return [check]
+        if len(check.edits) == 1:
+            kind, told = judged_alone(check)
+            if kind in (MISSED, BY_NAME) and check.paths():
+                # (it may be refused elsewhere in the crate)
+                whole = Check(check.crate, check.edits)
+                whole.is_whole = True
+                return [whole]
+            self.settle(check.crate, check.edits[0], kind, told)
+            return []
+        if not check.has_verdict():
+            # one of them doesn't compile, say
+            half = len(check.edits) // 2
+            return [Check(check.crate, check.edits[:half]), Check(check.crate, check.edits[half:])]
+        wanted = []
+        for edit, told in judged_together(check).items():
+            if told:
+                self.settle(check.crate, edit, REFUSED, told)
+            else:
+                wanted.append(Check(check.crate, [edit]))
+        return wanted
 
     def settle(self, crate, edit, kind, told):
         crate.found[edit] = kind, told
@@ -490,11 +528,16 @@ class Trials:
             print(f"{edit.name}: {kind}: {' '.join(told.split())[:400]}", flush=True)
 
 
-def has_verdict(check):
-    """Returns whether each edit of a group was read, so that the prover says of each function whether it is proved."""
-    if any(rt.unread(it, {file for edit in check.edits for file in edit.changes}) for it in check.lines):
-        return False
-    return check.status in (0, 1) and check.lines[-1].startswith("only=")
+def begin_seed(crate):
+    """Makes the folder in which the crate's first check leaves its work, with what `rt check` kept, where it did."""
+    work = rt.work_for(crate.known)
+    if work:
+        try:
+            return rt.linked(work, crate.seed)
+        except (OSError, shutil.Error):
+            # (another command may write what this one copies)
+            shutil.rmtree(crate.seed, ignore_errors=True)
+    os.makedirs(crate.seed)
 
 
 def clock(seconds):

@@ -1,5 +1,5 @@
 -- Codes that are read one after another, and items that are taken.
-use Rattle.std.proofs.Common.{arith, length-drop, length-take, take, ◌≡◌, ℕ, zero, suc, ◌+◌, ◌-◌, ◌<◌, ◌≤◌, refl, add-one, get_or, Some, None, Result, Ok, Err, List, [], ◌∷◌, ◌++◌, drop, length, sym, ap, ◌∙◌, append_assoc}
+use Rattle.std.proofs.Common.{arith, ◌≡◌, ℕ, zero, suc, ◌+◌, ◌-◌, ◌<◌, ◌≤◌, refl, add-one, get_or, Some, None, Result, Ok, Err, List, [], ◌∷◌, ◌++◌, drop, length, sym, ap, ◌∙◌, append_assoc}
 use Rattle.std.proofs.Math.Seq.{drop-cons}
 use Rattle.std.specs.List.{before_first}
 use Rattle.oct_code.specs.Code.{Code}
@@ -9,7 +9,6 @@ use Rattle.oct_code.proofs.CodeLaws.{read-is}
 use Rattle.oct_code.specs.declared.error.CodeError.{CodeError}
 use Rattle.oct_text.specs.Words.{Text}
 use Rattle.oct_bfile.specs.Bfile.{lines, words}
-use Rattle.oct_bfile.proofs.Places.{rest_from, rest_from-drop}
 use Rattle.census_codes.specs.Codes.{begins_comment, code_of, lines_onto, then, unless, words_onto}
 use Rattle.census_codes.specs.Parts.{each_nth}
 use Rattle.census_codes.specs.declared.error.CodesError.{CodesError}
@@ -48,13 +47,6 @@ line_refused place list text line said rest e total splits cut refused all =
 -- the first of those that are left
 pub next_item : {V : Type 0} (items : List V) (i : ℕ) (item : V) → i < length items → item ≡ get_or items i item → drop i items ≡ item ∷ drop (i + 1) items
 next_item items i item within is = rw add-one (drop-cons items i item within ∙ ap (λ f. f ∷ drop (suc i) items) (sym is))
-
--- what stands behind a word that has a byte is shorter than the line
-pub shorter_behind : (line : Text) (k n : ℕ) → 0 < length (take n (rest_from k line)) → length (rest_from n (rest_from k line)) < length line
-shorter_behind line k n filled =
-    let rest = rest_from-drop k line in
-    let behind = rest_from-drop n (rest_from k line) in
-    omega (arith, ap length rest, ap length behind, length-drop k line, length-drop n (rest_from k line), length-take n (rest_from k line), filled)
 
 -- ---- every n-th item
 

@@ -9,10 +9,10 @@
 //! - `part_of` takes every so-manieth of a list.
 #![tactic(auto)]
 
+mod comment;
 mod error;
 mod part;
 mod reading;
-mod splitting;
 mod writing;
 
 pub use error::CodesError;

@@ -4,8 +4,9 @@ ghost use Rattle.std.specs.Prelude.{◌≡◌, ◌≢◌, Ok, Err, IfErr, IfOk, 
 ghost use Rattle.oct_bfile.specs.Bfile.{words};
 ghost use Rattle.census_codes.specs.Codes.{code_of, codes_of, words_onto};
 
+use crate::comment::uncommented;
 use crate::error::CodesError;
-use crate::splitting::{next_line, next_word, uncommented};
+use oct_bfile::{next_line, next_word};
 use oct_code::Code;
 use std::alloc::Allocator;
 

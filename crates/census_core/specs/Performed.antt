@@ -17,7 +17,7 @@ use Rattle.census_state.specs.Replies.{Answer}
 use Rattle.census_state.specs.declared.fault.Fault.{Fault}
 use Rattle.census_state.specs.declared.fault.Fault.TheVariants.{Zero}
 use Rattle.census_state.specs.declared.request.Request.{Request}
-use Rattle.census_state.specs.declared.request.Request.TheVariants.{Init, Renumber, Import, Claim, Compute, Extend, Find, Survey, Period, Note, Unnote, Merge, Delta, Value, Move, Page, Show, Bfile, Plot, Json, Report, Games, Only}
+use Rattle.census_state.specs.declared.request.Request.TheVariants.{Init, Renumber, Import, Claim, Compute, Extend, Find, Survey, Period, Note, Unnote, Merge, Delta, DeltaOf, Value, Move, Page, Show, Bfile, Plot, Json, Report, Games, Only}
 
 -- the new state, the file and the text, or the first fault: a number out of its range, then that of the state, then those of the command in its order, then
 -- that no number is left, then that there are too many operations
@@ -35,6 +35,7 @@ performed (Note name text) state file = issuing.note state name.items text.items
 performed (Unnote name) state file = issuing.unnote state name.items
 performed Merge state file = states.merge state file
 performed Delta state file = deltas.delta state
+performed (DeltaOf codes) state file = deltas.delta_of_games state (map (λ word. word.items) codes.items)
 performed (Value code heaps form) state file = asking.value form state code.items heaps.items
 performed (Move code heaps form) state file = moving.winning form state code.items heaps.items
 performed (Page number) state file = asking.page state number

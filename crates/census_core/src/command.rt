@@ -6,7 +6,7 @@ ghost use Rattle.census_issue.specs.Turns.{Kept, KeptSome};
 ghost use Rattle.census_state.specs.Replies.{answer_of};
 
 use crate::progress::Nobody;
-use census_fold::delta;
+use census_fold::{delta, delta_of_games};
 use census_issue::{
     Aim, NoKeeper, TurnKeeper, claim, compute, find, give_turns, import, note, unnote,
 };
@@ -63,6 +63,7 @@ pub fn perform_kept<P: Progress, K: TurnKeeper<P>>(
         Request::Unnote { name } => unnote(alloc, state, name),
         Request::Merge => merge(alloc, state, file),
         Request::Delta => delta(alloc, state),
+        Request::DeltaOf { codes } => delta_of_games(alloc, state, codes),
         Request::Value { code, heaps, form } => {
             answer(alloc, state, code, Question::Value(heaps, *form))
         }

@@ -10,9 +10,10 @@
 //! - `check` compares a b-file with computed values.
 //! - `unite` makes one delta of several files, `read_together` the catalogue of what several files hold, and `log_together` their
 //!   log: a line for each operation that is `Wanted`. `diff` says how two differ.
-//!   `left_in` gives the games of a list of which several files lack one of the first values.
-//! - `digest` names the set of operations of a file by 64 digits.
-//! - `write_site` puts the files of a site on a `Shelf`, one game in memory at a time.
+//!   `left_in` gives the games of a list of which several files lack one of the first values, and `own_left` those of which the
+//!   author of a state said not all of them.
+//! - `digest` names the set of operations of a file by 64 digits, and `author_for` gives the number of the author that a text has.
+//! - `write_site` puts the files of a site into a `Folder`, one game in memory at a time.
 //! - `rejoin` gives what a state file is to hold after a session, `rejoin_grown` does so where the file need not be read, and
 //!   `unchanged` what is said after a session that brought nothing.
 //! - `judge` says what became of the blocks and claims that are new to a state, and `tally` how many are proved, refuted and
@@ -27,11 +28,11 @@ pub mod laws;
 mod progress;
 
 pub use census_fold::{
-    Intake, diff, digest, fold_intake, fold_lines, left_in, log_together, read_together,
-    record_digest, unite,
+    Intake, author_for, diff, digest, fold_intake, fold_lines, left_in, log_together, own_left,
+    read_together, record_digest, unite,
 };
 pub use census_issue::{NoKeeper, TurnKeeper, check_count, import_block};
-pub use census_judge::{Checked, Judged, Verdict, check, judge, tally};
+pub use census_judge::{Checked, JudgedClaim, Verdict, check, judge, tally};
 pub use census_search::{
     SEARCH_LIMIT, WINDOW_LIMIT, first_values, read_search, resume_in_windows, search,
     search_in_windows, write_values,
@@ -40,7 +41,7 @@ pub use census_state::{
     Fault, INPUT_LIMIT, ImportError, Rejoined, Reply, Request, SavedError, View, number,
     read_whole, rejoin, rejoin_grown, unchanged,
 };
-pub use census_tell::{Shelf, write_site};
+pub use census_tell::{Folder, write_site};
 pub use command::{perform, perform_kept};
 pub use oct_log::Wanted;
 pub use oct_saved::write_place;

@@ -48,6 +48,7 @@ fn of_words(alloc: Global, fault: Fault, request: &Request) -> Failure {
         Request::Value { code, .. } | Request::Move { code, .. } => of_code(alloc, fault, code),
         Request::Extend { codes, .. }
         | Request::Find { codes, .. }
+        | Request::DeltaOf { codes }
         | Request::Survey { codes, .. } => of_codes(alloc, fault, codes),
         Request::Compute { code, count } => of_compute(alloc, fault, code, *count),
         Request::Period { code, e, p } => of_period(alloc, fault, code, *e, *p),

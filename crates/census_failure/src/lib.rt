@@ -10,7 +10,8 @@
 //!   what each is called and what is said of it, for the manual; `faults_text` is what `census explain` prints.
 //! - `explanation` is what stands behind the line of a fault, and `Advice` writes it where an `Audience` wants it, beside
 //!   warnings.
-//! - `shown`, `shown_bytes` and `quoted` show words of others, cut and escaped; `INPUT_NAME` and `OUTPUT_NAME` name streams.
+//! - `shown` and `shown_bytes` show words of others, cut and escaped, and `escaped`, `escaped_lines` and `quoted` whole ones; `INPUT_NAME` and
+//!   `OUTPUT_NAME` name streams.
 #![tactic(auto)]
 
 mod advice;
@@ -24,5 +25,5 @@ pub use advice::{Advice, Audience, foreign_text};
 pub use explained::{explanation, faults_text, name_of};
 pub use failure::{Failure, Reason};
 pub use fault_words::{FaultWords, faults, words_of};
-pub use showing::{quoted, shown, shown_bytes};
+pub use showing::{escaped, escaped_lines, quoted, shown, shown_bytes};
 pub use stream_names::{INPUT_NAME, OUTPUT_NAME};

@@ -55,13 +55,81 @@ fn append_byte(text: &mut String, byte: u8) -> Result<(), AllocError> {
     Ok(())
 }
 
-/// A word as it stands in a command that is to be copied: in quotes where a shell would read it otherwise.
-pub fn quoted(alloc: Global, word: &str) -> Result<String, AllocError> {
-    let word = shown(alloc, word)?;
-    if !word.is_empty() && word.bytes().all(is_plain) {
-        return Ok(word);
+/// A word, whole, in which control characters, and others that show nothing, are escaped.
+pub fn escaped(alloc: Global, word: &str) -> Result<String, AllocError> {
+    let mut text = String::new(alloc);
+    for sign in word.chars() {
+        append_visibly(&mut text, sign)?;
     }
-    format!(in alloc; "'{word}'")
+    Ok(text)
+}
+
+/// The same of a text of several lines, whose ends stay.
+pub fn escaped_lines(alloc: Global, lines: &str) -> Result<String, AllocError> {
+    let mut text = String::new(alloc);
+    for sign in lines.chars() {
+        match sign {
+            '\n' => text.push(sign)?,
+            _ => append_visibly(&mut text, sign)?,
+        }
+    }
+    Ok(text)
+}
+
+// Appends the sign, or its escape where it would show nothing.
+fn append_visibly(text: &mut String, sign: char) -> Result<(), AllocError> {
+    if is_hidden(sign) {
+        return append_sign(text, sign);
+    }
+    text.push(sign)
+}
+
+// Whether the sign would show nothing, or do something to a screen.
+fn is_hidden(sign: char) -> bool {
+    match sign {
+        '\'' | '"' | '\\' => false,
+        _ => sign.escape_debug().next() == Some('\\'),
+    }
+}
+
+/// A word as it stands in a command that is to be copied, whole: in quotes where a shell would read it otherwise. Signs that
+/// show nothing are spelled as `$'..'` has them in bash, zsh and ksh.
+pub fn quoted(alloc: Global, word: &str) -> Result<String, AllocError> {
+    if word.chars().any(is_hidden) {
+        return spelled(alloc, word);
+    }
+    if !word.is_empty() && word.bytes().all(is_plain) {
+        return String::from_str(alloc, word);
+    }
+    let mut text = String::from_str(alloc, "'")?;
+    for sign in word.chars() {
+        match sign {
+            '\'' => text.push_str("'\\''")?,
+            _ => text.push(sign)?,
+        }
+    }
+    text.push('\'')?;
+    Ok(text)
+}
+
+// The word as `$'..'`.
+fn spelled(alloc: Global, word: &str) -> Result<String, AllocError> {
+    let mut text = String::from_str(alloc, "$'")?;
+    for sign in word.chars() {
+        append_spelled(alloc, &mut text, sign)?;
+    }
+    text.push('\'')?;
+    Ok(text)
+}
+
+// Appends the sign as `$'..'` has it.
+fn append_spelled(alloc: Global, text: &mut String, sign: char) -> Result<(), AllocError> {
+    match sign {
+        '\'' => text.push_str("\\'"),
+        '\\' => text.push_str("\\\\"),
+        _ if is_hidden(sign) => { text.push_str(&format!(in alloc; "\\U{:08x}", u32::from(sign))?) }
+        _ => text.push(sign),
+    }
 }
 
 // Whether a shell reads the byte as it stands.

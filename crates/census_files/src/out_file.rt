@@ -124,7 +124,8 @@ fn check_free<R: Files + AllocGlobal>(
 pub fn check_apart<R: Files + AllocGlobal>(rt: &R, path: &str) -> Result<(), Failure> {
     if is_beside_a_file(rt, path)? {
         let alloc = rt.alloc();
-        return Err(Failure::of(alloc, Fault::Occupied, path).found(beside_text(alloc, path)));
+        let failure = Failure::of(alloc, Fault::Occupied, path).found(beside_text(alloc, path));
+        return Err(failure.advise(String::from_str(alloc, "give the file another name")));
     }
     Ok(())
 }

@@ -7,7 +7,7 @@ use crate::new_text::NewText;
 use census_failure::{Advice, Failure};
 use census_state::Fault;
 use oct_code::Code;
-use std::alloc::AllocError;
+use std::alloc::{AllocError, Global};
 use std::collections::BTreeSet;
 use std::fs::{self, File};
 use std::io::{self, Write};
@@ -183,9 +183,17 @@ where
     match unless_missing(fs::metadata(rt, path)) {
         Ok(None) => Ok(()),
         Ok(Some(there)) if there.is_dir() && is_free(&names_in(rt, path)?) => Ok(()),
-        Ok(Some(_)) => Err(Failure::of(rt.alloc(), Fault::Occupied, path)),
+        Ok(Some(_)) => Err(occupied(rt.alloc(), path)),
         Err(error) => Err(Failure::of(rt.alloc(), Fault::File, path).because(error)),
     }
+}
+
+// The failure of a folder that has something else.
+fn occupied(alloc: Global, path: &str) -> Failure {
+    Failure::of(alloc, Fault::Occupied, path).advise(String::from_str(
+        alloc,
+        "name a folder that is empty, has a site and nothing else, or is not there",
+    ))
 }
 
 // Whether the names are those of an empty folder, or of a site or of one that a stop left at its beginning.

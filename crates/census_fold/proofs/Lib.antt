@@ -6,6 +6,8 @@ mod Folding
 mod Gathering
 mod LineEnds
 mod LineLemmas
+mod Owning
+mod Parting
 mod Taking
 mod Together
 mod Underway

@@ -4,6 +4,8 @@ use Rattle.oct_delta.specs.Delta.{encoded}
 use Rattle.oct_delta.specs.Text.{Bytes}
 use Rattle.oct_ops.specs.Body.{Operation}
 use Rattle.oct_ops.specs.Operations.{listed}
+use Rattle.census_state.specs.Alone.{only_of}
+use Rattle.census_state.specs.Codes.{codes_of}
 use Rattle.census_state.specs.Lines.{number_line}
 use Rattle.census_state.specs.Replies.{Answer}
 use Rattle.census_state.specs.Steps.{◌>>=◌}
@@ -18,5 +20,13 @@ delta_of ops =
     then Ok (record { state = None; file = Some (encoded ops); text = number_line (codes "operations ") (length ops) })
     else Err TooMany
 
+-- the operations of the state as one delta
 abbrev pub delta : Bytes → Result Answer Fault
 delta state = loaded state >>= λ replica. delta_of (listed replica.ops)
+
+-- the blocks and claims of the games of these codes as one delta
+abbrev pub delta_of_games : Bytes → List Bytes → Result Answer Fault
+delta_of_games state words = do
+  replica ← loaded state
+  named ← codes_of words
+  delta_of (listed (only_of named replica.ops))

@@ -1,3 +1,4 @@
+pub mod Authors
 pub mod Deltas
 pub mod Digests
 pub mod Folded

@@ -57,8 +57,8 @@ fn is_state(file: &[u8]) -> bool
     file.starts_with(b"OGS1")
 }
 
-// The one text of all operations.
-fn text_of(alloc: Global, held: &Record<Global>) -> Result<Vec<u8>, Fault>
+/// The one text of all operations.
+pub(crate) fn text_of(alloc: Global, held: &Record<Global>) -> Result<Vec<u8>, Fault>
     ensures ok { IfOk result (λ text. text_of held.now.ops ≡ Ok text.items) }
     ensures err { IfErr result (λ e. e ≢ Fault.OutOfMemory → text_of held.now.ops ≡ Err e) }
 {

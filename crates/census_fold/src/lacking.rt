@@ -1,13 +1,14 @@
-//! Which games of a list lack blocks in files.
+//! Which games of a list lack blocks, in files or in what the author of a state said.
 
 ghost use Rattle.std.specs.Prelude.{◌≡◌, ◌≢◌, Ok, Err, IfOk, IfErr, map};
-ghost use Rattle.census_fold.specs.Lacking.{left_in};
+ghost use Rattle.census_fold.specs.Lacking.{left_in, own_left, said_by};
 
 use crate::reading::held_together;
-use census_state::Fault;
+use census_state::{Fault, load, nothing, read_codes};
 use oct_code::Code;
 use oct_left::left;
-use std::alloc::Global;
+use oct_record::Record;
+use std::alloc::{AllocError, Global};
 
 /// The codes of a list of which files together do not have each of the heaps 1 to `count - 1` in a block, whoever said it, and
 /// be it true or not: in the order of the list, and each as often as it stands there. The files are read as `read_together`
@@ -24,4 +25,37 @@ pub fn left_in(
     let all = held_together(alloc, files)?;
     let lacking = left(&all, codes, count)?;
     Ok(lacking)
+}
+
+/// The codes of a list of which the author of a state has not issued blocks that have each of the heaps 1 to `count - 1`, be they
+/// true or not: in the order of the list, and each as often as it stands there. What others said does not count. No nim-value is
+/// computed. The first fault is `Load`; then `Code` of the first word that is none.
+pub fn own_left(
+    alloc: Global,
+    state: &[u8],
+    words: &[Vec<u8>],
+    count: u32,
+) -> Result<Vec<Code>, Fault>
+    ensures ok { IfOk result (λ lacking. own_left state.now (map (λ word. word.items) words.now) count ≡ Ok lacking.items) }
+    ensures err { IfErr result (λ e. e ≢ Fault.OutOfMemory → own_left state.now (map (λ word. word.items) words.now) count ≡ Err e) }
+{
+    let held = load(alloc, state)?;
+    let named = read_codes(alloc, words)?;
+    let own = said_by_its_author(alloc, &held)?;
+    let lacking = left(&own, &named, count)?;
+    Ok(lacking)
+}
+
+// A record of what the record's own author issued, which both share.
+fn said_by_its_author(alloc: Global, held: &Record<Global>) -> Result<Record<Global>, AllocError>
+    ensures { IfOk result (λ own. own.ops ≡ said_by held.now.author held.now.ops) }
+{
+    let author = held.author();
+    let mut own = nothing(alloc);
+    for op in held.store().iter_shared() {
+        if op.as_ref().dot().author() == author {
+            own.share(op)?;
+        }
+    }
+    Ok(own)
 }

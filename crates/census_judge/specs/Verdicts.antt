@@ -20,7 +20,7 @@ use Rattle.oct_verify.specs.Filing.{blocks_in}
 use Rattle.oct_verify.specs.declared.status.Status.{Status}
 use Rattle.oct_verify.specs.declared.status.Status.TheVariants as of_block
 use Rattle.oct_sheet.specs.declared.summary.Tally.{Tally}
-use Rattle.census_judge.specs.declared.verdicts.Judged.{Judged}
+use Rattle.census_judge.specs.declared.verdicts.JudgedClaim.{JudgedClaim}
 use Rattle.census_judge.specs.declared.verdicts.Verdict.{Verdict}
 use Rattle.census_judge.specs.declared.verdicts.Verdict.TheVariants.{Proved, WrongBlock, WrongClaim, PendingBlock, PendingClaim}
 
@@ -59,20 +59,20 @@ verdict_of game (kind.Note n) = None
 verdict_of game (kind.Removal r) = None
 
 -- what is there, under its game and its dot
-abbrev pub judged_by : Code → Dot → Option Verdict → List Judged
+abbrev pub judged_by : Code → Dot → Option Verdict → List JudgedClaim
 judged_by c d None = []
 judged_by c d (Some v) = record { code = c; dot = d; verdict = v } ∷ []
 
 -- of an operation that was there before nothing is said
-abbrev pub judged_op : Operations → GameContent → Operation → List Judged
+abbrev pub judged_op : Operations → GameContent → Operation → List JudgedClaim
 judged_op before game o = if contains before o then [] else judged_by game.code o.dot (verdict_of game o.body)
 
 -- the new blocks and claims of a game, as of all that there are later
-abbrev pub judged_in : Operations → Operations → Code → List Judged
+abbrev pub judged_in : Operations → Operations → Code → List JudgedClaim
 judged_in before later c = flat_map (judged_op before (content_in later c)) (listed (of_game later c))
 
 -- game by game, and in each in the order of the operations
-abbrev pub judged : Operations → Operations → List Judged
+abbrev pub judged : Operations → Operations → List JudgedClaim
 judged before later = flat_map (judged_in before later) (games (listed later))
 
 -- ---- how many there are of each
@@ -99,8 +99,8 @@ says_pending PendingBlock = true
 says_pending (PendingClaim needs) = true
 
 -- how many have such a verdict
-abbrev pub count_with : (Verdict → Bool) → List Judged → ℕ
+abbrev pub count_with : (Verdict → Bool) → List JudgedClaim → ℕ
 count_with p all = count_by (λ j. p j.verdict) all
 
-abbrev pub tally_of : List Judged → Tally
+abbrev pub tally_of : List JudgedClaim → Tally
 tally_of all = record { proved = count_with says_proved all; refuted = count_with says_refuted all; pending = count_with says_pending all }

@@ -9,4 +9,4 @@ mod checking;
 mod verdicts;
 
 pub use checking::{Checked, check};
-pub use verdicts::{Judged, Verdict, judge, tally};
+pub use verdicts::{JudgedClaim, Verdict, judge, tally};

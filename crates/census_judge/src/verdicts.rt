@@ -56,7 +56,7 @@ pub enum Verdict {
 
 /// A block or a period claim, and what became of it.
 #[derive(Clone, Copy)]
-pub struct Judged {
+pub struct JudgedClaim {
     /// Its game.
     pub code: Code,
     /// Who made it, and which of the author's operations it is.
@@ -72,7 +72,7 @@ pub fn judge(
     alloc: Global,
     before: &Record<Global>,
     later: &Record<Global>,
-) -> Result<Vec<Judged>, AllocError>
+) -> Result<Vec<JudgedClaim>, AllocError>
     ensures { IfOk result (λ all. all.items ≡ judged before.now.ops later.now.ops) }
 {
     let codes = codes_of(later)?;
@@ -85,7 +85,7 @@ fn judge_each(
     before: &Record<Global>,
     later: &Record<Global>,
     codes: &[Code],
-) -> Result<Vec<Judged>, AllocError>
+) -> Result<Vec<JudgedClaim>, AllocError>
     ensures { IfOk result (λ all. all.items ≡ flat_map (judged_in before.now.ops later.now.ops) codes.now) }
 {
     let mut all = Vec::new(alloc);
@@ -96,7 +96,7 @@ fn judge_each(
 }
 
 /// How many of these are proved, refuted and pending.
-pub fn tally(all: &[Judged]) -> Tally
+pub fn tally(all: &[JudgedClaim]) -> Tally
     ensures { result ≡ tally_of all.now }
 {
     Tally {
@@ -107,7 +107,7 @@ pub fn tally(all: &[Judged]) -> Tally
 }
 
 // How many are proved.
-fn proved_count(all: &[Judged]) -> usize
+fn proved_count(all: &[JudgedClaim]) -> usize
     ensures { result ≡ count_with says_proved all.now }
 {
     all.iter().filter(|one| says_proved(one.verdict)).count()
@@ -127,7 +127,7 @@ fn says_proved(verdict: Verdict) -> bool
 }
 
 // How many are refuted.
-fn refuted_count(all: &[Judged]) -> usize
+fn refuted_count(all: &[JudgedClaim]) -> usize
     ensures { result ≡ count_with says_refuted all.now }
 {
     all.iter().filter(|one| says_refuted(one.verdict)).count()
@@ -144,7 +144,7 @@ fn says_refuted(verdict: Verdict) -> bool
 }
 
 // How many are pending.
-fn pending_count(all: &[Judged]) -> usize
+fn pending_count(all: &[JudgedClaim]) -> usize
     ensures { result ≡ count_with says_pending all.now }
 {
     all.iter().filter(|one| says_pending(one.verdict)).count()
@@ -162,7 +162,7 @@ fn says_pending(verdict: Verdict) -> bool
 
 // Appends the new ones of a game.
 fn judge_game(
-    all: &mut Vec<Judged>,
+    all: &mut Vec<JudgedClaim>,
     before: &Record<Global>,
     later: &Record<Global>,
     code: Code,
@@ -177,7 +177,7 @@ fn judge_game(
 
 // Appends the new ones of a game with these operations, which is built where there are some.
 fn judge_held(
-    all: &mut Vec<Judged>,
+    all: &mut Vec<JudgedClaim>,
     before: &Record<Global>,
     later: &Record<Global>,
     code: Code,
@@ -207,7 +207,7 @@ fn has_new(before: &Record<Global>, ops: &OpSet<Global>) -> bool
 
 // Appends the new ones among the operations of a game.
 fn judge_ops(
-    all: &mut Vec<Judged>,
+    all: &mut Vec<JudgedClaim>,
     before: &Record<Global>,
     game: &Game<Global>,
     ops: &OpSet<Global>,
@@ -225,7 +225,7 @@ fn judge_ops(
 
 // Appends an operation of a game, where it is new and a block or a claim.
 fn judge_op(
-    all: &mut Vec<Judged>,
+    all: &mut Vec<JudgedClaim>,
     before: &Record<Global>,
     game: &Game<Global>,
     first: &Option<PeriodClaim>,
@@ -240,7 +240,7 @@ fn judge_op(
         return Ok(());
     }
     if let Some(verdict) = verdict_of(game, first, op) {
-        all.push(Judged {
+        all.push(JudgedClaim {
             code: game.code(),
             dot: op.dot(),
             verdict,

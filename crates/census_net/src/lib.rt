@@ -5,7 +5,7 @@
 //!
 //! - `Endpoint` is a state and the address at which it meets its peers, and `Patience` how long it waits for them.
 //! - `serve` has one session with whoever connects, and `sync` one with whoever serves, each over a `Connection` that fails
-//!   where it would wait too long.
+//!   where it would wait too long. `serve_over` and `sync_over` do the same over two streams that are lent.
 //! - `hub` has many sessions at once, within its `Limits`, in one thread: each is a `Guest`, which goes on whenever its
 //!   connection is ready, and `kept` is the one record for which all of them speak; what one brings is joined with it where it
 //!   is saved. `shares` says by whom what is new is, `moment` when a session ended, and `room` whether a line can be printed.
@@ -19,6 +19,7 @@ mod guest;
 mod kept;
 mod moment;
 mod network;
+mod over;
 mod peers;
 mod record_file;
 mod room;
@@ -28,5 +29,6 @@ mod unsaved;
 pub use connection::Patience;
 pub use endpoint::Endpoint;
 pub use network::{serve, sync};
+pub use over::{serve_over, sync_over};
 pub use peers::{Limits, hub};
 pub use record_file::record_of;

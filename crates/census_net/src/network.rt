@@ -90,9 +90,9 @@ where
     }
 }
 
-// Saves what is held after a session that ended so, also after a fault of the session, and warns where the state's own
-// number is used twice.
-fn settle<R, E>(
+/// Saves what is held after a session that ended so, also after a fault of the session, and warns where the state's own
+/// number is used twice.
+pub(crate) fn settle<R, E>(
     rt: &R,
     state: &str,
     said: &Record<Global>,

@@ -21,7 +21,7 @@ use std::rt::Files;
 use std::time::Clock;
 
 // How many seconds pass at least between two saves, but for the last one.
-const PAUSE: u64 = 120;
+const PAUSE: u64 = 15;
 
 /// A search in windows for the period of a game.
 #[derive(Clone, Copy)]

@@ -17,11 +17,15 @@ use std::rt::Files;
 use std::time::Clock;
 use written::write_out;
 
-// For how many seconds what is done may be kept in memory alone, at the end of a game.
-const UNSAVED: u64 = 30;
+// For how many seconds the games that are done may be kept in memory alone.
+const UNSAVED: u64 = 15;
 
-/// Saves a state at the end of a game where half a minute has passed since the last time, and prints the lines of games once
-/// the state that has them is saved. So a stop loses the games since then at most, and the same command goes on from there.
+// A game that took so many seconds is saved at its end.
+const LONG: u64 = 5;
+
+/// Saves a state at the end of a game that took five seconds, or where fifteen have passed since the last time, and prints the
+/// lines of games once the state that has them is saved. So a stop loses, beside the game that is not done, at most what fifteen
+/// seconds did, and the same command goes on from there.
 #[derive(Drop)]
 pub struct TurnSaver<'a, R, O> {
     rt: &'a R,
@@ -29,7 +33,10 @@ pub struct TurnSaver<'a, R, O> {
     output: &'a mut O,
     /// How many bytes the state had when it was read.
     read: usize,
+    /// Since the state was last saved.
     pause: Pause,
+    /// Since the last game was done.
+    turn: Pause,
     /// How many bytes of the lines are printed.
     printed: usize,
     /// Why the state was not saved, or the lines not printed.
@@ -52,12 +59,15 @@ where
     {
         let mut pause = Pause::over(UNSAVED);
         pause.begin(rt);
+        let mut turn = Pause::over(LONG);
+        turn.begin(rt);
         TurnSaver {
             rt,
             file,
             output,
             read,
             pause,
+            turn,
             printed: 0,
             failure: None,
         }
@@ -115,7 +125,9 @@ where
         lines: &[u8],
         progress: &mut ProgressLine<'b, R, E>,
     ) -> Result<(), Unkept> {
-        if !self.pause.is_due(self.rt) {
+        let is_due = self.turn.is_due(self.rt) || self.pause.is_due(self.rt);
+        self.turn.begin(self.rt);
+        if !is_due {
             return Ok(());
         }
         match self.save(said, lines, progress) {

@@ -1,7 +1,7 @@
 //! What became of what a command said or took in, as a line on standard error.
 
 use census_failure::{Advice, quoted};
-use census_judge::{Judged, Verdict, judge, tally};
+use census_judge::{JudgedClaim, Verdict, judge, tally};
 use oct_code::LIMIT;
 use oct_join::OpSet;
 use oct_ops::Body;
@@ -92,7 +92,7 @@ fn heaps_in(ops: &OpSet<Global>) -> u64 {
 fn say_all<E: Write>(
     alloc: Global,
     state: &str,
-    all: &[Judged],
+    all: &[JudgedClaim],
     advice: &mut Advice<'_, E>,
 ) -> Result<(), AllocError> {
     match all {
@@ -109,7 +109,7 @@ fn say_all<E: Write>(
 }
 
 // How many are new, and how many of these are proved, refuted and pending.
-fn count_text(alloc: Global, state: &str, all: &[Judged]) -> Result<String, AllocError> {
+fn count_text(alloc: Global, state: &str, all: &[JudgedClaim]) -> Result<String, AllocError> {
     let new = all.len();
     let counts = tally(all);
     let (proved, refuted, pending) = (counts.proved, counts.refuted, counts.pending);
@@ -125,7 +125,7 @@ fn count_text(alloc: Global, state: &str, all: &[Judged]) -> Result<String, Allo
 }
 
 // What became of a block or a claim.
-fn verdict_text(alloc: Global, one: &Judged) -> Result<String, AllocError> {
+fn verdict_text(alloc: Global, one: &JudgedClaim) -> Result<String, AllocError> {
     let (author, number) = (one.dot.author(), one.dot.number());
     match one.verdict {
         Verdict::Proved => format!(in alloc; "{author}.{number}: proved"),
@@ -154,7 +154,7 @@ fn verdict_text(alloc: Global, one: &Judged) -> Result<String, AllocError> {
 }
 
 // What is said of a refuted claim, where the one with start and period exchanged is proved.
-fn exchange_text(alloc: Global, one: &Judged) -> Result<Option<String>, AllocError> {
+fn exchange_text(alloc: Global, one: &JudgedClaim) -> Result<Option<String>, AllocError> {
     let (author, number) = (one.dot.author(), one.dot.number());
     match one.verdict {
         Verdict::WrongClaim {

@@ -4,6 +4,7 @@ use crate::found::{is_quiet, word};
 use crate::printing::print_unless;
 use crate::system::System;
 use crate::task::Task;
+use crate::undone::{Undone, without_done};
 use census_core::{Fault, Reply, Request, perform_kept};
 use census_diagnosis::{Given, of_games, of_request};
 use census_failure::{Advice, Failure, INPUT_NAME};
@@ -15,6 +16,7 @@ use oct_record::Record;
 use std::alloc::Global;
 use std::io::{Read, Write};
 use std::rt::Files;
+use written::write_out;
 
 /// What is to be done to a state file, and the file that is read beside it.
 #[derive(Drop)]
@@ -23,6 +25,8 @@ pub(crate) struct Change<'a> {
     read: Option<&'a str>,
     request: Request,
     is_quiet: bool,
+    /// Whether games that the state's author said already are left out.
+    skips_done: bool,
 }
 
 /// The task of a command that makes this request to change a state, and reads the file of this word beside it.
@@ -40,6 +44,7 @@ pub(crate) fn changing<'a>(
         read,
         request,
         is_quiet: is_quiet(found),
+        skips_done: found.get_flag(words::SKIP_DONE.name),
     }))
 }
 
@@ -57,19 +62,13 @@ where
     O: Write,
     E: Write,
 {
-    let Change {
-        state,
-        read,
-        request,
-        is_quiet,
-    } = change;
-    let beside = Beside::of(rt.alloc(), *read, input)?;
-    let done = change_locked(rt, state, beside, request, output, progress);
+    let beside = Beside::of(rt.alloc(), change.read, input)?;
+    let done = perform_locked(rt, change, beside, output, progress);
     progress.clear();
     let done = done?;
-    print_unless(*is_quiet, done.unprinted(), output)?;
-    if !*is_quiet && is_judged(request) {
-        done.tell(rt.alloc(), state, progress.advice());
+    print_unless(change.is_quiet, done.unprinted(), output)?;
+    if !change.is_quiet && is_judged(&change.request) {
+        done.tell(rt.alloc(), change.state, progress.advice());
     }
     Ok(())
 }
@@ -154,11 +153,10 @@ impl<'a> Beside<'a> {
 }
 
 // Changes a state file, and holds its lock from before it is read until it is replaced.
-fn change_locked<R, O, E>(
+fn perform_locked<R, O, E>(
     rt: &R,
-    state: &str,
+    change: &Change<'_>,
     beside: Beside<'_>,
-    request: &Request,
     output: &mut O,
     progress: &mut ProgressLine<'_, R, E>,
 ) -> Result<Performed, Failure>
@@ -167,19 +165,18 @@ where
     O: Write,
     E: Write,
 {
-    let file = StateFile::wait_telling(rt, state, progress.advice())?;
-    let done = change_held(rt, &file, state, beside, request, output, progress);
+    let file = StateFile::wait_telling(rt, change.state, progress.advice())?;
+    let done = perform_held(rt, &file, change, beside, output, progress);
     file.release(rt);
     done
 }
 
 // The same, while no other command changes the state.
-fn change_held<R, O, E>(
+fn perform_held<R, O, E>(
     rt: &R,
     file: &StateFile,
-    state: &str,
+    change: &Change<'_>,
     beside: Beside<'_>,
-    request: &Request,
     output: &mut O,
     progress: &mut ProgressLine<'_, R, E>,
 ) -> Result<Performed, Failure>
@@ -188,13 +185,15 @@ where
     O: Write,
     E: Write,
 {
-    let bytes = read_state(rt, state)?;
-    let (name, read) = beside.read(rt, request)?;
+    let bytes = read_state(rt, change.state)?;
+    let (name, read) = beside.read(rt, &change.request)?;
+    let undone = undone_of(rt.alloc(), change, &bytes, output)?;
+    let request = undone.as_ref().unwrap_or(&change.request);
     let mut saver = TurnSaver::new(rt, file, bytes.len(), output);
     let reply = match perform_kept(rt.alloc(), request, &bytes, &read, progress, &mut saver) {
         Ok(reply) => reply,
         Err(fault) => {
-            let (state, read) = (Given::new(state, &bytes), Given::new(name, &read));
+            let (state, read) = (Given::new(change.state, &bytes), Given::new(name, &read));
             return Err(match saver.into_failure() {
                 Some(failure) => failure,
                 None => of_change(rt.alloc(), fault, request, state, read),
@@ -212,6 +211,29 @@ where
         reply,
         printed: saver.printed(),
     })
+}
+
+// The request without the games that are done, where they are left out; it is said how many they are.
+fn undone_of<O: Write>(
+    alloc: Global,
+    change: &Change<'_>,
+    state: &[u8],
+    output: &mut O,
+) -> Result<Option<Request>, Failure> {
+    if !change.skips_done {
+        return Ok(None);
+    }
+    match without_done(alloc, &change.request, state) {
+        Ok(Some(Undone { request, line })) => {
+            write_out(output, &line)?;
+            Ok(Some(request))
+        }
+        Ok(None) => Ok(None),
+        Err(fault) => {
+            let (state, none) = (Given::new(change.state, state), Given::new("", b""));
+            Err(of_change(alloc, fault, &change.request, state, none))
+        }
+    }
 }
 
 // The failure of a request to change a state.

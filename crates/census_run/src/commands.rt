@@ -60,8 +60,14 @@ pub(crate) mod winning_move;
 
 /// All commands, in the order in which the help has them. Each part has a function, so that whoever goes over all of them need
 /// not be checked with each of their texts.
-pub(crate) fn parts() -> [Part; 4] {
-    [without_state(), states(), what_is_known(), with_others()]
+pub(crate) fn parts() -> [Part; 5] {
+    [
+        without_state(),
+        states(),
+        many_games(),
+        what_is_known(),
+        with_others(),
+    ]
 }
 
 const ALONE: &[Row] = &[
@@ -90,8 +96,6 @@ const OWN: &[Row] = &[
     import::ROW,
     claim::ROW,
     compute::ROW,
-    extend::ROW,
-    survey::ROW,
     period::ROW,
     note::ROW,
     unnote::ROW,
@@ -101,6 +105,15 @@ fn states() -> Part {
     Part {
         title: "A state file of one's own",
         rows: OWN,
+    }
+}
+
+const MANY: &[Row] = &[extend::ROW, survey::ROW];
+
+fn many_games() -> Part {
+    Part {
+        title: "Many games of a state file",
+        rows: MANY,
     }
 }
 

@@ -1,7 +1,7 @@
-//! Numbers of authors, which nobody need choose.
+//! Numbers of authors, which nobody need choose: they are drawn, or those of texts.
 
 use crate::numbers::{FROM_1, number_in};
-use census_core::Fault;
+use census_core::{Fault, author_for};
 use census_failure::Failure;
 use census_words::words;
 use clap::ArgMatches;
@@ -11,11 +11,14 @@ use std::random::RandomSource;
 // How often 0 may be drawn, one time after the other.
 const TRIES: u32 = 100;
 
-/// The number of an author, which is drawn where it is left out.
+/// The number of an author: that of a text where one is given for it, and drawn where it is left out.
 pub(crate) fn author<R: AllocGlobal + RandomSource>(
     rt: &R,
     found: &ArgMatches<'_>,
 ) -> Result<u32, Failure> {
+    if let Some(text) = found.get_str(words::FOR.name) {
+        return Ok(author_for(text.as_bytes()));
+    }
     match found.get_str(words::ID.name) {
         Some(text) => number_in(rt.alloc(), words::ID.name, text, FROM_1),
         None => draw_number(rt),

@@ -9,6 +9,37 @@ use clap::ArgMatches;
 use std::alloc::Global;
 use std::time::Duration;
 
+/// Where a state has one session.
+#[derive(Clone, Copy)]
+pub(crate) enum Meeting<'a> {
+    /// At an address.
+    At(Endpoint<'a>),
+    /// Over standard input and output.
+    Streams { state: &'a str },
+}
+
+impl<'a> Meeting<'a> {
+    /// The path of the state file.
+    pub(crate) fn state(self) -> &'a str {
+        match self {
+            Meeting::At(endpoint) => endpoint.state,
+            Meeting::Streams { state } => state,
+        }
+    }
+}
+
+/// Where a state has one session, as the words say.
+pub(crate) fn meeting_of<'a>(
+    alloc: Global,
+    found: &ArgMatches<'a>,
+) -> Result<Meeting<'a>, Failure> {
+    if found.get_flag(words::STDIO.name) {
+        let state = word(found, words::STATE)?;
+        return Ok(Meeting::Streams { state });
+    }
+    Ok(Meeting::At(endpoint(alloc, found, None)?))
+}
+
 /// Where a state meets its peers; a session lasts no longer than this, where it is said.
 pub(crate) fn endpoint<'a>(
     alloc: Global,

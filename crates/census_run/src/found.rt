@@ -1,5 +1,6 @@
 //! What was found on a command line.
 
+use crate::lists::{is_listed, listed};
 use census_core::{Fault, Form, Request, View};
 use census_diagnosis::of_code;
 use census_failure::Failure;
@@ -8,6 +9,8 @@ use census_words::words::{self, Word};
 use clap::ArgMatches;
 use oct_code::Code;
 use std::alloc::Global;
+use std::io::Read;
+use std::rt::Files;
 
 /// A word of the command line.
 pub(crate) fn word<'a>(found: &ArgMatches<'a>, word: Word) -> Result<&'a str, Failure> {
@@ -62,15 +65,6 @@ pub(crate) fn repeated_or_none<'a>(
     repeated(alloc, found, which)
 }
 
-/// Copies of the bytes of the codes, of which there are some.
-pub(crate) fn codes(alloc: Global, found: &ArgMatches<'_>) -> Result<Vec<Vec<u8>>, Failure> {
-    let codes = copies(alloc, found, words::CODES.name)?;
-    if codes.is_empty() {
-        return Err(Failure::from(Fault::Words));
-    }
-    Ok(codes)
-}
-
 /// Copies of the bytes of the words that stand under a name.
 pub(crate) fn copies(
     alloc: Global,
@@ -87,21 +81,21 @@ pub(crate) fn copies(
     Ok(copies)
 }
 
-/// The games of the codes.
-pub(crate) fn games(alloc: Global, found: &ArgMatches<'_>) -> Result<Vec<Code>, Failure> {
+/// The games of codes.
+pub(crate) fn games(alloc: Global, codes: &[Vec<u8>]) -> Result<Vec<Code>, Failure> {
     let mut games = Vec::new(alloc);
-    for word in repeated(alloc, found, words::CODES)? {
-        let game = game(alloc, word)?;
+    for code in codes {
+        let game = game(alloc, code)?;
         games.push(game).or(Err(Fault::OutOfMemory))?;
     }
     Ok(games)
 }
 
 /// The game of a code.
-pub(crate) fn game(alloc: Global, word: &str) -> Result<Code, Failure> {
-    match Code::parse(word.as_bytes()) {
+pub(crate) fn game(alloc: Global, code: &[u8]) -> Result<Code, Failure> {
+    match Code::parse(code) {
         Ok(game) => Ok(game),
-        Err(cause) => Err(of_code(alloc, Fault::Code(cause), word.as_bytes())),
+        Err(cause) => Err(of_code(alloc, Fault::Code(cause), code)),
     }
 }
 
@@ -119,15 +113,20 @@ pub(crate) fn form(found: &ArgMatches<'_>) -> Form {
     }
 }
 
-/// The request for all that is known, or the one for some games alone in this view, where some are named.
-pub(crate) fn all_or_only(
-    alloc: Global,
+/// The request for all that is known, or the one for some games alone in this view, where some are named, be it by a list.
+pub(crate) fn all_or_only<R, I>(
+    rt: &R,
     found: &ArgMatches<'_>,
     all: Request,
     view: View,
-) -> Result<Request, Failure> {
-    let codes = copies(alloc, found, words::ONLY.name)?;
-    if codes.is_empty() {
+    input: &mut I,
+) -> Result<Request, Failure>
+where
+    R: Files + AllocGlobal,
+    I: Read,
+{
+    let codes = listed(rt, found, words::ONLY.name, input)?;
+    if codes.is_empty() && !is_listed(found) {
         return Ok(all);
     }
     Ok(Request::Only { codes, view })

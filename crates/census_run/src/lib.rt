@@ -5,7 +5,8 @@
 //!
 //! - `task` has the tasks, and reads them; `found` and `numbers` read words, `lists` files of codes, `endpoint` the address of a
 //!   peer, and `drawing` draws the number of an author where none is given.
-//! - `change` and `ask` do what most commands are: a request that changes a state, or that leaves it as it is. `printing` has
+//! - `change` and `ask` do what most commands are: a request that changes a state, or that leaves it as it is. `undone` leaves
+//!   out the games that are done. `printing` has
 //!   what several print.
 //! - `program` does a task: `run` that of any words, and `run_called` (`arguments`) that of the words that the program was
 //!   called with.
@@ -29,6 +30,7 @@ mod printing;
 mod program;
 mod system;
 mod task;
+mod undone;
 
 pub use arguments::run_called;
 pub use program::run;

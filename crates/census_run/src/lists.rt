@@ -1,5 +1,6 @@
-//! Lists of codes that files have, and parts of lists.
+//! The codes that a command is given: words, lists that files have, and parts of both.
 
+use crate::found::copies;
 use census_codes::{CodesError, MAX_PARTS, Part, part_of, read_codes};
 use census_core::{Fault, number};
 use census_diagnosis::{Given, of_code};
@@ -11,6 +12,73 @@ use oct_code::{Code, CodeError};
 use std::alloc::{AllocError, Global};
 use std::io::Read;
 use std::rt::Files;
+
+/// The codes that a command is given, as texts: the words that stand under this name, and then the codes of the list; of them
+/// all the part that is asked for. The fault is `Words` where a part is asked for and neither words nor a list are named, then
+/// `Number` where it is none, `File` or `Read` where the list can't be read, and `Code` where a word of it is no code.
+pub(crate) fn listed<R, I>(
+    rt: &R,
+    found: &ArgMatches<'_>,
+    name: &str,
+    input: &mut I,
+) -> Result<Vec<Vec<u8>>, Failure>
+where
+    R: Files + AllocGlobal,
+    I: Read,
+{
+    let alloc = rt.alloc();
+    if found.get_str(words::PART.name).is_some() && !is_any_named(found, name) {
+        let text = String::from_str(alloc, "--part is of codes: words, or those of --codes FILE");
+        return Err(Failure::from(Fault::Words).found(text));
+    }
+    let part = part(alloc, found)?;
+    let mut codes = copies(alloc, found, name)?;
+    if let Some(path) = found.get_str(words::LIST.name) {
+        append_texts(alloc, &mut codes, &codes_in(rt, path, input)?)?;
+    }
+    match part {
+        Some(part) => Ok(dealt_texts(alloc, &codes, part)?),
+        None => Ok(codes),
+    }
+}
+
+// Whether codes are named, by words of this name or by a list.
+fn is_any_named(found: &ArgMatches<'_>, name: &str) -> bool {
+    found.get_strs(name).is_some() || found.get_str(words::LIST.name).is_some()
+}
+
+/// Whether the codes are those of a list, or of a part: then there may be none.
+pub(crate) fn is_listed(found: &ArgMatches<'_>) -> bool {
+    found.get_str(words::LIST.name).is_some() || found.get_str(words::PART.name).is_some()
+}
+
+/// Appends the texts of codes.
+pub(crate) fn append_texts(
+    alloc: Global,
+    texts: &mut Vec<Vec<u8>>,
+    codes: &[Code],
+) -> Result<(), Fault> {
+    for code in codes {
+        let mut text = Vec::new(alloc);
+        code.append_text(&mut text)?;
+        texts.push(text).or(Err(Fault::OutOfMemory))?;
+    }
+    Ok(())
+}
+
+// Copies of the texts that are of the part.
+fn dealt_texts(alloc: Global, texts: &[Vec<u8>], part: Part) -> Result<Vec<Vec<u8>>, Fault> {
+    let mut lent: Vec<&[u8]> = Vec::new(alloc);
+    for text in texts {
+        lent.push(text.as_slice()).or(Err(Fault::OutOfMemory))?;
+    }
+    let mut dealt = Vec::new(alloc);
+    for text in &part_of(alloc, &lent, part)? {
+        let copy = Vec::from_slice(alloc, text)?;
+        dealt.push(copy).or(Err(Fault::OutOfMemory))?;
+    }
+    Ok(dealt)
+}
 
 /// The part of a list that is asked for, where one is.
 pub(crate) fn part(alloc: Global, found: &ArgMatches<'_>) -> Result<Option<Part>, Failure> {

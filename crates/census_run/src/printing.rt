@@ -19,6 +19,13 @@ pub(crate) fn print_unless<O: Write>(
     Ok(write_out(output, text)?)
 }
 
+/// Says on this stream that a session is done whose output is the session's, unless nothing is to be said.
+pub(crate) fn tell_done<E: Write>(is_quiet: bool, errors: &mut E) {
+    if !is_quiet {
+        let _ = write_out(errors, b"done\n");
+    }
+}
+
 /// Writes the file of a reply to standard output, and nothing else.
 pub(crate) fn print_file<O: Write>(
     alloc: Global,

@@ -8,7 +8,7 @@ use crate::system::System;
 use crate::task::{Task, read_task};
 use crate::{ask, change};
 use census_core::Fault;
-use census_failure::{Advice, Audience, Failure, INPUT_NAME, OUTPUT_NAME};
+use census_failure::{Advice, Audience, Failure, INPUT_NAME, OUTPUT_NAME, escaped_lines};
 use census_files::Noted;
 use census_progress::ProgressLine;
 use census_words::words::EXPLAIN;
@@ -151,6 +151,9 @@ fn show<O: Write, E: Write>(
         return refuse(errors, Fault::OutOfMemory);
     };
     if error.use_stderr() {
+        let Ok(text) = escaped_lines(alloc, &text) else {
+            return refuse(errors, Fault::OutOfMemory);
+        };
         let _ = write_out(errors, text.as_bytes());
         return 2;
     }
@@ -175,7 +178,7 @@ where
     O: Write,
     E: Write,
 {
-    let task = read_task(rt, matches)?;
+    let task = read_task(rt, matches, input)?;
     done(rt, &task, input, output, errors, audience)
 }
 
@@ -226,17 +229,18 @@ where
             site::run(rt, state, folder, &mut Advice::new(errors, audience))?;
         }
         Task::Digest { files, form } => digest::run(rt, files, *form, output)?,
-        Task::Serve { endpoint, is_quiet } => {
+        Task::Serve { meeting, is_quiet } => {
             let mut advice = Advice::new(errors, audience);
-            serve::run(rt, *endpoint, *is_quiet, output, &mut advice)?;
+            serve::run(rt, *meeting, *is_quiet, input, output, &mut advice)?;
         }
         Task::Sync {
-            endpoint,
+            meeting,
             role,
             is_quiet,
         } => {
             let mut advice = Advice::new(errors, audience);
-            sync::run(rt, *endpoint, *role, *is_quiet, output, &mut advice)?;
+            let role = *role;
+            sync::run(rt, *meeting, role, *is_quiet, input, output, &mut advice)?;
         }
         Task::Hub { endpoint, limits } => {
             census_net::hub(rt, *endpoint, *limits, output, errors)?;

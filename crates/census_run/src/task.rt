@@ -5,6 +5,7 @@ use crate::change::Change;
 use crate::commands::left::Left;
 use crate::commands::search::Search;
 use crate::commands::{self, parts};
+use crate::endpoint::Meeting;
 use census_core::{Fault, Form, Wanted};
 use census_failure::{Failure, Reason};
 use census_files::Out;
@@ -14,7 +15,9 @@ use clap::ArgMatches;
 use oct_code::Code;
 use oct_sync::Role;
 use std::alloc::{AllocError, Global};
+use std::io::Read;
 use std::random::RandomSource;
+use std::rt::Files;
 
 /// What a command line asks for. Names of files and addresses are as they stand there.
 #[derive(Drop)]
@@ -85,12 +88,12 @@ pub(crate) enum Task<'a> {
     },
     /// One session with a replica that connects.
     Serve {
-        endpoint: Endpoint<'a>,
+        meeting: Meeting<'a>,
         is_quiet: bool,
     },
     /// One session with a replica that serves, as this kind of client.
     Sync {
-        endpoint: Endpoint<'a>,
+        meeting: Meeting<'a>,
         role: Role,
         is_quiet: bool,
     },
@@ -102,30 +105,40 @@ pub(crate) enum Task<'a> {
 }
 
 /// What the matches of a command line ask for. The fault is `Number` where a word is no number of its range, `Code` where a
-/// word of a search is no code, `Words` where one is missing or does not go with another, `File` where a number is to
-/// be drawn and the system draws none, and `OutOfMemory`.
-pub(crate) fn read_task<'a, R: AllocGlobal + RandomSource>(
+/// word of a search or of a list is no code, `Words` where one is missing or does not go with another, `File` or `Read` where
+/// a list can't be read, `File` where a number is to be drawn and the system draws none, and `OutOfMemory`.
+pub(crate) fn read_task<'a, R, I>(
     rt: &R,
     matches: &ArgMatches<'a>,
-) -> Result<Task<'a>, Failure> {
+    input: &mut I,
+) -> Result<Task<'a>, Failure>
+where
+    R: Files + AllocGlobal + RandomSource,
+    I: Read,
+{
     let Some((name, found)) = matches.subcommand() else {
         return Err(Failure::from(Fault::Words));
     };
     let Some(row) = row_named(&parts(), name) else {
         return Err(Failure::from(Fault::Words));
     };
-    match task_of(rt, name, found) {
+    match task_of(rt, name, found, input) {
         Err(failure) => Err(in_order(rt.alloc(), failure, &row)),
         done => done,
     }
 }
 
 // What the command of this name asks for with these words.
-fn task_of<'a, R: AllocGlobal + RandomSource>(
+fn task_of<'a, R, I>(
     rt: &R,
     name: &str,
     found: &ArgMatches<'a>,
-) -> Result<Task<'a>, Failure> {
+    input: &mut I,
+) -> Result<Task<'a>, Failure>
+where
+    R: Files + AllocGlobal + RandomSource,
+    I: Read,
+{
     let alloc = rt.alloc();
     match name {
         "fold" => Ok(Task::Fold),
@@ -133,7 +146,7 @@ fn task_of<'a, R: AllocGlobal + RandomSource>(
         "log" => commands::log::task(alloc, found),
         "diff" => commands::diff::task(alloc, found),
         "left" => commands::left::task(alloc, found),
-        "search" => commands::search::task(alloc, found),
+        "search" => commands::search::task(rt, found, input),
         "check" => commands::check::task(found),
         "explain" => commands::explain::task(alloc, found),
         "completion" => commands::completion::task(alloc, found),
@@ -143,23 +156,23 @@ fn task_of<'a, R: AllocGlobal + RandomSource>(
         "import" => commands::import::task(found),
         "claim" => commands::claim::task(alloc, found),
         "compute" => commands::compute::task(alloc, found),
-        "extend" => commands::extend::task(alloc, found),
-        "survey" => commands::survey::task(alloc, found),
+        "extend" => commands::extend::task(rt, found, input),
+        "survey" => commands::survey::task(rt, found, input),
         "period" => commands::period::task(alloc, found),
         "note" => commands::note::task(alloc, found),
         "unnote" => commands::unnote::task(alloc, found),
-        "show" => commands::show::task(alloc, found),
-        "games" => commands::games::task(alloc, found),
+        "show" => commands::show::task(rt, found, input),
+        "games" => commands::games::task(rt, found, input),
         "page" => commands::page::task(alloc, found),
-        "find" => commands::find::task(alloc, found),
+        "find" => commands::find::task(rt, found, input),
         "value" => commands::value::task(alloc, found),
         "move" => commands::winning_move::task(alloc, found),
         "bfile" => commands::bfile::task(alloc, found),
         "plot" => commands::plot::task(alloc, found),
-        "json" => commands::json::task(alloc, found),
-        "report" => commands::report::task(alloc, found),
+        "json" => commands::json::task(rt, found, input),
+        "report" => commands::report::task(rt, found, input),
         "site" => commands::site::task(found),
-        "delta" => commands::delta::task(found),
+        "delta" => commands::delta::task(rt, found, input),
         "merge" => commands::merge::task(found),
         "union" => commands::union::task(alloc, found),
         "digest" => commands::digest::task(alloc, found),

@@ -1,3 +1,4 @@
+pub mod Alone
 pub mod Codes
 pub mod FaultTexts
 pub mod Inputs

@@ -4,12 +4,14 @@
 //!   under another author, and `merge` takes the operations of a delta into it.
 //! - `rejoin` gives what a state file is to hold after a session, `rejoin_grown` does so where the file need not be read, and
 //!   `unchanged` what is said after a session that brought nothing.
+//! - `games_alone` gives what is said of some games.
 //! - A `Request` is one command over the bytes of its files, and a `Reply` what it gives.
 //! - `Fault` says why a run ended early. Its text is what the program prints; `status` is the exit status.
 //! - `read_whole` reads all of a stream, `number` a word of the command line, and `read_code` one that spells a code.
-//! - `laws` says what holds of every state file.
+//! - `laws` says what holds of every state file, and which operations are of some games.
 #![tactic(auto)]
 
+mod alone;
 mod codes;
 mod empty_record;
 mod fault;
@@ -26,6 +28,7 @@ mod texts;
 mod view;
 mod words;
 
+pub use alone::games_alone;
 pub use codes::{read_code, read_codes};
 pub use empty_record::nothing;
 pub use fault::Fault;

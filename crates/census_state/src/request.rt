@@ -64,6 +64,10 @@ pub enum Request {
     Merge,
     /// Writes all operations as one delta file.
     Delta,
+    /// Writes the blocks and claims of the games of these codes alone as one delta file.
+    DeltaOf {
+        codes: Vec<Vec<u8>>,
+    },
     /// The nim-value of a position, and who wins it.
     Value {
         code: Vec<u8>,

@@ -1,4 +1,3 @@
 mod Asked
 mod Outcomes
 mod Shelves
-mod Telling

@@ -3,14 +3,14 @@ use Rattle.std.specs.Prelude.{List, [], ◌∷◌, Result, Ok}
 use Rattle.std.specs.List.{flat_map}
 use Rattle.oct_code.specs.Code.{Code}
 use Rattle.oct_delta.specs.Text.{Bytes}
-use Rattle.oct_ops.specs.Operations.{Operations, empty, listed, union}
+use Rattle.oct_ops.specs.Operations.{Operations, listed}
 use Rattle.oct_pages.specs.Catalogue as catalogue
 use Rattle.oct_text.specs.Words.{Text}
-use Rattle.oct_store.specs.Summary.{of_game}
 use Rattle.oct_overview.specs.Overview.{told}
 use Rattle.oct_sheet.specs.Sheet.{game_sheet, names_of}
 use Rattle.oct_text.specs.declared.form.Form.{Form}
 use Rattle.oct_text.specs.declared.told.Told.{Told}
+use Rattle.census_state.specs.Alone.{only_of}
 use Rattle.census_state.specs.Codes.{codes_of}
 use Rattle.census_tell.specs.Questions.{shown_in}
 use Rattle.census_state.specs.Replies.{Answer, text_alone}
@@ -26,11 +26,6 @@ named_or (c ∷ named) all = c ∷ named
 
 abbrev pub games_in : Operations → List Code → Told → Form → Text
 games_in ops named what form = flat_map (λ c. told what form (names_of (listed ops)) (game_sheet (listed ops) c)) (named_or named (catalogue.games (listed ops)))
-
--- the blocks and claims of these games
-abbrev pub only_of : List Code → Operations → Operations
-only_of [] ops = empty
-only_of (c ∷ named) ops = union (of_game ops c) (only_of named ops)
 
 -- ---- the commands
 

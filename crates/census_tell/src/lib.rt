@@ -2,7 +2,7 @@
 //!
 //! - `answer` answers a `Question` about one game, and `page` shows one page of the catalogue.
 //! - `show` gives a view of all that is known, and `show_only` one of some games. `games` tells of games, a line for each.
-//! - `write_site` puts the files of a site on a `Shelf`, one game in memory at a time.
+//! - `write_site` puts the files of a site into a `Folder`, one game in memory at a time.
 #![tactic(auto)]
 
 mod asking;
@@ -14,5 +14,5 @@ mod viewing;
 
 pub use asking::{Question, answer, page};
 pub use overview::{games, show_only};
-pub use site::{Shelf, write_site};
+pub use site::{Folder, write_site};
 pub use viewing::show;

@@ -1,16 +1,14 @@
 //! The commands that tell of games, and that show some of them alone.
 
-ghost use Rattle.std.specs.Prelude.{◌≡◌, ◌≢◌, Ok, Err, IfOk, IfErr, OnOk, map};
-ghost use Rattle.oct_ops.specs.Operations.{listed, union};
+ghost use Rattle.std.specs.Prelude.{◌≡◌, ◌≢◌, Ok, Err, IfOk, IfErr, map};
+ghost use Rattle.oct_ops.specs.Operations.{listed};
 ghost use Rattle.oct_pages.specs.Catalogue as catalogue;
-ghost use Rattle.oct_store.specs.Summary as summary;
-ghost use Rattle.census_tell.specs.Overview.{games, games_in, named_or, only, only_of};
+ghost use Rattle.census_tell.specs.Overview.{games, games_in, named_or, only};
 ghost use Rattle.census_state.specs.Replies.{answer_of};
 
 use crate::viewing::view_text;
-use census_state::{Fault, Reply, View, load, nothing, read_codes};
+use census_state::{Fault, Reply, View, games_alone, load, read_codes};
 use oct_code::Code;
-use oct_join::OpSet;
 use oct_overview::write_overview;
 use oct_pages::codes_of;
 use oct_record::Record;
@@ -67,42 +65,7 @@ pub fn show_only(alloc: Global, state: &[u8], words: &[Vec<u8>], view: View) -> 
 {
     let held = load(alloc, state)?;
     let named = read_codes(alloc, words)?;
-    let part = part_of(alloc, &held, &named)?;
+    let part = games_alone(alloc, &held, &named)?;
     let text = view_text(alloc, &part, view)?;
     Ok(Reply::text_alone(text))
-}
-
-// A record of the blocks and claims of these games alone, which it shares.
-fn part_of(
-    alloc: Global,
-    held: &Record<Global>,
-    named: &[Code],
-) -> Result<Record<Global>, AllocError>
-    ensures { IfOk result (λ part. part.ops ≡ only_of named.now held.now.ops) }
-{
-    let mut part = nothing(alloc);
-    for code in named {
-        take_game(&mut part, held, *code)?;
-    }
-    Ok(part)
-}
-
-// Takes in the blocks and claims of a game, which both then share.
-fn take_game(part: &mut Record<Global>, held: &Record<Global>, code: Code) -> Result<(), AllocError>
-    ensures { OnOk result (part.new.ops ≡ union part.old.ops (summary.of_game held.now.ops code)) }
-{
-    match held.game(code) {
-        Some(ops) => share_all(part, ops),
-        None => Ok(()),
-    }
-}
-
-// Takes in all of a set, which both then share.
-fn share_all(part: &mut Record<Global>, ops: &OpSet<Global>) -> Result<(), AllocError>
-    ensures { OnOk result (part.new.ops ≡ union part.old.ops ops.now) }
-{
-    for op in ops.iter_shared() {
-        part.share(op)?;
-    }
-    Ok(())
 }

@@ -25,7 +25,7 @@ use oct_views::{write_game_html, write_index, write_style};
 use std::alloc::Global;
 
 /// A place for files, as a folder is.
-pub trait Shelf {
+pub trait Folder {
     /// What becomes of the place by a file of this name and these bytes.
     ghost puts: { Self → List ℕ → List ℕ → Self → Type 0 };
 
@@ -34,172 +34,172 @@ pub trait Shelf {
         ensures { OnOk result (puts self.old name.now bytes.now self.new) };
 }
 
-/// Puts the files of the site of a state on the shelf, as `specs/Site` says which: each once, the index last.
+/// Puts the files of the site of a state into the folder, as `specs/Site` says which: each once, the index last.
 /// The games are built one after another, and each is let go before the next. The fault is that of the state, before any
-/// file is put there; else it is that of the shelf, or `OutOfMemory`.
-pub fn write_site<S: Shelf>(alloc: Global, state: &[u8], shelf: &mut S) -> Result<(), Fault>
-    ensures ok { OnOk result (IsSite S.puts state.now shelf.old shelf.new) }
-    ensures unread { IfErr (site_of state.now) (λ e. shelf.new ≡ shelf.old) }
+/// file is put there; else it is that of the folder, or `OutOfMemory`.
+pub fn write_site<S: Folder>(alloc: Global, state: &[u8], folder: &mut S) -> Result<(), Fault>
+    ensures ok { OnOk result (IsSite S.puts state.now folder.old folder.new) }
+    ensures unread { IfErr (site_of state.now) (λ e. folder.new ≡ folder.old) }
 {
     let held = load(alloc, state)?;
-    put_site(alloc, &held, shelf)
+    put_site(alloc, &held, folder)
 }
 
 // Puts all files of the site there.
-fn put_site<S: Shelf>(alloc: Global, held: &Record<Global>, shelf: &mut S) -> Result<(), Fault>
-    ensures { OnOk result (Filled S.puts shelf.old (site (sheet (listed held.now.ops))) shelf.new) }
+fn put_site<S: Folder>(alloc: Global, held: &Record<Global>, folder: &mut S) -> Result<(), Fault>
+    ensures { OnOk result (Filled S.puts folder.old (site (sheet (listed held.now.ops))) folder.new) }
 {
-    shelf.put(b"census-site", b"census site 1\n")?;
-    put_style(alloc, shelf)?;
+    folder.put(b"census-site", b"census site 1\n")?;
+    put_style(alloc, folder)?;
     let names = naming_notes(held)?;
     let mut rows = Vec::new(alloc);
-    put_games(alloc, held, &names, &mut rows, shelf)?;
-    put_index(alloc, held, &rows, shelf)
+    put_games(alloc, held, &names, &mut rows, folder)?;
+    put_index(alloc, held, &rows, folder)
 }
 
 // Puts the style sheet there.
-fn put_style<S: Shelf>(alloc: Global, shelf: &mut S) -> Result<(), Fault>
-    ensures { OnOk result (S.puts shelf.old style.name style.bytes shelf.new) }
+fn put_style<S: Folder>(alloc: Global, folder: &mut S) -> Result<(), Fault>
+    ensures { OnOk result (S.puts folder.old style.name style.bytes folder.new) }
 {
     let mut bytes = Vec::new(alloc);
     write_style(&mut bytes)?;
-    shelf.put(b"style.css", &bytes)
+    folder.put(b"style.css", &bytes)
 }
 
 // Puts the files of all games there, and adds their summaries.
-fn put_games<S: Shelf>(
+fn put_games<S: Folder>(
     alloc: Global,
     held: &Record<Global>,
     names: &[&Op<Global>],
     rows: &mut Vec<Summary>,
-    shelf: &mut S,
+    folder: &mut S,
 ) -> Result<(), Fault>
     ensures rows { OnOk result (rows.new.items ≡ rows.old.items ++ map summary_of (sheet (listed held.now.ops)).games) }
-    ensures put { OnOk result (Filled S.puts shelf.old (flat_map (files_of (map (λ op. op.now) names.now)) (sheet (listed held.now.ops)).games) shelf.new) }
+    ensures put { OnOk result (Filled S.puts folder.old (flat_map (files_of (map (λ op. op.now) names.now)) (sheet (listed held.now.ops)).games) folder.new) }
 {
     let games = held.games();
     prove!(games.len() <= usize::MAX);
     for (code, ops) in games.iter() {
-        put_game(alloc, held, *code, ops, names, rows, shelf)?;
+        put_game(alloc, held, *code, ops, names, rows, folder)?;
     }
     Ok(())
 }
 
 // Puts the files of a game with these operations there, and adds its summary.
-fn put_game<S: Shelf>(
+fn put_game<S: Folder>(
     alloc: Global,
     held: &Record<Global>,
     code: Code,
     ops: &OpSet<Global>,
     names: &[&Op<Global>],
     rows: &mut Vec<Summary>,
-    shelf: &mut S,
+    folder: &mut S,
 ) -> Result<(), Fault>
     requires { ops.now ≡ summary.of_game held.now.ops code }
     ensures rows { OnOk result (rows.new.items ≡ rows.old.items ++ summary_of (game_sheet (listed held.now.ops) code) ∷ []) }
-    ensures put { OnOk result (Filled S.puts shelf.old (files_of (map (λ op. op.now) names.now) (game_sheet (listed held.now.ops) code)) shelf.new) }
+    ensures put { OnOk result (Filled S.puts folder.old (files_of (map (λ op. op.now) names.now) (game_sheet (listed held.now.ops) code)) folder.new) }
 {
     let game = game_of(held, code)?;
     let sheet = GameSheet::of_game(alloc, &game, ops)?;
     Summary::add(rows, &sheet)?;
-    put_sheet(alloc, &sheet, names, shelf)
+    put_sheet(alloc, &sheet, names, folder)
 }
 
 // Puts the files of a game there.
-fn put_sheet<S: Shelf>(
+fn put_sheet<S: Folder>(
     alloc: Global,
     game: &GameSheet<'_, Global>,
     names: &[&Op<Global>],
-    shelf: &mut S,
+    folder: &mut S,
 ) -> Result<(), Fault>
-    ensures { OnOk result (Filled S.puts shelf.old (files_of (map (λ op. op.now) names.now) (game_content game.now)) shelf.new) }
+    ensures { OnOk result (Filled S.puts folder.old (files_of (map (λ op. op.now) names.now) (game_content game.now)) folder.new) }
 {
-    put_picture(alloc, game, shelf)?;
-    put_bfile(alloc, game, shelf)?;
-    put_json(alloc, game, shelf)?;
-    put_html(alloc, game, names, shelf)
+    put_picture(alloc, game, folder)?;
+    put_bfile(alloc, game, folder)?;
+    put_json(alloc, game, folder)?;
+    put_html(alloc, game, names, folder)
 }
 
 // Puts the picture of a game there.
-fn put_picture<S: Shelf>(
+fn put_picture<S: Folder>(
     alloc: Global,
     game: &GameSheet<'_, Global>,
-    shelf: &mut S,
+    folder: &mut S,
 ) -> Result<(), Fault>
-    ensures { OnOk result (S.puts shelf.old (picture_of (game_content game.now)).name (picture_of (game_content game.now)).bytes shelf.new) }
+    ensures { OnOk result (S.puts folder.old (picture_of (game_content game.now)).name (picture_of (game_content game.now)).bytes folder.new) }
 {
     let mut bytes = Vec::new(alloc);
     write_plot(&game.code, game.values, &game.proved, &mut bytes)?;
-    put_named(alloc, &game.code, b".svg", &bytes, shelf)
+    put_named(alloc, &game.code, b".svg", &bytes, folder)
 }
 
 // Puts the b-file of a game there.
-fn put_bfile<S: Shelf>(
+fn put_bfile<S: Folder>(
     alloc: Global,
     game: &GameSheet<'_, Global>,
-    shelf: &mut S,
+    folder: &mut S,
 ) -> Result<(), Fault>
-    ensures { OnOk result (S.puts shelf.old (bfile_of (game_content game.now)).name (bfile_of (game_content game.now)).bytes shelf.new) }
+    ensures { OnOk result (S.puts folder.old (bfile_of (game_content game.now)).name (bfile_of (game_content game.now)).bytes folder.new) }
 {
     let mut bytes = Vec::new(alloc);
     write_bfile(game.values, &mut bytes)?;
-    put_named(alloc, &game.code, b".txt", &bytes, shelf)
+    put_named(alloc, &game.code, b".txt", &bytes, folder)
 }
 
 // Puts the JSON document of a game there.
-fn put_json<S: Shelf>(
+fn put_json<S: Folder>(
     alloc: Global,
     game: &GameSheet<'_, Global>,
-    shelf: &mut S,
+    folder: &mut S,
 ) -> Result<(), Fault>
-    ensures { OnOk result (S.puts shelf.old (json_of (game_content game.now)).name (json_of (game_content game.now)).bytes shelf.new) }
+    ensures { OnOk result (S.puts folder.old (json_of (game_content game.now)).name (json_of (game_content game.now)).bytes folder.new) }
 {
     let mut bytes = Vec::new(alloc);
     write_game_json(alloc, game, &mut bytes)?;
     bytes.extend_from_slice(b"\n")?;
-    put_named(alloc, &game.code, b".json", &bytes, shelf)
+    put_named(alloc, &game.code, b".json", &bytes, folder)
 }
 
 // Puts the HTML of a game there.
-fn put_html<S: Shelf>(
+fn put_html<S: Folder>(
     alloc: Global,
     game: &GameSheet<'_, Global>,
     names: &[&Op<Global>],
-    shelf: &mut S,
+    folder: &mut S,
 ) -> Result<(), Fault>
-    ensures { OnOk result (S.puts shelf.old (html_of (map (λ op. op.now) names.now) (game_content game.now)).name (html_of (map (λ op. op.now) names.now) (game_content game.now)).bytes shelf.new) }
+    ensures { OnOk result (S.puts folder.old (html_of (map (λ op. op.now) names.now) (game_content game.now)).name (html_of (map (λ op. op.now) names.now) (game_content game.now)).bytes folder.new) }
 {
     let mut bytes = Vec::new(alloc);
     write_game_html(names, game, &mut bytes)?;
-    put_named(alloc, &game.code, b".html", &bytes, shelf)
+    put_named(alloc, &game.code, b".html", &bytes, folder)
 }
 
 // Puts a file there whose name is a code and this end.
-fn put_named<S: Shelf>(
+fn put_named<S: Folder>(
     alloc: Global,
     code: &Code,
     end: &[u8],
     bytes: &[u8],
-    shelf: &mut S,
+    folder: &mut S,
 ) -> Result<(), Fault>
-    ensures { OnOk result (S.puts shelf.old (code_text code.now ++ end.now) bytes.now shelf.new) }
+    ensures { OnOk result (S.puts folder.old (code_text code.now ++ end.now) bytes.now folder.new) }
 {
     let mut name = Vec::new(alloc);
     code.append_text(&mut name)?;
     name.extend_from_slice(end)?;
-    shelf.put(&name, bytes)
+    folder.put(&name, bytes)
 }
 
 // Puts the index of all games of these summaries there.
-fn put_index<S: Shelf>(
+fn put_index<S: Folder>(
     alloc: Global,
     held: &Record<Global>,
     rows: &[Summary],
-    shelf: &mut S,
+    folder: &mut S,
 ) -> Result<(), Fault>
-    ensures { OnOk result (S.puts shelf.old (codes "index.html") (index_by rows.now (sheet (listed held.now.ops))) shelf.new) }
+    ensures { OnOk result (S.puts folder.old (codes "index.html") (index_by rows.now (sheet (listed held.now.ops))) folder.new) }
 {
     let mut bytes = Vec::new(alloc);
     write_index(held, rows, &mut bytes)?;
-    shelf.put(b"index.html", &bytes)
+    folder.put(b"index.html", &bytes)
 }

@@ -1,10 +1,27 @@
-//! What is asked of a value that is let go with the answer, and fixtures.
+//! What is asked of an answer, and fixtures. A test whose every question is a call of `check` or `check_equal` has one path for
+//! its proof, where each `assert!` would be another one.
 
 use oct_code::Code;
 use oct_delta::{DeltaError, OpList, decode};
 use oct_ops::Dot;
 use std::alloc::Allocator;
+use std::fmt::Debug;
 use std::process::Abort;
+
+/// The fact holds, of what is named.
+pub(crate) fn check(rt: &impl Abort, holds: bool, name: impl Debug + Drop) {
+    assert!(rt; holds, "{name:?}");
+}
+
+/// The answer is the wanted one, of what is named.
+pub(crate) fn check_equal<T: PartialEq + Debug + Drop>(
+    rt: &impl Abort,
+    answer: T,
+    wanted: T,
+    name: impl Debug + Drop,
+) {
+    assert_eq!(rt; answer, wanted, "{name:?}");
+}
 
 /// Whether the value is the other one.
 pub(crate) fn is_equal<T: PartialEq + Drop>(value: T, other: &T) -> bool {

@@ -1,6 +1,6 @@
 //! Clocks that are raised, read, joined and gathered.
 
-use crate::answers::dot;
+use crate::answers::{check, check_equal, dot};
 use metered::Metered;
 use oct_join::{Clock, Join, gather};
 use std::alloc::{Allocator, Global};
@@ -28,16 +28,17 @@ fn raise<A: Allocator>(
     let count = clock.entries().len();
     heap.arm(0);
     if clock.raise(author, number).is_ok() {
-        assert!(rt; count > 0, "({author}, {number}) took no memory");
+        check(rt, count > 0, ("took no memory", author, number));
         return;
     }
     let left = (clock.entries().len(), clock.through(author));
-    assert_eq!(rt; left, (count, 0), "({author}, {number}) was refused");
+    check_equal(rt, left, (count, 0), ("was refused", author, number));
     heap.arm(1);
     let is_raised = clock.raise(author, number).is_ok();
-    assert!(rt;
+    check(
+        rt,
         is_raised,
-        "({author}, {number}) took more than one request"
+        ("took more than one request", author, number),
     );
 }
 
@@ -56,9 +57,19 @@ fn raise_all<A: Allocator>(
 fn keeps_greater_numbers<A: Allocator>(rt: &impl Abort, heap: &Metered<Global>, alloc: A) {
     let mut clock = Clock::new(alloc);
     raise_all(rt, heap, &mut clock, &[(7, 4), (2, 9), (7, 3), (5, 0)]);
-    assert_eq!(rt; clock.entries(), [(2, 9), (7, 4)].as_slice());
+    check_equal(
+        rt,
+        clock.entries(),
+        [(2, 9), (7, 4)].as_slice(),
+        "the entries",
+    );
     raise_all(rt, heap, &mut clock, &[(7, u32::MAX)]);
-    assert_eq!(rt; (clock.through(7), clock.through(5)), (u32::MAX, 0));
+    check_equal(
+        rt,
+        (clock.through(7), clock.through(5)),
+        (u32::MAX, 0),
+        "the numbers of authors 7 and 5",
+    );
 }
 
 #[test]
@@ -102,20 +113,25 @@ const COVERED: &[Covered] = &[
 fn takes_no_memory<A: Allocator>(rt: &impl Abort, heap: &Metered<Global>, alloc: A) {
     heap.arm(1_000);
     let mut clock = Clock::new(alloc);
-    assert_eq!(rt; heap.left(), 1_000, "requests left by an empty clock");
-    assert!(rt; clock.raise(5, 2).is_ok());
+    check_equal(rt, heap.left(), 1_000, "requests left by an empty clock");
+    check(rt, clock.raise(5, 2).is_ok(), "the entry is refused");
     heap.arm(1_000);
-    assert_eq!(rt; clock.entries(), [(5, 2)].as_slice());
-    assert_eq!(rt; (clock.through(5), clock.through(6)), (2, 0));
+    check_equal(rt, clock.entries(), [(5, 2)].as_slice(), "the entries");
+    check_equal(
+        rt,
+        (clock.through(5), clock.through(6)),
+        (2, 0),
+        "the numbers of authors 5 and 6",
+    );
     for &Covered {
         author,
         number,
         is_covered,
     } in COVERED {
         let answer = clock.covers(&dot(rt, author, number));
-        assert_eq!(rt; answer, is_covered, "({author}, {number})");
+        check_equal(rt, answer, is_covered, (author, number));
     }
-    assert_eq!(rt; heap.left(), 1_000, "requests left by the answers");
+    check_equal(rt, heap.left(), 1_000, "requests left by the answers");
 }
 
 #[test]
@@ -151,15 +167,12 @@ fn grows<A: Allocator>(
         };
         let entries = clock.entries();
         if grown.is_ok() {
-            assert!(rt; grants > 0, "{wanted:?} took no memory");
-            assert_eq!(rt; entries, wanted, "with {grants} requests");
+            check(rt, grants > 0, ("took no memory", wanted));
+            check_equal(rt, entries, wanted, ("requests", grants));
             return;
         }
         let is_between = is_below(held, entries) && is_below(entries, wanted);
-        assert!(rt;
-            is_between,
-            "{entries:?} on the way from {held:?} to {wanted:?}"
-        );
+        check(rt, is_between, ("not between", entries, held, wanted));
     }
     panic!(rt; "{wanted:?} is refused at ten requests");
 }
@@ -200,7 +213,7 @@ fn clock_of<A: Allocator>(
 ) -> Clock<A> {
     let mut clock = Clock::new(alloc);
     raise_all(rt, heap, &mut clock, entries);
-    assert_eq!(rt; clock.entries(), entries);
+    check_equal(rt, clock.entries(), entries, "the entries of a clock");
     clock
 }
 
@@ -210,7 +223,7 @@ fn comes_out<A: Allocator + Copy>(rt: &impl Abort, heap: &Metered<Global>, alloc
     for entries in case.others {
         let other = clock_of(rt, heap, alloc, entries);
         heap.arm(u64::MAX);
-        assert!(rt; clocks.push(other).is_ok());
+        check(rt, clocks.push(other).is_ok(), "a clock is not kept");
     }
     grows(rt, heap, &mut clock, &clocks, case);
 }

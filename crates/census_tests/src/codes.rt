@@ -1,6 +1,6 @@
 //! Codes that are read from text or made from digits, written and compared.
 
-use crate::answers::code;
+use crate::answers::{check, check_equal, code};
 use metered::Metered;
 use oct_code::{Code, CodeError, DigitsError};
 use std::alloc::{Allocator, Global};
@@ -20,11 +20,11 @@ fn is_appended<A: Allocator>(
     for grants in 0..10u64 {
         heap.arm(grants);
         if code.append_text(out).is_ok() {
-            assert!(rt; grants > 0, "{text} took no memory");
-            assert_eq!(rt; out.as_slice(), after.as_bytes(), "{text}");
+            check(rt, grants > 0, ("took no memory", text));
+            check_equal(rt, out.as_slice(), after.as_bytes(), text);
             return;
         }
-        assert_eq!(rt; out.len(), count, "{text} was refused");
+        check_equal(rt, out.len(), count, ("was refused", text));
     }
     panic!(rt; "{text} is refused at ten requests");
 }
@@ -107,7 +107,7 @@ fn texts_are_refused_or_read_and_written(rt: HostRuntime) {
         is_written(&rt, &heap, &heap, text, before, after);
     }
     for &(text, fault) in REFUSED {
-        assert_eq!(rt; Code::parse(text.as_bytes()).err(), Some(fault), "{text}");
+        check_equal(&rt, Code::parse(text.as_bytes()).err(), Some(fault), text);
     }
 }
 
@@ -147,18 +147,23 @@ fn digits_are_read_or_refused(rt: HostRuntime) {
     let code = Code::from_digits(0, &[1, 3, 7])
         .ok()
         .expect(&rt, "the code 0.137");
-    assert_eq!(rt; (code.head(), code.len()), (0, 3));
-    assert_eq!(rt; code.digits(), [1, 3, 7].as_slice());
-    assert_eq!(rt; (code.digit(0), code.digit(2), code.digit(4)), (0, 3, 0));
+    check_equal(&rt, (code.head(), code.len()), (0, 3), "head and length");
+    check_equal(&rt, code.digits(), [1, 3, 7].as_slice(), "digits");
+    check_equal(
+        &rt,
+        (code.digit(0), code.digit(2), code.digit(4)),
+        (0, 3, 0),
+        "the digits 0, 2 and 4",
+    );
     let allowed = (code.allows(2, 1), code.allows(2, 2), code.allows(3, 2));
-    assert_eq!(rt; allowed, (true, false, true));
+    check_equal(&rt, allowed, (true, false, true), "what is allowed");
     for &RefusedDigits {
         head,
         digits,
         fault,
     } in REFUSED_DIGITS {
         let refused = Code::from_digits(head, digits).err();
-        assert!(rt; refused == Some(fault), "{head} and {digits:?}");
+        check(&rt, refused == Some(fault), (head, digits));
     }
 }
 
@@ -170,9 +175,6 @@ fn codes_are_ordered(rt: HostRuntime) {
     for at in 1..RISING.len() {
         let (text, next) = (RISING[at - 1], RISING[at]);
         let (low, high) = (code(&rt, text), code(&rt, next));
-        assert!(rt;
-            low < high && high > low && low != high,
-            "{text} and {next}"
-        );
+        check(&rt, low < high && high > low && low != high, (text, next));
     }
 }

@@ -1,6 +1,6 @@
 //! Deltas and clocks as bytes: worked texts, what else is read, and what a call leaves where memory is refused.
 
-use crate::answers::{fault_name, read};
+use crate::answers::{check, check_equal, fault_name, read};
 use crate::vectors::{
     BLOCK, CLAIMED, Delta, EARLY, FIRST, Item, KAYLES, LONG, NEW, OLD, OTHERS, REMOVED, SOME,
     many_notes,
@@ -13,8 +13,8 @@ use oct_delta::{
 use oct_join::Clock;
 use oct_ops::{Body, Op};
 use std::alloc::{Allocator, Global};
+use std::mem;
 use std::process::Abort;
-use std::test::Fail;
 
 // The first block in the new format.
 const RENAMED: Delta<'static> = Delta {
@@ -51,51 +51,56 @@ pub(crate) fn is_refused<A: Allocator + Copy>(
         Ok(_) => "read",
         Err(refused) => fault_name(refused),
     };
-    assert_eq!(rt; refused, fault_name(fault), "of {bytes:?}");
+    check_equal(rt, refused, fault_name(fault), ("of", bytes));
 }
 
 // What the bytes spell is written as the text.
 fn writes(rt: &impl Abort, alloc: Global, bytes: &[u8], text: &[u8]) {
     let list = read(rt, alloc, bytes);
     let mut out = Vec::new(alloc);
-    assert!(rt;
+    check(
+        rt,
         encode(&list, &mut out).is_ok(),
-        "{bytes:?} are not written"
+        ("are not written", bytes),
     );
-    assert_eq!(rt; out.as_slice(), text);
+    check_equal(rt, out.as_slice(), text, "the bytes that are written");
 }
 
 // The operation is that of the first block.
 fn is_first(rt: &impl Abort, op: &Op<Global>) {
     let dot = op.dot();
-    assert_eq!(rt; (dot.author(), dot.number()), (1, 1));
+    check_equal(rt, (dot.author(), dot.number()), (1, 1), "the dot");
     match op.body() {
         Body::Block(block) => {
             let code = block.code();
-            assert_eq!(rt; (code.head(), block.start()), (0, 0));
-            assert_eq!(rt; code.digits(), [7, 7].as_slice());
-            assert_eq!(rt; block.values(), [0, 1, 2, 3, 1].as_slice());
+            check_equal(
+                rt,
+                (code.head(), block.start()),
+                (0, 0),
+                "the head and the start",
+            );
+            check_equal(rt, code.digits(), [7, 7].as_slice(), "the digits");
+            check_equal(rt, block.values(), [0, 1, 2, 3, 1].as_slice(), "the values");
         }
         _ => panic!(rt; "no block"),
     }
 }
 
 #[test]
-fn worked_texts_of_both_formats_are_read_and_written_back(rt: HostRuntime) -> Result<(), Fail> {
+fn worked_texts_of_both_formats_are_read_and_written_back(rt: HostRuntime) {
     let alloc = rt.alloc();
-    let first = FIRST.bytes(alloc)?;
+    let first = FIRST.bytes(&rt);
     match read(&rt, alloc, &first).as_slice() {
         [op] => is_first(&rt, op),
         ops => panic!(rt; "{} operations", ops.len()),
     }
-    writes(&rt, alloc, &RENAMED.bytes(alloc)?, &first);
-    is_refused(&rt, alloc, &LATE_IN_OLD.bytes(alloc)?, DeltaError::Refused);
-    is_refused(&rt, alloc, &PAST_LIMIT.bytes(alloc)?, DeltaError::Refused);
+    writes(&rt, alloc, &RENAMED.bytes(&rt), &first);
+    is_refused(&rt, alloc, &LATE_IN_OLD.bytes(&rt), DeltaError::Refused);
+    is_refused(&rt, alloc, &PAST_LIMIT.bytes(&rt), DeltaError::Refused);
     for delta in SOME.iter().chain(OTHERS).chain(&[("late", LATE)]) {
-        let text = delta.1.bytes(alloc)?;
+        let text = delta.1.bytes(&rt);
         writes(&rt, alloc, &text, &text);
     }
-    Ok(())
 }
 
 // The bytes after the tag.
@@ -111,42 +116,55 @@ fn is_refused_or_written(rt: &impl Abort, alloc: Global, bytes: &[u8], written: 
     match decode(alloc, bytes) {
         Ok(list) => {
             written.clear();
-            assert!(rt; encode(&list, written).is_ok(), "{bytes:?} are not written");
-            assert!(rt;
-                written.starts_with(OLD),
-                "{bytes:?} are written as {written:?}"
+            check(
+                rt,
+                encode(&list, written).is_ok(),
+                ("are not written", bytes),
             );
-            assert_eq!(rt; after_tag(written), after_tag(bytes));
+            check(
+                rt,
+                written.starts_with(OLD),
+                ("are written in the new format", bytes),
+            );
+            check_equal(
+                rt,
+                after_tag(written),
+                after_tag(bytes),
+                ("after the tag", bytes),
+            );
         }
         Err(refused) => {
             let is_no_delta = refused == DeltaError::Version || refused == DeltaError::Refused;
-            assert!(rt; is_no_delta, "{bytes:?}: {}", fault_name(refused));
+            check(rt, is_no_delta, (bytes, fault_name(refused)));
         }
+    }
+}
+
+// Puts the byte there, and gives the one that was there.
+fn put_byte(text: &mut [u8], place: usize, byte: u8) -> u8 {
+    match text.get_mut(place) {
+        Some(held) => mem::replace(held, byte),
+        None => byte,
     }
 }
 
 // That is so where one byte of the text is any other.
-fn is_spelled_in_one_way(rt: &impl Abort, alloc: Global, text: &[u8]) -> Result<(), Fail> {
+fn is_spelled_in_one_way(rt: &impl Abort, alloc: Global, mut text: Vec<u8>) {
     let mut written = Vec::new(alloc);
     for place in 0..text.len() {
         for byte in 0..=u8::MAX {
-            let mut bytes = text.to_vec(alloc)?;
-            if let Some(changed) = bytes.get_mut(place) {
-                *changed = byte;
-            }
-            is_refused_or_written(rt, alloc, &bytes, &mut written);
+            let held = put_byte(&mut text, place, byte);
+            is_refused_or_written(rt, alloc, &text, &mut written);
+            put_byte(&mut text, place, held);
         }
     }
-    Ok(())
 }
 
 #[test]
-fn changed_bytes_are_refused_or_written_back(rt: HostRuntime) -> Result<(), Fail> {
-    let alloc = rt.alloc();
+fn changed_bytes_are_refused_or_written_back(rt: HostRuntime) {
     for delta in &[FIRST, CLAIMED, EARLY, REMOVED] {
-        is_spelled_in_one_way(&rt, alloc, &delta.bytes(alloc)?)?;
+        is_spelled_in_one_way(&rt, rt.alloc(), delta.bytes(&rt));
     }
-    Ok(())
 }
 
 /// What is written as bytes.
@@ -156,27 +174,19 @@ enum Written<A: Allocator> {
     Clock(Clock<A>),
 }
 
-/// Why bytes are read as neither.
-#[derive(Clone, Copy, PartialEq, Eq, Debug)]
-enum Fault {
-    Refused,
-    OutOfMemory,
-}
-
 impl<A: Allocator + Copy> Written<A> {
-    // Reads the bytes of a clock, or those of a delta.
-    fn read(alloc: A, text: &[u8], is_clock: bool) -> Result<Written<A>, Fault> {
+    // Reads the bytes of a clock, or those of a delta, and gives the name of the fault where they are neither.
+    fn read(alloc: A, text: &[u8], is_clock: bool) -> Result<Written<A>, &'static str> {
         if is_clock {
             match decode_clock(alloc, text) {
                 Ok(clock) => Ok(Written::Clock(clock)),
-                Err(ClockError::OutOfMemory) => Err(Fault::OutOfMemory),
-                Err(ClockError::Refused) => Err(Fault::Refused),
+                Err(ClockError::OutOfMemory) => Err("out of memory"),
+                Err(ClockError::Refused) => Err("refused"),
             }
         } else {
             match decode(alloc, text) {
                 Ok(list) => Ok(Written::Delta(list)),
-                Err(DeltaError::OutOfMemory) => Err(Fault::OutOfMemory),
-                Err(_) => Err(Fault::Refused),
+                Err(fault) => Err(fault_name(fault)),
             }
         }
     }
@@ -202,10 +212,10 @@ fn read_again<A: Allocator + Copy>(
         heap.arm(grants);
         match Written::read(alloc, text, is_clock) {
             Ok(written) => {
-                assert!(rt; grants > 0, "{text:?} took no memory");
+                check(rt, grants > 0, ("took no memory", text));
                 return written;
             }
-            Err(fault) => assert_eq!(rt; fault, Fault::OutOfMemory, "of {text:?}"),
+            Err(fault) => check_equal(rt, fault, "out of memory", ("of", text)),
         }
     }
     panic!(rt; "{text:?} are refused at a hundred requests")
@@ -223,19 +233,20 @@ fn writes_again<A: Allocator + Copy>(
     for grants in 0..100u64 {
         heap.arm(u64::MAX);
         let mut out = Vec::new(alloc);
-        assert!(rt; out.push(7).is_ok());
+        check(rt, out.push(7).is_ok(), "the first byte is refused");
         heap.arm(grants);
         let is_put = written.put(&mut out);
         let (seven, rest) = out.split_at(out.len().min(1));
-        assert_eq!(rt; seven, [7].as_slice(), "before {text:?}");
+        check_equal(rt, seven, [7].as_slice(), ("before", text));
         if is_put {
-            assert!(rt; grants > 0, "{text:?} took no memory");
-            assert_eq!(rt; rest, text);
+            check(rt, grants > 0, ("took no memory", text));
+            check_equal(rt, rest, text, "the bytes that are written");
             return;
         }
-        assert!(rt;
+        check(
+            rt,
             rest.is_empty(),
-            "{rest:?} of {text:?} with {grants} requests"
+            ("after refused requests", text, grants),
         );
     }
     panic!(rt; "{text:?} are refused at a hundred requests");
@@ -255,15 +266,13 @@ fn reads_and_writes_again<A: Allocator + Copy>(
 }
 
 #[test]
-fn refused_texts_are_read_and_written_again(rt: HostRuntime) -> Result<(), Fail> {
+fn refused_texts_are_read_and_written_again(rt: HostRuntime) {
     let heap = Metered::new(rt.alloc());
-    let alloc = rt.alloc();
     for (_, delta) in SOME {
-        reads_and_writes_again(&rt, &heap, &heap, &delta.bytes(alloc)?, false);
+        reads_and_writes_again(&rt, &heap, &heap, &delta.bytes(&rt), false);
     }
-    reads_and_writes_again(&rt, &heap, &heap, &LONG.bytes(alloc)?, false);
-    reads_and_writes_again(&rt, &heap, &heap, &many_notes(alloc)?, false);
-    Ok(())
+    reads_and_writes_again(&rt, &heap, &heap, &LONG.bytes(&rt), false);
+    reads_and_writes_again(&rt, &heap, &heap, &many_notes(&rt), false);
 }
 
 // The clock {2 at 1}, and one of five authors.
@@ -289,7 +298,12 @@ fn refused_clocks_are_read_and_written_again(rt: HostRuntime) {
     let heap = Metered::new(rt.alloc());
     for &(text, entries) in CLOCKS {
         match reads_and_writes_again(&rt, &heap, &heap, text, true) {
-            Written::Clock(clock) => assert_eq!(rt; clock.entries(), entries),
+            Written::Clock(clock) => check_equal(
+                &rt,
+                clock.entries(),
+                entries,
+                "the entries of the clock",
+            ),
             Written::Delta(_) => panic!(rt; "{text:?} are a delta"),
         }
     }
@@ -301,9 +315,10 @@ fn changed_clocks_are_refused(rt: HostRuntime) {
         let mut text = CLOCK;
         text[place] = byte;
         let refused = decode_clock(rt.alloc(), &text).err();
-        assert!(rt;
+        check(
+            &rt,
             refused == Some(ClockError::Refused),
-            "byte {place} is {byte}"
+            ("place and byte", place, byte),
         );
     }
 }
@@ -318,11 +333,18 @@ const FIELDS: &[u8] = &[
 ];
 
 #[test]
-fn fields_are_spelled(rt: HostRuntime) -> Result<(), Fail> {
+fn fields_are_spelled(rt: HostRuntime) {
     let mut out = Vec::new(rt.alloc());
-    put_bytes(&mut out, b"OGS1")?;
-    put_u32(&mut out, 258)?;
-    assert!(rt; put_entries(&mut out, &[(1, 3), (2, 65_536)]).is_ok());
-    assert_eq!(rt; out.as_slice(), FIELDS);
-    Ok(())
+    check(
+        &rt,
+        put_bytes(&mut out, b"OGS1").is_ok(),
+        "the tag is not put",
+    );
+    check(&rt, put_u32(&mut out, 258).is_ok(), "the number is not put");
+    check(
+        &rt,
+        put_entries(&mut out, &[(1, 3), (2, 65_536)]).is_ok(),
+        "the entries are not put",
+    );
+    check_equal(&rt, out.as_slice(), FIELDS, "the fields");
 }

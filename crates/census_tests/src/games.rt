@@ -5,7 +5,7 @@ mod cases;
 
 ghost use Rattle.std.specs.Prelude.{◌≡◌};
 
-use crate::answers::{code, dot};
+use crate::answers::{check, check_equal, code, dot};
 use crate::ledgers::{block, told};
 use cases::{Answer, Case, Item, LONGER, TURNS};
 use metered::Metered;
@@ -95,18 +95,14 @@ fn is_said<A: Allocator + Copy>(
         Item::Block(number, start, values, said) => {
             let block = block(alloc, game.code(), start, values).expect(rt, "a block");
             let status = status_of(alloc, game, dot(rt, 1, number), block);
-            assert_eq!(rt; told(status), told(Some(said)), "block {number} at {start}");
-            assert_eq!(rt; heap.left(), 998, "requests left by block {number}");
+            check_equal(rt, told(status), told(Some(said)), ("block", number, start));
+            check_equal(rt, heap.left(), 998, ("requests left by block", number));
         }
         Item::Claim(number, start, length, said) => {
             let status = claim_status(rt, game, dot(rt, 1, number), start, length);
             let wanted = Some(claim_told(said));
-            assert_eq!(rt;
-                status.map(claim_told),
-                wanted,
-                "claim {number} from {start}"
-            );
-            assert_eq!(rt; heap.left(), 1_000, "requests left by claim {number}");
+            check_equal(rt, status.map(claim_told), wanted, ("claim", number, start));
+            check_equal(rt, heap.left(), 1_000, ("requests left by claim", number));
         }
     }
 }
@@ -181,19 +177,22 @@ fn fill<A: Allocator + Copy>(
             let before = counts(game);
             heap.arm(grants);
             if is_added(rt, alloc, game, item) {
-                assert!(rt;
-                    is_there(game, item),
-                    "order {order:?}: an item is not there"
-                );
+                check(rt, is_there(game, item), ("an item is not there", order));
                 let held = counts(game);
                 heap.arm(grants);
-                assert!(rt;
+                check(
+                    rt,
                     is_added(rt, alloc, game, item),
-                    "order {order:?}: an item again"
+                    ("an item is refused again", order),
                 );
-                assert_eq!(rt; counts(game), held, "order {order:?}: an item twice");
+                check_equal(rt, counts(game), held, ("an item twice", order));
             } else {
-                assert_eq!(rt; counts(game), before, "order {order:?}, {grants} requests");
+                check_equal(
+                    rt,
+                    counts(game),
+                    before,
+                    ("order and requests", order, grants),
+                );
                 refused = true;
             }
         }
@@ -207,17 +206,23 @@ fn lists<A: Allocator + Copy>(rt: &impl Abort, game: &Game<A>, items: &[Item]) {
     let mut proved = None;
     for item in items {
         if let Item::Claim(_, _, _, said) = item {
-            assert_eq!(rt; claims.next().map(spelled), claim_of(item), "a claim");
+            check_equal(rt, claims.next().map(spelled), claim_of(item), "a claim");
             if *said == PeriodStatus::Proved && proved.is_none() {
                 proved = claim_of(item);
             }
         }
     }
-    assert_eq!(rt; claims.next().map(spelled), None, "a claim past the last");
-    assert_eq!(rt;
+    check_equal(
+        rt,
+        claims.next().map(spelled),
+        None,
+        "a claim past the last",
+    );
+    check_equal(
+        rt,
         game.proved_claim().map(|claim| spelled(&claim)),
         proved,
-        "the proved claim"
+        "the proved claim",
     );
 }
 
@@ -236,10 +241,10 @@ fn is_answer(
         Err(Unknown { index }) => Outcome::Unknown { index },
     };
     if heaps.len() == 1 {
-        assert_eq!(rt; first, wanted.ok(), "the heap {heaps:?}");
+        check_equal(rt, first, wanted.ok(), ("the heap", heaps));
     }
-    assert_eq!(rt; place(value), place(wanted), "the position {heaps:?}");
-    assert!(rt; who == winner, "who wins {heaps:?}");
+    check_equal(rt, place(value), place(wanted), ("the position", heaps));
+    check(rt, who == winner, ("who wins", heaps));
 }
 
 // A value, or the place of the heap that is not known.
@@ -288,22 +293,24 @@ fn is_settled<A: Allocator + Copy>(
     case: &Case,
 ) {
     let refused = fill(rt, heap, alloc, game, case, &IN_ORDER, u64::MAX);
-    assert!(rt; !refused, "an item is refused with memory");
+    check(rt, !refused, "an item is refused with memory");
     for item in case.items {
         is_said(rt, heap, alloc, game, item);
     }
     heap.arm(1_000);
     let ledger = game.ledger();
-    assert_eq!(rt;
+    check_equal(
+        rt,
         (ledger.known(), ledger.checks()),
-        (case.known, case.checks)
+        (case.known, case.checks),
+        "the known length and the comparisons",
     );
     for answer in case.answers {
         answers(rt, game, answer);
         answers_by(rt, game.ledger(), case, answer);
     }
     lists(rt, game, case.items);
-    assert_eq!(rt; heap.left(), 1_000, "requests that are left");
+    check_equal(rt, heap.left(), 1_000, "requests that are left");
 }
 
 // Fills a new game in this order, each time with so many requests granted, and then with memory. Says whether the requests
@@ -319,8 +326,8 @@ fn is_refused<A: Allocator + Copy>(
     let code = code(rt, case.code);
     heap.arm(1_000);
     let mut game = Game::new(alloc, code);
-    assert!(rt; game.code() == code, "another code");
-    assert_eq!(rt; heap.left(), 1_000, "requests left by a new game");
+    check(rt, game.code() == code, "another code");
+    check_equal(rt, heap.left(), 1_000, "requests left by a new game");
     let refused = fill(rt, heap, alloc, &mut game, case, order, grants);
     is_settled(rt, heap, alloc, &mut game, case);
     refused

@@ -2,7 +2,7 @@
 
 ghost use Rattle.std.specs.Prelude.{◌≡◌, IfSome};
 
-use crate::answers::{code, dot};
+use crate::answers::{check, check_equal, code, dot};
 use metered::Metered;
 use oct_code::Code;
 use oct_ops::{Block, Dot};
@@ -15,7 +15,7 @@ use std::process::Abort;
 const KAYLES: &[u32] = &[0, 1, 2, 3, 1, 4, 3, 2, 1, 4, 2, 6];
 
 /// A block of author 1.
-#[derive(Clone, Copy, Debug)]
+#[derive(Clone, Copy)]
 struct Row {
     number: u32,
     start: u32,
@@ -361,16 +361,17 @@ fn knows<A: Allocator + Copy>(
     case: usize,
 ) {
     let values = ledger.known_values();
-    assert_eq!(rt;
+    check_equal(
+        rt,
         (ledger.known(), ledger.checks()),
         (known, checks),
-        "case {case}"
+        ("case", case),
     );
-    assert_eq!(rt; values.len(), known as usize, "case {case}");
-    assert!(rt; KAYLES.starts_with(values), "case {case}: {values:?}");
+    check_equal(rt, values.len(), known as usize, ("case", case));
+    check(rt, KAYLES.starts_with(values), ("case", case, values));
     for heap in 0..13u32 {
         let value = values.get(heap as usize).copied();
-        assert_eq!(rt; ledger.value(heap), value, "case {case}, heap {heap}");
+        check_equal(rt, ledger.value(heap), value, ("case and heap", case, heap));
     }
 }
 
@@ -385,9 +386,9 @@ fn goes_on<A: Allocator + Copy>(
     for grants in 0..64u64 {
         heap.arm(grants);
         if let Ok(next) = ledger.next_values(count) {
-            assert!(rt; grants > 0, "case {case} took no memory");
-            assert_eq!(rt; next.len(), count as usize, "case {case}");
-            assert!(rt; KAYLES.ends_with(&next), "case {case}: {next:?}");
+            check(rt, grants > 0, ("took no memory", case));
+            check_equal(rt, next.len(), count as usize, ("case", case));
+            check(rt, KAYLES.ends_with(&next), ("case", case));
             return;
         }
     }
@@ -421,13 +422,14 @@ fn make<A: Allocator + Copy>(
     status(rt, alloc, ledger, row);
     heap.arm(1_002);
     let status = status(rt, alloc, ledger, row);
-    assert_eq!(rt;
+    check_equal(
+        rt,
         told(status),
         told(Some(said)),
-        "case {case}, block {row:?}"
+        ("case and block", case, row.number),
     );
     knows(rt, ledger, known, checks, case);
-    assert_eq!(rt; heap.left(), 1_000, "case {case}, requests that are left");
+    check_equal(rt, heap.left(), 1_000, ("requests left in case", case));
     goes_on(rt, heap, ledger, case);
     refused
 }
@@ -445,12 +447,12 @@ fn make_all<A: Allocator + Copy>(
     heap.arm(1_000);
     let mut ledger = Ledger::new(alloc, code);
     knows(rt, &ledger, 1, 0, case);
-    assert_eq!(rt; heap.left(), 1_000, "case {case}, requests that are left");
+    check_equal(rt, heap.left(), 1_000, ("requests left in case", case));
     let mut refused = false;
     for step in steps {
         refused |= make(rt, heap, alloc, &mut ledger, step, grants, case);
     }
-    assert!(rt; ledger.code() == code, "case {case} ends with another code");
+    check(rt, ledger.code() == code, ("another code in case", case));
     refused
 }
 
@@ -458,7 +460,7 @@ fn make_all<A: Allocator + Copy>(
 fn are_right(rt: &impl Abort, heap: &Metered<Global>, steps: &[Step], case: usize) {
     for grants in 0..64u64 {
         if !make_all(rt, heap, heap, steps, grants, case) {
-            assert!(rt; grants > 2, "case {case} took {grants} requests");
+            check(rt, grants > 2, ("case and requests", case, grants));
             return;
         }
     }

@@ -1,6 +1,6 @@
 //! Notes and removals: which notes are live, in whatever order they come, without memory and after each refusal of memory.
 
-use crate::answers::dot;
+use crate::answers::{check, check_equal, dot};
 use metered::Metered;
 use oct_join::Join;
 use oct_notes::Notes;
@@ -153,20 +153,12 @@ fn add<A: Allocator + Copy>(
     let before = notes.len();
     heap.arm(grants);
     let is_in = is_added(notes, op);
-    assert_eq!(rt;
-        notes.contains(op),
-        is_in,
-        "{name} is there, with {grants} requests"
-    );
+    check_equal(rt, notes.contains(op), is_in, ("is there", name, grants));
     if !is_in {
-        assert_eq!(rt;
-            notes.len(),
-            before,
-            "without {name}, with {grants} requests"
-        );
+        check_equal(rt, notes.len(), before, ("is not there", name, grants));
     }
     heap.arm(u64::MAX);
-    assert!(rt; is_added(notes, op), "{name} is refused with memory");
+    check(rt, is_added(notes, op), ("is refused with memory", name));
     !is_in
 }
 
@@ -180,25 +172,32 @@ fn goes<A: Allocator + Copy>(
 ) {
     let before = notes.len();
     heap.arm(1_000);
-    assert!(rt; is_added(notes, op), "{name} is refused where it is there");
-    assert!(rt; notes.contains(op), "{name} is not found");
-    assert!(rt; !notes.is_empty(), "nothing is there with {name}");
-    notes.take_back(op);
-    assert!(rt;
-        !notes.contains(op),
-        "{name} is found after it was taken back"
+    check(
+        rt,
+        is_added(notes, op),
+        ("is refused where it is there", name),
     );
-    assert_eq!(rt;
+    check(rt, notes.contains(op), ("is not found", name));
+    check(rt, !notes.is_empty(), ("nothing is there with", name));
+    notes.take_back(op);
+    check(
+        rt,
+        !notes.contains(op),
+        ("is found after it was taken back", name),
+    );
+    check_equal(
+        rt,
         notes.len().saturating_add(1),
         before,
-        "one less is there without {name}"
+        ("one less is there without", name),
     );
-    assert_eq!(rt;
+    check_equal(
+        rt,
         notes.is_empty(),
         before == 1,
-        "nothing is left without {name}"
+        ("nothing is left without", name),
     );
-    assert_eq!(rt; heap.left(), 1_000, "requests that are left");
+    check_equal(rt, heap.left(), 1_000, "requests that are left");
 }
 
 // Adds the operation of a letter, takes it back, and adds it again, with so many requests granted; or takes it back for good.
@@ -243,23 +242,24 @@ fn add_word<A: Allocator + Copy>(
 // This is the dot of the note of the letter.
 fn is_dot(rt: &impl Abort, dot: Dot, letter: u8, word: &str) {
     let NoteRow { author, number, .. } = row(letter);
-    assert_eq!(rt;
+    check_equal(
+        rt,
         (dot.author(), dot.number()),
         (author, number),
-        "a dot of {word}"
+        ("a dot of", word),
     );
 }
 
 // These are the notes of the word, in its order.
 fn are_notes<A: Allocator>(rt: &impl Abort, ops: &[Op<A>], word: &str) {
-    assert_eq!(rt; ops.len(), word.len(), "live notes of {word}");
+    check_equal(rt, ops.len(), word.len(), ("live notes of", word));
     for (op, letter) in ops.iter().zip(word.as_bytes()) {
         is_dot(rt, op.dot(), *letter, word);
         let NoteRow { name, text, .. } = row(*letter);
         match op.body() {
             Body::Note(note) => {
-                assert_eq!(rt; note.name(), name, "a name of {word}");
-                assert_eq!(rt; note.text(), text, "a text of {word}");
+                check_equal(rt, note.name(), name, ("a name of", word));
+                check_equal(rt, note.text(), text, ("a text of", word));
             }
             _ => panic!(rt; "no note among those of {word}"),
         }
@@ -268,7 +268,7 @@ fn are_notes<A: Allocator>(rt: &impl Abort, ops: &[Op<A>], word: &str) {
 
 // These are the dots of the notes of the word, in its order.
 fn are_dots(rt: &impl Abort, dots: &[Dot], word: &str) {
-    assert_eq!(rt; dots.len(), word.len(), "dots of {word}");
+    check_equal(rt, dots.len(), word.len(), ("dots of", word));
     for (dot, letter) in dots.iter().zip(word.as_bytes()) {
         is_dot(rt, *dot, *letter, word);
     }
@@ -302,7 +302,7 @@ fn reads<A: Allocator + Copy>(
             are_dots(rt, &dots, named);
             heap.arm(u64::MAX);
             let none = notes.live_dots(b"dawson").ok().expect(rt, "memory");
-            assert_eq!(rt; none.len(), 0, "dots with no note's name");
+            check_equal(rt, none.len(), 0, "dots with no note's name");
             return;
         }
     }
@@ -323,24 +323,30 @@ fn join<A: Allocator + Copy>(
     heap.arm(grants);
     let refused = one.join(other).is_err();
     let count = one.len();
-    assert!(rt;
+    check(
+        rt,
         held <= count && count <= all,
-        "{count} is not between {held} and {all}"
+        ("is not between", count, held, all),
     );
-    assert_eq!(rt;
+    check_equal(
+        rt,
         count < all,
         refused,
-        "{count} of {all} with {grants} requests"
+        ("all are there", count, all, grants),
     );
     heap.arm(u64::MAX);
-    assert!(rt; one.join(other).is_ok(), "the join is refused with memory");
-    assert_eq!(rt; one.len(), all, "after the join");
+    check(
+        rt,
+        one.join(other).is_ok(),
+        "the join is refused with memory",
+    );
+    check_equal(rt, one.len(), all, "after the join");
     refused
 }
 
 /// Words: of a set that is held, of another one that came and is joined to it, of the notes that are live then, in their
 /// order, and of the dots of those that are named as the first note that came.
-#[derive(Clone, Copy, Debug)]
+#[derive(Clone, Copy)]
 struct Case {
     held: &'static str,
     came: &'static str,
@@ -360,7 +366,7 @@ fn unite<A: Allocator + Copy>(
     heap.arm(1_000);
     let mut one = Notes::new(alloc);
     let mut other = Notes::new(alloc);
-    assert_eq!(rt; heap.left(), 1_000, "requests that are left");
+    check_equal(rt, heap.left(), 1_000, "requests that are left");
     let mut refused = add_word(rt, heap, alloc, &mut one, case.held, grants);
     refused |= add_word(rt, heap, alloc, &mut other, case.came, grants);
     refused |= join(rt, heap, &mut one, &other, grants);
@@ -372,11 +378,11 @@ fn unite<A: Allocator + Copy>(
 fn survives(rt: &impl Abort, heap: &Metered<Global>, case: &Case) {
     for grants in 0..64u64 {
         if !unite(rt, heap, heap, case, grants) {
-            assert!(rt; grants > 0, "{case:?} took no memory");
+            check(rt, grants > 0, ("took no memory", case.came));
             return;
         }
     }
-    panic!(rt; "{case:?} is refused at 64 requests");
+    panic!(rt; "{} is refused at 64 requests", case.came);
 }
 
 const CASES: &[Case] = &[

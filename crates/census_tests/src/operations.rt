@@ -1,6 +1,6 @@
 //! Dots, blocks, period claims, notes, removals, operations and lists: made, refused, read, copied and compared.
 
-use crate::answers::{code, dot, is_equal, read};
+use crate::answers::{check, check_equal, code, dot, is_equal, read};
 use crate::vectors::{BLOCK, Delta, Item, OLD};
 use metered::Metered;
 use oct_code::Code;
@@ -10,7 +10,6 @@ use oct_ops::{
 };
 use std::alloc::{Allocator, Global};
 use std::process::Abort;
-use std::test::Fail;
 
 // As many values as no block holds.
 const ZEROS: &[u32] = &[0; 1_025];
@@ -51,10 +50,15 @@ fn dots_and_claims_are_made_or_refused(rt: HostRuntime) {
     let code = code(&rt, "0.77");
     for (author, number) in [(0, 1), (1, 0)] {
         let refused = Dot::new(author, number).err();
-        assert!(rt; refused == Some(DotError::Zero), "({author}, {number})");
+        check(&rt, refused == Some(DotError::Zero), (author, number));
     }
     let last = dot(&rt, 7, u32::MAX);
-    assert_eq!(rt; (last.author(), last.number()), (7, u32::MAX));
+    check_equal(
+        &rt,
+        (last.author(), last.number()),
+        (7, u32::MAX),
+        "the last dot of author 7",
+    );
     for &ClaimRow {
         start,
         period,
@@ -62,11 +66,16 @@ fn dots_and_claims_are_made_or_refused(rt: HostRuntime) {
     } in CLAIMS {
         match Period::new(code, start, period) {
             Ok(claim) => {
-                assert_eq!(rt; None, fault, "from {start} by {period}");
-                assert_eq!(rt; (claim.start(), claim.period()), (start, period));
-                assert!(rt; claim.code() == code, "another code");
+                check_equal(&rt, None, fault, ("from and by", start, period));
+                check_equal(
+                    &rt,
+                    (claim.start(), claim.period()),
+                    (start, period),
+                    ("a claim from", start),
+                );
+                check(&rt, claim.code() == code, "another code");
             }
-            Err(error) => assert_eq!(rt; Some(error), fault, "from {start} by {period}"),
+            Err(error) => check_equal(&rt, Some(error), fault, ("from and by", start, period)),
         }
     }
 }
@@ -103,25 +112,20 @@ const BLOCKS: &[RefusedBlock] = &[
 ];
 
 // So many values from the place on are refused by this fault, and come back.
-fn block_is_refused(
-    rt: &impl Abort,
-    alloc: Global,
-    start: u32,
-    count: usize,
-    fault: BlockError,
-) -> Result<(), Fail> {
-    let values = ZEROS.get(..count).unwrap_or(ZEROS).to_vec(alloc)?;
+fn block_is_refused(rt: &impl Abort, alloc: Global, start: u32, count: usize, fault: BlockError) {
+    let values = ZEROS.get(..count).unwrap_or(ZEROS).to_vec(alloc);
+    let values = values.ok().expect(rt, "memory");
     match Block::new(code(rt, "0.77"), start, values) {
         Ok(_) => panic!(rt; "{count} values at {start} are a block"),
         Err((error, values)) => {
-            assert!(rt;
+            check(
+                rt,
                 error == fault,
-                "another fault of {count} values at {start}"
+                ("another fault of values", count, start),
             );
-            assert_eq!(rt; values.len(), count, "values at {start} that come back");
+            check_equal(rt, values.len(), count, ("values that come back", start));
         }
     }
-    Ok(())
 }
 
 /// The name and the text of a note that is refused, and its fault.
@@ -151,44 +155,34 @@ const NOTES: &[RefusedNote] = &[
 ];
 
 #[test]
-fn blocks_and_notes_are_refused(rt: HostRuntime) -> Result<(), Fail> {
+fn blocks_and_notes_are_refused(rt: HostRuntime) {
     for &RefusedBlock {
         start,
         count,
         fault,
     } in BLOCKS {
-        block_is_refused(&rt, rt.alloc(), start, count, fault)?;
+        block_is_refused(&rt, rt.alloc(), start, count, fault);
     }
     for &RefusedNote { name, text, fault } in NOTES {
         let refused = Note::new(rt.alloc(), name, text).err();
-        assert_eq!(rt;
-            refused,
-            Some(fault),
-            "the name {name:?} and the text {text:?}"
-        );
+        check_equal(&rt, refused, Some(fault), ("name and text", name, text));
     }
-    Ok(())
 }
 
 // The dots are refused by this fault, and come back.
-fn removal_is_refused(
-    rt: &impl Abort,
-    alloc: Global,
-    dots: &[Dot],
-    fault: RemovalError,
-) -> Result<(), Fail> {
+fn removal_is_refused(rt: &impl Abort, alloc: Global, dots: &[Dot], fault: RemovalError) {
     let count = dots.len();
-    match Removal::new(dots.to_vec(alloc)?) {
+    match Removal::new(dots.to_vec(alloc).ok().expect(rt, "memory")) {
         Ok(_) => panic!(rt; "{count} dots are a removal"),
         Err((error, items)) => {
-            assert!(rt; error == fault, "another fault of {count} dots");
-            assert!(rt;
+            check(rt, error == fault, ("another fault of dots", count));
+            check(
+                rt,
                 items.as_slice() == dots,
-                "other dots come back than the {count}"
+                ("other dots come back than the", count),
             );
         }
     }
-    Ok(())
 }
 
 // The claim that Kayles repeats from the start on with period 1.
@@ -198,24 +192,23 @@ fn claim<A: Allocator>(rt: &impl Abort, dot: Dot, start: u32) -> Op<A> {
 }
 
 #[test]
-fn lists_rise(rt: HostRuntime) -> Result<(), Fail> {
+fn lists_rise(rt: HostRuntime) {
     let alloc = rt.alloc();
     let (first, second) = (dot(&rt, 1, 1), dot(&rt, 1, 2));
-    removal_is_refused(&rt, alloc, &[second, first], RemovalError::NotRising)?;
-    removal_is_refused(&rt, alloc, &[], RemovalError::Empty)?;
+    removal_is_refused(&rt, alloc, &[second, first], RemovalError::NotRising);
+    removal_is_refused(&rt, alloc, &[], RemovalError::Empty);
     let mut ops = Vec::new(alloc);
     ops.push(claim(&rt, first, 1)).ok().expect(&rt, "memory");
     ops.push(claim(&rt, first, 1)).ok().expect(&rt, "memory");
     match OpList::from_rising(ops) {
         Ok(_) => panic!(rt; "an operation twice is a list"),
         Err((error, ops)) => {
-            assert!(rt; error == ListError::NotRising, "another fault");
-            assert_eq!(rt; ops.len(), 2, "operations that come back");
+            check(&rt, error == ListError::NotRising, "another fault");
+            check_equal(&rt, ops.len(), 2, "operations that come back");
         }
     }
-    assert!(rt; rises(&[1u32, 2, 4]));
-    assert!(rt; !rises(&[1u32, 2, 2]));
-    Ok(())
+    check(&rt, rises(&[1u32, 2, 4]), "a list that rises");
+    check(&rt, !rises(&[1u32, 2, 2]), "a list that does not rise");
 }
 
 // A note is made where each request for memory is refused in turn, and then read without one.
@@ -224,14 +217,14 @@ fn note_is_made<A: Allocator + Copy>(rt: &impl Abort, heap: &Metered<Global>, al
         heap.arm(grants);
         match Note::new(alloc, b"kayles", b"early") {
             Ok(note) => {
-                assert!(rt; grants > 0, "the note took no memory");
+                check(rt, grants > 0, "the note took no memory");
                 heap.arm(1_000);
-                assert_eq!(rt; note.name(), b"kayles".as_slice());
-                assert_eq!(rt; note.text(), b"early".as_slice());
-                assert_eq!(rt; heap.left(), 1_000, "requests that are left");
+                check_equal(rt, note.name(), b"kayles".as_slice(), "the name");
+                check_equal(rt, note.text(), b"early".as_slice(), "the text");
+                check_equal(rt, heap.left(), 1_000, "requests that are left");
                 return;
             }
-            Err(fault) => assert_eq!(rt; fault, NoteError::OutOfMemory),
+            Err(fault) => check_equal(rt, fault, NoteError::OutOfMemory, "the fault of a note"),
         }
     }
     panic!(rt; "the note is refused at ten requests");
@@ -248,10 +241,15 @@ fn block_takes_no_memory<A: Allocator>(
     let values = Vec::from_slice(alloc, &[4]).expect(rt, "memory");
     heap.arm(1_000);
     let block = Block::new(code, 65_535, values).ok().expect(rt, "a block");
-    assert!(rt; block.code() == code, "another code");
-    assert_eq!(rt; (block.start(), block.end()), (65_535, 65_536));
-    assert_eq!(rt; block.values(), [4].as_slice());
-    assert_eq!(rt; heap.left(), 1_000, "requests that are left");
+    check(rt, block.code() == code, "another code");
+    check_equal(
+        rt,
+        (block.start(), block.end()),
+        (65_535, 65_536),
+        "start and end",
+    );
+    check_equal(rt, block.values(), [4].as_slice(), "the values");
+    check_equal(rt, heap.left(), 1_000, "requests that are left");
 }
 
 // The dots are a removal, made and read in the same way.
@@ -265,20 +263,25 @@ fn removal_takes_no_memory<A: Allocator>(
     let dots = Vec::from_slice(alloc, wanted).expect(rt, "memory");
     heap.arm(1_000);
     let removal = Removal::new(dots).ok().expect(rt, "a removal");
-    assert!(rt; removal.dots() == wanted, "other dots");
-    assert_eq!(rt; heap.left(), 1_000, "requests that are left");
+    check(rt, removal.dots() == wanted, "other dots");
+    check_equal(rt, heap.left(), 1_000, "requests that are left");
 }
 
 // The list has two operations, the claims from 4,096 and from 4,097 on, the first one under the dot.
 fn are_claims<A: Allocator>(rt: &impl Abort, list: &OpList<A>, dot: Dot) {
-    assert_eq!(rt; (list.len(), list.is_empty()), (2, false));
+    check_equal(
+        rt,
+        (list.len(), list.is_empty()),
+        (2, false),
+        "the length of the claims",
+    );
     match list.as_slice() {
         [one, other] => {
-            assert!(rt; *one < *other, "they do not rise");
-            assert!(rt; one.dot() == dot, "another dot");
-            assert_eq!(rt; one.body().kind(), 2, "the kind of a claim");
+            check(rt, *one < *other, "they do not rise");
+            check(rt, one.dot() == dot, "another dot");
+            check_equal(rt, one.body().kind(), 2, "the kind of a claim");
             let keep = (one.keeps_old_limits(), other.keeps_old_limits());
-            assert_eq!(rt; keep, (true, false), "they keep the old limits");
+            check_equal(rt, keep, (true, false), "they keep the old limits");
         }
         ops => panic!(rt; "{} operations", ops.len()),
     }
@@ -300,8 +303,8 @@ fn list_takes_no_memory<A: Allocator>(
     let list = OpList::from_rising(ops).ok().expect(rt, "a list");
     are_claims(rt, &list, first);
     let again = OpList::of_rising(list.into_vec());
-    assert_eq!(rt; again.len(), 2);
-    assert_eq!(rt; heap.left(), 1_000, "requests that are left");
+    check_equal(rt, again.len(), 2, "the length of the list");
+    check_equal(rt, heap.left(), 1_000, "requests that are left");
 }
 
 #[test]
@@ -336,11 +339,8 @@ fn is_copied<A: Allocator + Copy>(
         heap.arm(grants);
         if let Ok(copy) = operation.copy(alloc) {
             heap.arm(u64::MAX);
-            assert!(rt; grants > 0, "the copy of kind {kind} took no memory");
-            assert!(rt;
-                is_equal(copy, operation),
-                "the copy of kind {kind} is another one"
-            );
+            check(rt, grants > 0, ("the copy took no memory", kind));
+            check(rt, is_equal(copy, operation), ("another copy", kind));
             return;
         }
     }
@@ -349,33 +349,32 @@ fn is_copied<A: Allocator + Copy>(
 
 fn are_copied<A: Allocator + Copy>(rt: &impl Abort, heap: &Metered<Global>, alloc: A, text: &[u8]) {
     let list = read(rt, alloc, text);
-    assert_eq!(rt; list.len(), 3, "operations to copy");
+    check_equal(rt, list.len(), 3, "operations to copy");
     for operation in list.as_slice() {
         is_copied(rt, heap, alloc, operation);
     }
 }
 
 // An operation with a block of one value is given back its block, and keeps the old limits or not.
-fn block_keeps(rt: &impl Abort, alloc: Global, start: u32, keeps: bool) -> Result<(), Fail> {
-    let values = [0].to_vec(alloc)?;
+fn block_keeps(rt: &impl Abort, alloc: Global, start: u32, keeps: bool) {
+    let values = [0].to_vec(alloc).ok().expect(rt, "memory");
     let block = Block::new(code(rt, "0.77"), start, values)
         .ok()
         .expect(rt, "a block");
     let operation = Op::new(dot(rt, 1, 1), Body::Block(block));
-    assert_eq!(rt; operation.keeps_old_limits(), keeps, "at {start}");
+    check_equal(rt, operation.keeps_old_limits(), keeps, ("at", start));
     match operation.into_body() {
-        Body::Block(block) => assert_eq!(rt; block.start(), start),
+        Body::Block(block) => check_equal(rt, block.start(), start, "the start of the block"),
         _ => panic!(rt; "no block"),
     }
-    Ok(())
 }
 
 #[test]
-fn operations_are_copied_and_given_back(rt: HostRuntime) -> Result<(), Fail> {
+fn operations_are_copied_and_given_back(rt: HostRuntime) {
     let heap = Metered::new(rt.alloc());
-    are_copied(&rt, &heap, &heap, &COPIED.bytes(rt.alloc())?);
-    block_keeps(&rt, rt.alloc(), 4_095, true)?;
-    block_keeps(&rt, rt.alloc(), 4_096, false)
+    are_copied(&rt, &heap, &heap, &COPIED.bytes(&rt));
+    block_keeps(&rt, rt.alloc(), 4_095, true);
+    block_keeps(&rt, rt.alloc(), 4_096, false);
 }
 
 // As many letters as no text has, one more than the longest.
@@ -426,9 +425,9 @@ const WORDS: &[Word] = &[
 fn names_and_texts_are_told(rt: HostRuntime) {
     for word in WORDS {
         let told = (is_name(word.bytes), is_text(word.bytes));
-        assert_eq!(rt; told, (word.is_name, word.is_text), "of {:?}", word.bytes);
+        check_equal(&rt, told, (word.is_name, word.is_text), ("of", word.bytes));
     }
-    assert!(rt; is_name(&LETTERS[..32]));
-    assert!(rt; !is_name(&LETTERS[..33]));
-    assert!(rt; is_text(&LETTERS[..200]));
+    check(&rt, is_name(&LETTERS[..32]), "a name of 32 letters");
+    check(&rt, !is_name(&LETTERS[..33]), "a name of 33 letters");
+    check(&rt, is_text(&LETTERS[..200]), "a text of 200 letters");
 }

@@ -1,6 +1,6 @@
 //! Deltas that come in pieces, and bytes that are no delta: they are refused at once and in pieces.
 
-use crate::answers::{fault_name, read};
+use crate::answers::{check, check_equal, fault_name, read};
 use crate::deltas::is_refused;
 use crate::vectors::{
     BLOCK, CLAIM, CLAIMED, Delta, EARLY, FIRST, LONG, OLD, OTHERS, REMOVED, SOME, TURNS, many_notes,
@@ -10,7 +10,6 @@ use oct_delta::{DeltaError, Reader, decode_pieces};
 use oct_ops::Op;
 use std::alloc::{Allocator, Global};
 use std::process::Abort;
-use std::test::Fail;
 
 // Feeds the bytes in pieces of so many.
 fn feed_pieces<A: Allocator + Copy>(
@@ -27,25 +26,28 @@ fn feed_pieces<A: Allocator + Copy>(
 // What was fed ends with these operations.
 fn ends_as<A: Allocator + Copy>(rt: &impl Abort, reader: Reader<A>, ops: &[Op<A>]) {
     match reader.finish() {
-        Ok(list) => assert!(rt; list.as_slice() == ops, "{} operations", list.len()),
+        Ok(list) => check(rt, list.as_slice() == ops, ("operations", list.len())),
         Err(fault) => panic!(rt; "not whole: {}", fault_name(fault)),
     }
 }
 
 // The reader has failed for good.
 fn has_failed<A: Allocator + Copy>(rt: &impl Abort, mut reader: Reader<A>) {
-    assert_eq!(rt;
+    check_equal(
+        rt,
         reader.items().len(),
         0,
-        "items of a reader that has failed"
+        "items of a reader that has failed",
     );
-    assert!(rt;
+    check(
+        rt,
         reader.feed(&[]) == Err(DeltaError::Failed),
-        "it is fed again"
+        "it is fed again",
     );
-    assert!(rt;
+    check(
+        rt,
         reader.finish().err() == Some(DeltaError::Failed),
-        "it has an end"
+        "it has an end",
     );
 }
 
@@ -67,12 +69,12 @@ fn reads_after_refusals<A: Allocator + Copy>(
         heap.arm(u64::MAX);
         match fed {
             Ok(()) => {
-                assert!(rt; grants > 0, "{text:?} took no memory");
+                check(rt, grants > 0, ("took no memory", text));
                 ends_as(rt, reader, list.as_slice());
                 return;
             }
             Err(fault) => {
-                assert_eq!(rt; fault_name(fault), "out of memory", "of {text:?}");
+                check_equal(rt, fault_name(fault), "out of memory", ("of", text));
                 has_failed(rt, reader);
             }
         }
@@ -81,37 +83,34 @@ fn reads_after_refusals<A: Allocator + Copy>(
 }
 
 #[test]
-fn refused_texts_are_read_again_in_pieces(rt: HostRuntime) -> Result<(), Fail> {
+fn refused_texts_are_read_again_in_pieces(rt: HostRuntime) {
     let heap = Metered::new(rt.alloc());
-    let alloc = rt.alloc();
     for (_, delta) in SOME {
-        let text = delta.bytes(alloc)?;
+        let text = delta.bytes(&rt);
         reads_after_refusals(&rt, &heap, &heap, &text, 1);
         reads_after_refusals(&rt, &heap, &heap, &text, 16);
     }
     for (_, delta) in OTHERS {
-        reads_after_refusals(&rt, &heap, &heap, &delta.bytes(alloc)?, 1);
+        reads_after_refusals(&rt, &heap, &heap, &delta.bytes(&rt), 1);
     }
-    reads_after_refusals(&rt, &heap, &heap, &LONG.bytes(alloc)?, 16);
-    reads_after_refusals(&rt, &heap, &heap, &many_notes(alloc)?, 16);
-    Ok(())
+    reads_after_refusals(&rt, &heap, &heap, &LONG.bytes(&rt), 16);
+    reads_after_refusals(&rt, &heap, &heap, &many_notes(&rt), 16);
 }
 
 #[test]
-fn a_text_in_pieces_is_read_as_the_whole(rt: HostRuntime) -> Result<(), Fail> {
+fn a_text_in_pieces_is_read_as_the_whole(rt: HostRuntime) {
     let alloc = rt.alloc();
-    let text = CLAIMED.bytes(alloc)?;
+    let text = CLAIMED.bytes(&rt);
     let (front, rest) = text.split_at(text.len().min(3));
     let whole = read(&rt, alloc, &text);
     match decode_pieces(alloc, &[front, &[], rest]) {
-        Ok(list) => assert!(rt;
+        Ok(list) => check(
+            &rt,
             list.as_slice() == whole.as_slice(),
-            "{} operations",
-            list.len()
+            ("operations", list.len()),
         ),
         Err(fault) => panic!(rt; "the pieces: {}", fault_name(fault)),
     }
-    Ok(())
 }
 
 // The claim before its block, the first block twice, and it with the tag of no format.
@@ -140,7 +139,7 @@ fn is_refused_twice(rt: &impl Abort, alloc: Global, bytes: &[u8], fault: DeltaEr
         Ok(()) => ended.map_or("read", fault_name),
         Err(refused) => fault_name(refused),
     };
-    assert_eq!(rt; refused, fault_name(fault), "of {bytes:?} in pieces");
+    check_equal(rt, refused, fault_name(fault), ("in pieces", bytes));
 }
 
 // Each proper prefix of the text is refused.
@@ -156,24 +155,23 @@ fn prefixes_are_refused(rt: &impl Abort, alloc: Global, text: &[u8]) {
 }
 
 #[test]
-fn other_bytes_and_proper_prefixes_are_refused(rt: HostRuntime) -> Result<(), Fail> {
+fn other_bytes_and_proper_prefixes_are_refused(rt: HostRuntime) {
     let alloc = rt.alloc();
-    is_refused_twice(&rt, alloc, &UNKNOWN.bytes(alloc)?, DeltaError::Version);
-    is_refused_twice(&rt, alloc, &SWAPPED.bytes(alloc)?, DeltaError::Refused);
-    is_refused_twice(&rt, alloc, &TWICE.bytes(alloc)?, DeltaError::Refused);
+    is_refused_twice(&rt, alloc, &UNKNOWN.bytes(&rt), DeltaError::Version);
+    is_refused_twice(&rt, alloc, &SWAPPED.bytes(&rt), DeltaError::Refused);
+    is_refused_twice(&rt, alloc, &TWICE.bytes(&rt), DeltaError::Refused);
     // one more byte, and a count of 2^32 - 1
-    let mut longer = FIRST.bytes(alloc)?;
-    longer.push(0)?;
+    let mut longer = FIRST.bytes(&rt);
+    check(&rt, longer.push(0).is_ok(), "memory");
     is_refused_twice(&rt, alloc, &longer, DeltaError::Refused);
-    let mut counted = FIRST.bytes(alloc)?;
+    let mut counted = FIRST.bytes(&rt);
     for byte in counted.iter_mut().skip(4).take(4) {
         *byte = 0xff;
     }
     is_refused_twice(&rt, alloc, &counted, DeltaError::Refused);
     for delta in &[FIRST, CLAIMED, EARLY, REMOVED] {
-        prefixes_are_refused(&rt, alloc, &delta.bytes(alloc)?);
+        prefixes_are_refused(&rt, alloc, &delta.bytes(&rt));
     }
-    Ok(())
 }
 
 // A reader has, after the pieces, the operations that are whole: the block of 46 bytes comes after the tag and the count of
@@ -190,18 +188,23 @@ fn reads_on(
         54..=73 => 1,
         _ => 2,
     };
-    assert!(rt; reader.feed(piece).is_ok(), "{piece:?} up to {end}");
+    check(rt, reader.feed(piece).is_ok(), ("up to", piece, end));
     let items = reader.items();
-    assert_eq!(rt; items.len(), whole, "items up to {end}");
-    assert!(rt; ops.starts_with(items), "other items up to {end}");
+    check_equal(rt, items.len(), whole, ("items up to", end));
+    check(rt, ops.starts_with(items), ("other items up to", end));
 }
 
 #[test]
-fn operations_come_as_they_are_whole(rt: HostRuntime) -> Result<(), Fail> {
+fn operations_come_as_they_are_whole(rt: HostRuntime) {
     let alloc = rt.alloc();
-    let text = CLAIMED.bytes(alloc)?;
+    let text = CLAIMED.bytes(&rt);
     let list = read(&rt, alloc, &text);
-    assert_eq!(rt; (text.len(), list.len()), (74, 2));
+    check_equal(
+        &rt,
+        (text.len(), list.len()),
+        (74, 2),
+        "bytes and operations",
+    );
     for first in 0..=text.len() {
         for second in first..=text.len() {
             let mut reader = Reader::new(alloc);
@@ -214,19 +217,21 @@ fn operations_come_as_they_are_whole(rt: HostRuntime) -> Result<(), Fail> {
             ends_as(&rt, reader, list.as_slice());
         }
     }
-    Ok(())
 }
 
 // A reader that has an operation refuses what follows, and has failed then.
 #[test]
-fn readers_fail_for_good(rt: HostRuntime) -> Result<(), Fail> {
+fn readers_fail_for_good(rt: HostRuntime) {
     let alloc = rt.alloc();
-    let text = CLAIMED.bytes(alloc)?;
+    let text = CLAIMED.bytes(&rt);
     let mut reader = Reader::new(alloc);
     let front = text.get(..60).expect(&rt, "the front");
-    assert!(rt; reader.feed(front).is_ok());
-    assert_eq!(rt; reader.items().len(), 1);
-    assert!(rt; reader.feed(&[9; 20]) == Err(DeltaError::Refused));
+    check(&rt, reader.feed(front).is_ok(), "the front is refused");
+    check_equal(&rt, reader.items().len(), 1, "operations in the front");
+    check(
+        &rt,
+        reader.feed(&[9; 20]) == Err(DeltaError::Refused),
+        "nines are not refused",
+    );
     has_failed(&rt, reader);
-    Ok(())
 }

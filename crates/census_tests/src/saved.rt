@@ -1,5 +1,6 @@
 //! Texts of places, and what is none.
 
+use crate::answers::{check, check_equal};
 use oct_code::Code;
 use oct_mex::{Mask, Rare, Row};
 use oct_saved::{ReadError, read_place, write_place};
@@ -78,7 +79,7 @@ fn is_refused(rt: &(impl Abort + AllocGlobal), text: &[u8], wanted: ReadError) -
 fn comes_again(rt: &(impl Abort + AllocGlobal), text: &[u8]) {
     let place = read_place(rt.alloc(), text).ok().expect(rt, "a place");
     let again = write_place(rt.alloc(), &place).ok().expect(rt, "memory");
-    assert!(rt; again.as_slice() == text, "another text");
+    check(rt, again.as_slice() == text, "another text");
 }
 
 // The checksum was computed by Python's `hashlib`.
@@ -87,18 +88,20 @@ fn a_small_place_has_this_text(rt: HostRuntime) {
     let text = write_place(rt.alloc(), &small_watch(&rt))
         .ok()
         .expect(&rt, "memory");
-    assert_eq!(&rt; text.len(), 212, "bytes");
-    assert!(&rt;
+    assert!(&rt; text.len() == 212, "bytes");
+    check(
+        &rt,
         text.starts_with(b"OGW1\x9b\x12\x92\x8b"),
-        "the tag and the checksum"
+        "the tag and the checksum",
     );
     let numbers: [u64; 22] = [
         9, 0, 0, 2, 4, 1, 5, 1, 0, 1, 1, 3, 1, 1, 4, 0, 1, 0, 1, 2, 0, 1,
     ];
     for (chunk, number) in text[36..].chunks_exact(8).zip(numbers) {
-        assert!(&rt;
+        check(
+            &rt,
             chunk == number.to_be_bytes().as_slice(),
-            "the number {number}"
+            ("the number", number),
         );
     }
     comes_again(&rt, &text);
@@ -109,7 +112,7 @@ fn a_comparison_is_read(rt: HostRuntime) {
     let text = write_place(rt.alloc(), &small_comparison(&rt))
         .ok()
         .expect(&rt, "memory");
-    assert_eq!(&rt; text.get(43).copied(), Some(19), "scalars");
+    check_equal(&rt, text.get(43).copied(), Some(19), "scalars");
     comes_again(&rt, &text);
 }
 
@@ -124,13 +127,17 @@ fn what_is_spoiled_is_refused(rt: HostRuntime) {
         } else {
             ReadError::Refused
         };
-        assert!(&rt; is_refused(&rt, &text[..at], wanted), "cut at {at}");
+        check(&rt, is_refused(&rt, &text[..at], wanted), ("cut at", at));
         text[at] ^= 1;
-        assert!(&rt; is_refused(&rt, &text, wanted), "another byte at {at}");
+        check(&rt, is_refused(&rt, &text, wanted), ("another byte at", at));
         text[at] ^= 1;
     }
-    assert!(&rt; text.push(0).is_ok(), "memory");
-    assert!(&rt; is_refused(&rt, &text, ReadError::Refused), "a byte more");
+    check(&rt, text.push(0).is_ok(), "memory");
+    check(
+        &rt,
+        is_refused(&rt, &text, ReadError::Refused),
+        "a byte more",
+    );
 }
 
 // A search of Kayles has seen no period by 160 values, and the text of its place is read.
@@ -141,9 +148,10 @@ fn a_search_is_taken_up_again(rt: HostRuntime) {
     let mut marks = Vec::new(alloc);
     assert!(&rt; marks.resize(MARKS, false).is_ok(), "memory");
     let mut row = Row::new(alloc);
-    assert!(&rt;
+    check(
+        &rt,
         matches!(extend(&mut row, &code, &mut marks, 1_000), Ok(true)),
-        "values"
+        "values",
     );
     let Ok(Some(window)) = Window::of(alloc, code, &row) else {
         panic!(&rt; "no window");
@@ -152,7 +160,7 @@ fn a_search_is_taken_up_again(rt: HostRuntime) {
         panic!(&rt; "memory");
     };
     let step = watch.go_to(alloc, 1_005, &mut marks);
-    assert!(&rt; matches!(step, Ok(Step::On)), "five values more");
+    check(&rt, matches!(step, Ok(Step::On)), "five values more");
     let place = Place {
         code,
         listed: 1_000,

@@ -1,6 +1,6 @@
 //! The outcomes of positions of Kayles, beside those of a plain search.
 
-use crate::answers::{code, dot};
+use crate::answers::{check, code, dot};
 use crate::ledgers::block;
 use oct_period::Game;
 use oct_period::Outcome::{NextLoses, NextWins};
@@ -41,9 +41,10 @@ fn are_found<A: Allocator + Copy>(rt: &impl Abort, game: &Game<A>) {
             let wins = next_wins(sizes, 12);
             let wanted = if wins { NextWins } else { NextLoses };
             let position = &heaps[..count];
-            assert!(rt;
+            check(
+                rt,
                 game.outcome(position) == wanted,
-                "{position:?}: next wins is {wins}"
+                ("next wins", position, wins),
             );
             if count < 3 && heaps[count] < 5 {
                 let size = heaps[count] as usize;
@@ -59,6 +60,6 @@ fn outcomes_are_those_of_a_plain_search(rt: HostRuntime) {
     let mut game = Game::new(rt.alloc(), code(&rt, "0.77"));
     let block = block(rt.alloc(), game.code(), 0, &[0, 1, 2, 3, 1]).expect(&rt, "a block");
     let added = game.add_block(dot(&rt, 1, 1), block);
-    assert!(rt; added.is_ok());
+    check(&rt, added.is_ok(), "the block is refused");
     are_found(&rt, &game);
 }

@@ -1,6 +1,6 @@
 //! Stores: what they show, insertions and joins, where each request for memory is refused in turn; and calls that make none.
 
-use crate::answers::{code, is_equal, read};
+use crate::answers::{check, check_equal, code, is_equal, read};
 use crate::deltas::is_refused;
 use crate::vectors::{
     BLOCK, CLAIMED, Delta, FIRST, FORKED, Item, KAYLES, NEXT, OLD, UNTOLD, many_notes,
@@ -12,7 +12,6 @@ use oct_ops::Op;
 use oct_store::{Author, Fork, Store};
 use std::alloc::{Allocator, Global};
 use std::process::Abort;
-use std::test::Fail;
 
 // Five operations in order: two blocks of one dot, another block, and the notes 5.1 and 5.3.
 const FIVE: Delta<'static> = Delta {
@@ -48,16 +47,22 @@ fn insert<A: Allocator + Copy>(
         heap.arm(u64::MAX);
         match inserted {
             Ok(is_new) => {
-                assert!(rt; store.contains(op), "operation {count} is not there");
-                assert!(rt; grants > 0 || count > 0, "it took no memory");
+                check(rt, store.contains(op), ("an operation is not there", count));
+                check(rt, grants > 0 || count > 0, "it took no memory");
                 return is_new;
             }
             Err((_, back)) => {
-                assert!(rt;
+                check(
+                    rt,
                     is_equal(back, op),
-                    "another operation than {count} came back"
+                    ("another operation came back", count),
                 );
-                assert_eq!(rt; store.contains(op), was_there, "operation {count} is there");
+                check_equal(
+                    rt,
+                    store.contains(op),
+                    was_there,
+                    ("an operation is there", count),
+                );
             }
         }
     }
@@ -75,24 +80,21 @@ fn insert_all<A: Allocator + Copy>(
 ) {
     for (number, op) in ops.iter().enumerate() {
         let is_new = insert(rt, heap, alloc, store, op);
-        assert_eq!(rt; is_new, are_new, "operation {number} is new");
+        check_equal(rt, is_new, are_new, ("an operation is new", number));
     }
 }
 
 // The store has the first of the operations, perhaps some more of them, and no other.
 fn has_some<A: Allocator + Copy>(rt: &impl Abort, store: &Store<A>, ops: &[Op<A>]) {
     let first = ops.first().expect(rt, "an operation");
-    assert!(rt; store.contains(first), "the first one is not there");
+    check(rt, store.contains(first), "the first one is not there");
     for (number, op) in store.iter().enumerate() {
-        assert!(rt;
-            ops.contains(op),
-            "operation {number} of the store is another one"
-        );
+        check(rt, ops.contains(op), ("another operation", number));
     }
 }
 
 fn has_all<A: Allocator + Copy>(rt: &impl Abort, store: &Store<A>, ops: &[Op<A>]) {
-    assert_eq!(rt; store.len(), ops.len(), "operations of the store");
+    check_equal(rt, store.len(), ops.len(), "operations of the store");
     has_some(rt, store, ops);
 }
 
@@ -117,24 +119,34 @@ const AUTHORS: &[Author] = &[
 ];
 
 fn are_authors(rt: &impl Abort, authors: &[Author]) {
-    assert!(rt; authors == AUTHORS, "other authors");
+    check(rt, authors == AUTHORS, "other authors");
 }
 
 // The one fork is that of the two blocks 1.1.
 fn are_forks(rt: &impl Abort, forks: &[Fork]) {
-    assert_eq!(rt; forks.len(), 1, "forks");
+    check_equal(rt, forks.len(), 1, "forks");
     for fork in forks {
         let shown = (fork.dot.author(), fork.dot.number(), fork.contents);
-        assert_eq!(rt; shown, (1, 1, 2), "author, number and contents");
+        check_equal(rt, shown, (1, 1, 2), "author, number and contents");
     }
 }
 
 /// A call that sums up a store.
-#[derive(Clone, Copy, Debug)]
+#[derive(Clone, Copy)]
 enum Summary {
     Clock,
     Authors,
     Forks,
+}
+
+impl Summary {
+    fn name(self) -> &'static str {
+        match self {
+            Summary::Clock => "the clock",
+            Summary::Authors => "the authors",
+            Summary::Forks => "the forks",
+        }
+    }
 }
 
 // The summary of a store with all those operations is right, or there is none without memory; the answer says whether there
@@ -143,7 +155,7 @@ fn sums_up<A: Allocator + Copy>(rt: &impl Abort, store: &Store<A>, summary: Summ
     match summary {
         Summary::Clock => match store.clock() {
             Ok(clock) => {
-                assert_eq!(rt; clock.entries(), ENTRIES);
+                check_equal(rt, clock.entries(), ENTRIES, "the clock");
                 true
             }
             Err(_) => false,
@@ -177,19 +189,29 @@ fn sums_up_again<A: Allocator + Copy>(
         let is_there = sums_up(rt, store, summary);
         heap.arm(u64::MAX);
         if is_there {
-            assert!(rt; grants > 0, "{summary:?} took no memory");
+            check(rt, grants > 0, ("took no memory", summary.name()));
             return;
         }
     }
-    panic!(rt; "{summary:?} is refused at a hundred requests");
+    panic!(rt; "{} is refused at a hundred requests", summary.name());
 }
 
 /// A call that copies operations of a store.
-#[derive(Clone, Copy, Debug)]
+#[derive(Clone, Copy)]
 enum Choice {
     All,
     Beyond,
     OfGame,
+}
+
+impl Choice {
+    fn name(self) -> &'static str {
+        match self {
+            Choice::All => "all",
+            Choice::Beyond => "what is beyond a clock",
+            Choice::OfGame => "what is of a game",
+        }
+    }
 }
 
 // These operations are copied after each request for memory was refused in turn.
@@ -211,13 +233,13 @@ fn copies_again<A: Allocator + Copy>(
         };
         heap.arm(u64::MAX);
         if let Ok(list) = answer {
-            assert!(rt; grants > 0, "{choice:?} took no memory");
-            assert_eq!(rt; list.len(), ops.len(), "operations of {choice:?}");
-            assert!(rt; list.as_slice() == ops, "other operations of {choice:?}");
+            check(rt, grants > 0, ("took no memory", choice.name()));
+            check_equal(rt, list.len(), ops.len(), choice.name());
+            check(rt, list.as_slice() == ops, choice.name());
             return;
         }
     }
-    panic!(rt; "{choice:?} is refused at a hundred requests");
+    panic!(rt; "{} is refused at a hundred requests", choice.name());
 }
 
 // All these calls answer so of a store with those operations: the three blocks come first, and what the clock does not cover
@@ -259,16 +281,14 @@ fn shows<A: Allocator + Copy>(
 }
 
 #[test]
-fn stores_show_what_they_hold(rt: HostRuntime) -> Result<(), Fail> {
+fn stores_show_what_they_hold(rt: HostRuntime) {
     let heap = Metered::new(rt.alloc());
-    let alloc = rt.alloc();
-    let forked = FORKED.bytes(alloc)?;
-    let untold = UNTOLD.bytes(alloc)?;
-    let first = FIRST.bytes(alloc)?;
-    let next = NEXT.bytes(alloc)?;
-    let all = FIVE.bytes(alloc)?;
+    let forked = FORKED.bytes(&rt);
+    let untold = UNTOLD.bytes(&rt);
+    let first = FIRST.bytes(&rt);
+    let next = NEXT.bytes(&rt);
+    let all = FIVE.bytes(&rt);
     shows(&rt, &heap, &heap, &[&forked, &untold, &first, &next], &all);
-    Ok(())
 }
 
 // A store with the first of the operations is joined with one that has the others, after each request for memory was refused
@@ -307,14 +327,12 @@ fn holds<A: Allocator + Copy>(rt: &impl Abort, heap: &Metered<Global>, alloc: A,
 }
 
 #[test]
-fn refused_insertions_and_joins_are_made_again(rt: HostRuntime) -> Result<(), Fail> {
+fn refused_insertions_and_joins_are_made_again(rt: HostRuntime) {
     let heap = Metered::new(rt.alloc());
-    let alloc = rt.alloc();
-    holds(&rt, &heap, &heap, &many_notes(alloc)?);
-    joins_again(&rt, &heap, &heap, &FIVE.bytes(alloc)?);
-    let requests = joins_again(&rt, &heap, &heap, &many_notes(alloc)?);
-    assert!(rt; requests > 0, "the join took no memory");
-    Ok(())
+    holds(&rt, &heap, &heap, &many_notes(&rt));
+    joins_again(&rt, &heap, &heap, &FIVE.bytes(&rt));
+    let requests = joins_again(&rt, &heap, &heap, &many_notes(&rt));
+    check(&rt, requests > 0, "the join took no memory");
 }
 
 // A store of two operations, of which the second is removed, answers as it should.
@@ -324,14 +342,24 @@ fn removes<A: Allocator + Copy>(
     block: &Op<A>,
     claim: &Op<A>,
 ) {
-    assert!(rt; store.contains(claim), "the claim is not there");
-    assert_eq!(rt; (store.len(), store.last(1)), (2, 2));
-    assert!(rt; store.remove(claim), "the claim is not removed");
-    assert!(rt; !store.remove(claim), "the claim is removed twice");
-    assert!(rt; !store.contains(claim), "the claim is there");
-    assert!(rt; store.contains(block), "the block is not there");
-    assert_eq!(rt; (store.len(), store.last(1)), (1, 1));
-    assert!(rt; !store.is_empty());
+    check(rt, store.contains(claim), "the claim is not there");
+    check_equal(
+        rt,
+        (store.len(), store.last(1)),
+        (2, 2),
+        "length and last number",
+    );
+    check(rt, store.remove(claim), "the claim is not removed");
+    check(rt, !store.remove(claim), "the claim is removed twice");
+    check(rt, !store.contains(claim), "the claim is there");
+    check(rt, store.contains(block), "the block is not there");
+    check_equal(
+        rt,
+        (store.len(), store.last(1)),
+        (1, 1),
+        "length and last number of the block",
+    );
+    check(rt, !store.is_empty(), "the store is empty");
 }
 
 // No operation, with the tag of no format.
@@ -359,21 +387,25 @@ fn makes_no_request<A: Allocator + Copy>(
     is_refused(rt, alloc, unknown, DeltaError::Version);
     let front = text.get(..60).unwrap_or(text);
     is_refused(rt, alloc, front, DeltaError::Refused);
-    assert_eq!(rt; (op_size(block), op_size(claim)), (46, 20));
+    check_equal(rt, (op_size(block), op_size(claim)), (46, 20), "the sizes");
     let reader = Reader::new(alloc);
-    assert!(rt; reader.items().is_empty());
+    check(rt, reader.items().is_empty(), "items of a new reader");
     let empty = Store::new(alloc);
-    assert!(rt; empty.is_empty());
-    assert_eq!(rt; (empty.len(), empty.last(1)), (0, 0));
+    check(rt, empty.is_empty(), "a new store is not empty");
+    check_equal(
+        rt,
+        (empty.len(), empty.last(1)),
+        (0, 0),
+        "length and last number of nothing",
+    );
     removes(rt, &mut store, block, claim);
-    assert_eq!(rt; heap.left(), 1_000, "requests that are left");
+    check_equal(rt, heap.left(), 1_000, "requests that are left");
 }
 
 #[test]
-fn some_calls_make_no_request(rt: HostRuntime) -> Result<(), Fail> {
+fn some_calls_make_no_request(rt: HostRuntime) {
     let heap = Metered::new(rt.alloc());
-    let claimed = CLAIMED.bytes(rt.alloc())?;
-    let unknown = UNKNOWN.bytes(rt.alloc())?;
+    let claimed = CLAIMED.bytes(&rt);
+    let unknown = UNKNOWN.bytes(&rt);
     makes_no_request(&rt, &heap, &heap, &claimed, &unknown);
-    Ok(())
 }

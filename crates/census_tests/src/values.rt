@@ -1,6 +1,6 @@
 //! Nim-values of known games, the room that is made for them, and the first place at which two lists differ.
 
-use crate::answers::code;
+use crate::answers::{check, check_equal, code};
 use crate::vectors::KAYLES_VALUES;
 use metered::Metered;
 use oct_code::{Code, LIMIT};
@@ -22,9 +22,9 @@ fn eighty_four() -> &'static [u32] {
 fn come_to<A: Allocator + Copy>(rt: &impl Abort, values: &mut Values<A>, wanted: &[u32]) {
     let count = wanted.len();
     assert!(rt; count <= LIMIT);
-    assert!(rt; values.extend_to(count).is_ok(), "{count} values");
-    assert_eq!(rt; values.as_slice(), wanted);
-    assert_eq!(rt; values.get(count), None, "value {count}");
+    check(rt, values.extend_to(count).is_ok(), ("values", count));
+    check_equal(rt, values.as_slice(), wanted, ("values", count));
+    check_equal(rt, values.get(count), None, ("value", count));
 }
 
 // Games and their first nim-values.
@@ -48,9 +48,9 @@ fn copies_grow<A: Allocator + Copy>(rt: &impl Abort, alloc: A, code: Code) {
     let mut values = Values::new(alloc, code);
     come_to(rt, &mut values, EIGHT);
     let mut copy = values.copy(alloc).ok().expect(rt, "a copy");
-    assert_eq!(rt; copy.as_slice(), EIGHT);
+    check_equal(rt, copy.as_slice(), EIGHT, "the copy");
     come_to(rt, &mut copy, eighty_four());
-    assert_eq!(rt; values.as_slice(), EIGHT, "the values that were copied");
+    check_equal(rt, values.as_slice(), EIGHT, "the values that were copied");
 }
 
 // Two values get room for eight, or become 84, where each request for memory is refused in turn, and two values stay before.
@@ -69,12 +69,12 @@ fn grow<A: Allocator + Copy>(
             values.extend_to(84)
         };
         if grown.is_ok() {
-            assert!(rt; grants > 0, "they took no memory");
-            assert_eq!(rt; values.as_slice(), wanted);
+            check(rt, grants > 0, "they took no memory");
+            check_equal(rt, values.as_slice(), wanted, "the values");
             return;
         }
-        assert_eq!(rt; values.as_slice(), TWO, "with {grants} requests");
-        assert!(rt; !room || values.room() == 2, "room with {grants} requests");
+        check_equal(rt, values.as_slice(), TWO, ("requests", grants));
+        check(rt, !room || values.room() == 2, ("room", grants));
     }
     panic!(rt; "they are refused at ten requests");
 }
@@ -102,15 +102,20 @@ fn take_no_memory<A: Allocator + Copy>(
 ) {
     heap.arm(1_000);
     let mut values = Values::new(alloc, code);
-    assert_eq!(rt; heap.left(), 1_000, "requests that are left");
+    check_equal(rt, heap.left(), 1_000, "requests that are left");
     assert!(rt; values.room_to(8).is_ok());
     heap.arm(1_000);
     values.extend_within(8);
-    assert_eq!(rt; values.as_slice(), EIGHT);
-    assert_eq!(rt; (values.get(5), values.get(8)), (Some(4), None));
-    assert_eq!(rt; values.room(), 8);
-    assert!(rt; values.code() == code, "another code");
-    assert_eq!(rt; heap.left(), 1_000, "requests that are left");
+    check_equal(rt, values.as_slice(), EIGHT, "eight values");
+    check_equal(
+        rt,
+        (values.get(5), values.get(8)),
+        (Some(4), None),
+        "the values 5 and 8",
+    );
+    check_equal(rt, values.room(), 8, "the room");
+    check(rt, values.code() == code, "another code");
+    check_equal(rt, heap.left(), 1_000, "requests that are left");
 }
 
 #[test]
@@ -124,22 +129,33 @@ fn values_are_computed_again_and_read_without_memory(rt: HostRuntime) {
 
 // The lists of sevens differ first at the place, once the second one has an eight there, and then more of them.
 fn differ_first_at(rt: &impl Abort, sevens: &[u32], other: &mut [u32], at: usize) {
-    assert_eq!(rt; sevens.len(), other.len());
-    assert_eq!(rt; first_difference(sevens, other), None);
+    assert!(rt; sevens.len() == other.len());
+    check_equal(
+        rt,
+        first_difference(sevens, other),
+        None,
+        "sevens and sevens",
+    );
     for later in at..other.len() {
         other[later] = 8;
         let count = sevens.len();
-        assert_eq!(rt;
+        check_equal(
+            rt,
             first_difference(sevens, other),
             Some(at),
-            "of {count} up to {later}"
+            ("of and up to", count, later),
         );
     }
 }
 
 #[test]
 fn lists_differ_at_the_first_place(rt: HostRuntime) {
-    assert_eq!(rt; first_difference(&[0, 1, 2], &[0, 1, 3]), Some(2));
+    check_equal(
+        &rt,
+        first_difference(&[0, 1, 2], &[0, 1, 3]),
+        Some(2),
+        "three values",
+    );
     for len in 0..71 {
         for at in 0..=len {
             let mut other = [7u32; 70];

@@ -1,7 +1,8 @@
 //! Worked deltas, written field by field, and two long ones.
 
-use std::alloc::{AllocError, Global};
-use std::test::Fail;
+use crate::answers::check;
+use std::alloc::AllocGlobal;
+use std::process::Abort;
 
 /// An operation of a delta: its author, its number, and what it says.
 #[derive(Clone, Copy)]
@@ -28,91 +29,92 @@ pub(crate) struct Delta<'a> {
 
 impl Delta<'_> {
     /// Its bytes.
-    pub(crate) fn bytes(&self, alloc: Global) -> Result<Vec<u8>, Fail> {
-        let mut out = Vec::from_slice(alloc, self.tag)?;
-        put_number(&mut out, u32::try_from(self.items.len())?)?;
+    pub(crate) fn bytes(&self, rt: &(impl Abort + AllocGlobal)) -> Vec<u8> {
+        let mut out = Vec::new(rt.alloc());
+        put(rt, &mut out, self.tag);
+        let count = u32::try_from(self.items.len()).ok();
+        put_number(rt, &mut out, count.expect(rt, "a count of operations"));
         for item in self.items {
-            put_item(&mut out, item)?;
+            put_item(rt, &mut out, item);
         }
-        Ok(out)
+        out
     }
 }
 
-fn put_number(out: &mut Vec<u8>, number: u32) -> Result<(), AllocError> {
-    out.extend_from_slice(&number.to_be_bytes())
+fn put(rt: &impl Abort, out: &mut Vec<u8>, bytes: &[u8]) {
+    check(rt, out.extend_from_slice(bytes).is_ok(), "memory");
+}
+
+fn put_number(rt: &impl Abort, out: &mut Vec<u8>, number: u32) {
+    put(rt, out, &number.to_be_bytes());
 }
 
 // A count of two bytes.
-fn put_count(out: &mut Vec<u8>, count: usize) -> Result<(), Fail> {
-    let count = u16::try_from(count)?;
-    out.extend_from_slice(&count.to_be_bytes())?;
-    Ok(())
+fn put_count(rt: &impl Abort, out: &mut Vec<u8>, count: usize) {
+    let count = u16::try_from(count).ok().expect(rt, "a count");
+    put(rt, out, &count.to_be_bytes());
 }
 
 // A text after its length, which is one byte.
-fn put_text(out: &mut Vec<u8>, text: &[u8]) -> Result<(), Fail> {
-    out.push(u8::try_from(text.len())?)?;
-    out.extend_from_slice(text)?;
-    Ok(())
+fn put_text(rt: &impl Abort, out: &mut Vec<u8>, text: &[u8]) {
+    let length = u8::try_from(text.len()).ok().expect(rt, "a length");
+    put(rt, out, &[length]);
+    put(rt, out, text);
 }
 
 // The author, the number and the kind of an operation.
-fn put_head(out: &mut Vec<u8>, author: u32, number: u32, kind: u8) -> Result<(), Fail> {
-    put_number(out, author)?;
-    put_number(out, number)?;
-    out.push(kind)?;
-    Ok(())
+fn put_head(rt: &impl Abort, out: &mut Vec<u8>, author: u32, number: u32, kind: u8) {
+    put_number(rt, out, author);
+    put_number(rt, out, number);
+    put(rt, out, &[kind]);
 }
 
-fn put_code(out: &mut Vec<u8>, code: Digits) -> Result<(), Fail> {
-    out.push(code.0)?;
-    put_text(out, code.1)
+fn put_code(rt: &impl Abort, out: &mut Vec<u8>, code: Digits) {
+    put(rt, out, &[code.0]);
+    put_text(rt, out, code.1);
 }
 
 // Nim-values after their count.
-fn put_values(out: &mut Vec<u8>, values: &[u32]) -> Result<(), Fail> {
-    put_count(out, values.len())?;
+fn put_values(rt: &impl Abort, out: &mut Vec<u8>, values: &[u32]) {
+    put_count(rt, out, values.len());
     for value in values {
-        put_number(out, *value)?;
+        put_number(rt, out, *value);
     }
-    Ok(())
 }
 
 // Dots after their count.
-fn put_dots(out: &mut Vec<u8>, dots: &[(u32, u32)]) -> Result<(), Fail> {
-    put_count(out, dots.len())?;
+fn put_dots(rt: &impl Abort, out: &mut Vec<u8>, dots: &[(u32, u32)]) {
+    put_count(rt, out, dots.len());
     for &(author, number) in dots {
-        put_number(out, author)?;
-        put_number(out, number)?;
+        put_number(rt, out, author);
+        put_number(rt, out, number);
     }
-    Ok(())
 }
 
-fn put_item(out: &mut Vec<u8>, item: &Item) -> Result<(), Fail> {
+fn put_item(rt: &impl Abort, out: &mut Vec<u8>, item: &Item) {
     match *item {
         Item::Block(author, number, code, start, values) => {
-            put_head(out, author, number, 1)?;
-            put_code(out, code)?;
-            put_number(out, start)?;
-            put_values(out, values)?;
+            put_head(rt, out, author, number, 1);
+            put_code(rt, out, code);
+            put_number(rt, out, start);
+            put_values(rt, out, values);
         }
         Item::Claim(author, number, code, start, period) => {
-            put_head(out, author, number, 2)?;
-            put_code(out, code)?;
-            put_number(out, start)?;
-            put_number(out, period)?;
+            put_head(rt, out, author, number, 2);
+            put_code(rt, out, code);
+            put_number(rt, out, start);
+            put_number(rt, out, period);
         }
         Item::Note(author, number, name, text) => {
-            put_head(out, author, number, 3)?;
-            put_text(out, name)?;
-            put_text(out, text)?;
+            put_head(rt, out, author, number, 3);
+            put_text(rt, out, name);
+            put_text(rt, out, text);
         }
         Item::Removal(author, number, dots) => {
-            put_head(out, author, number, 4)?;
-            put_dots(out, dots)?;
+            put_head(rt, out, author, number, 4);
+            put_dots(rt, out, dots);
         }
     }
-    Ok(())
 }
 
 /// The tags of the old format and of the new one.
@@ -234,14 +236,14 @@ pub(crate) const KAYLES_VALUES: [u32; 167] = [
 ];
 
 /// The notes 3.1 to 3.70 without text.
-pub(crate) fn many_notes(alloc: Global) -> Result<Vec<u8>, Fail> {
-    let mut items = Vec::new(alloc);
-    for number in 1..71u32 {
-        items.push(Item::Note(3, number, b"n", b""))?;
+pub(crate) fn many_notes(rt: &(impl Abort + AllocGlobal)) -> Vec<u8> {
+    let mut items = [Item::Note(3, 1, b"n", b""); 70];
+    for (item, number) in items.iter_mut().zip(1..71u32) {
+        *item = Item::Note(3, number, b"n", b"");
     }
     let notes = Delta {
         tag: OLD,
         items: &items,
     };
-    notes.bytes(alloc)
+    notes.bytes(rt)
 }

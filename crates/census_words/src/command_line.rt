@@ -13,7 +13,7 @@ pub fn command<'a>(
 ) -> Result<Command<'a>, AllocError> {
     let mut command = Command::new(alloc, "census")
         .bin_name("census")?
-        .version("2.1.0")
+        .version("2.2.0")
         .override_help(screen)
         .no_binary_name(true)
         .subcommand_required(true)
@@ -33,8 +33,8 @@ fn command_of<'a>(alloc: Global, row: &Row) -> Result<Command<'a>, AllocError> {
         .after_help(row.after);
     for &word in row.words {
         command = command.arg(argument_of(alloc, word)?)?;
-        if let Times::OneOr(option) = word.times {
-            command = command.arg(option_of(alloc, option))?;
+        for &option in word.times.instead() {
+            command = command.arg(alternative_of(alloc, option, word.times.instead())?)?;
         }
     }
     for &option in row.options {
@@ -48,9 +48,7 @@ fn argument_of<'a>(alloc: Global, word: Word) -> Result<Arg<'a>, AllocError> {
     let argument = Arg::new(alloc, word.name).help(word.meaning);
     match word.times {
         Times::One => Ok(argument.required(true)),
-        Times::OneOr(option) => argument
-            .required_unless_present(option.name)?
-            .conflicts_with(option.name),
+        Times::OneOr(options) => argument_or(alloc, argument, options),
         Times::OneOrNone => Ok(argument),
         Times::OneOrMore => Ok(
             argument
@@ -58,8 +56,27 @@ fn argument_of<'a>(alloc: Global, word: Word) -> Result<Arg<'a>, AllocError> {
                 .num_args(1..)
                 .required(true),
         ),
+        Times::OneOrMoreUnless(option) => argument
+            .action(ArgAction::Append)
+            .num_args(1..)
+            .required_unless_present(option.name),
         Times::Any => Ok(argument.action(ArgAction::Append).num_args(0..)),
     }
+}
+
+// The argument in whose place one of these options may stand.
+fn argument_or<'a>(
+    alloc: Global,
+    argument: Arg<'a>,
+    options: &[Choice],
+) -> Result<Arg<'a>, AllocError> {
+    let mut names = Vec::new(alloc);
+    for option in options {
+        names.push(option.name)?;
+    }
+    argument
+        .required_unless_present_any(&names)?
+        .conflicts_with_all(&names)
 }
 
 // The argument that this option is.
@@ -76,6 +93,21 @@ fn option_of<'a>(alloc: Global, choice: Choice) -> Arg<'a> {
         Some(value) => option.default_value(value),
         None => option,
     }
+}
+
+// The argument that this option is, which goes with no other of these.
+fn alternative_of<'a>(
+    alloc: Global,
+    choice: Choice,
+    all: &[Choice],
+) -> Result<Arg<'a>, AllocError> {
+    let mut option = option_of(alloc, choice);
+    for other in all {
+        if other.name != choice.name {
+            option = option.conflicts_with(other.name)?;
+        }
+    }
+    Ok(option)
 }
 
 // The option that every command takes, also before its name. The help of the program says what it does, and that of a

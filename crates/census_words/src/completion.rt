@@ -1,7 +1,7 @@
 //! How shells complete the words of a command line, made from the table of the commands.
 
 use crate::table::{Part, Row};
-use crate::words::{Choice, Takes, Times, Word};
+use crate::words::{Choice, Takes};
 use std::alloc::AllocError;
 
 /// A shell that completes words.
@@ -86,7 +86,7 @@ fn append_bash(text: &mut String, parts: &[Part]) -> Result<(), AllocError> {
 fn append_bash_row(text: &mut String, row: &Row) -> Result<(), AllocError> {
     append_all(text, &["  ", row.name, ") options='"])?;
     for word in row.words {
-        if let Times::OneOr(option) = word.times {
+        for option in word.times.instead() {
             append_all(text, &["--", option.name, " "])?;
         }
     }
@@ -146,8 +146,8 @@ fn append_zsh(text: &mut String, parts: &[Part]) -> Result<(), AllocError> {
 fn append_zsh_row(text: &mut String, row: &Row) -> Result<(), AllocError> {
     append_all(text, &["  ", row.name, ") options=("])?;
     for word in row.words {
-        if let Times::OneOr(option) = word.times {
-            append_zsh_option(text, option)?;
+        for option in word.times.instead() {
+            append_zsh_option(text, *option)?;
         }
     }
     for option in row.options {
@@ -196,20 +196,14 @@ fn append_fish_row(text: &mut String, row: &Row) -> Result<(), AllocError> {
     append_quoted(text, row.line, "\\'")?;
     text.push_str("'\n")?;
     for word in row.words {
-        append_fish_word(text, row.name, word)?;
+        for option in word.times.instead() {
+            append_fish_option(text, row.name, *option)?;
+        }
     }
     for option in row.options {
         append_fish_option(text, row.name, *option)?;
     }
     Ok(())
-}
-
-// The option that may stand in place of a word, for fish.
-fn append_fish_word(text: &mut String, command: &str, word: &Word) -> Result<(), AllocError> {
-    match word.times {
-        Times::OneOr(option) => append_fish_option(text, command, option),
-        _ => Ok(()),
-    }
 }
 
 // An option of a command, for fish.

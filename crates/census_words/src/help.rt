@@ -86,7 +86,7 @@ pub fn words_text(alloc: Global, words: &[Word]) -> Result<String, AllocError> {
         let (front, back) = match word.times {
             Times::One | Times::OneOr(_) => (" ", ""),
             Times::OneOrNone => (" [", "]"),
-            Times::OneOrMore | Times::Any => (" ", ".."),
+            Times::OneOrMore | Times::OneOrMoreUnless(_) | Times::Any => (" ", ".."),
         };
         text.push_str(front)?;
         text.push_str(word.name)?;

@@ -4,7 +4,7 @@ use crate::entry::Entry;
 use crate::help::{EXAMPLE, TITLE, words_text};
 use crate::manual_texts::{DESCRIPTION, FAULTS, FILES, SEE_ALSO};
 use crate::table::{Part, Row};
-use crate::words::{self, Choice, Takes, Times, Word};
+use crate::words::{self, Choice, Takes, Word};
 use std::alloc::{AllocError, Global};
 
 // What stands before the title, and between it and the description.
@@ -99,10 +99,10 @@ fn append_word(alloc: Global, page: &mut String, word: &Word) -> Result<(), Allo
     }
     let line = format!(in alloc; ".br\n.IR {name} :\n{meaning}.\n")?;
     page.push_str(&line)?;
-    match word.times {
-        Times::OneOr(option) => append_option(alloc, page, &option),
-        _ => Ok(()),
+    for option in word.times.instead() {
+        append_option(alloc, page, option)?;
     }
+    Ok(())
 }
 
 // What an option means.

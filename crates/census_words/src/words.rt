@@ -16,14 +16,26 @@ pub struct Word {
 pub enum Times {
     /// Once.
     One,
-    /// Once, or this option in its place, which takes nothing.
-    OneOr(Choice),
+    /// Once, or one of these options in its place.
+    OneOr(&'static [Choice]),
     /// Once or not at all.
     OneOrNone,
     /// Once or more.
     OneOrMore,
+    /// Once or more, or not at all where this option stands.
+    OneOrMoreUnless(Choice),
     /// Any number of times, or not at all.
     Any,
+}
+
+impl Times {
+    /// The options that may stand in place of the word, and are not among those of its command.
+    pub(crate) fn instead(self) -> &'static [Choice] {
+        match self {
+            Times::OneOr(options) => options,
+            _ => &[],
+        }
+    }
 }
 
 /// An option that a command takes.
@@ -57,11 +69,11 @@ pub const STATE: Word = Word {
     times: Times::One,
 };
 
-/// The author of a new state, or `--draw` in its place.
+/// The author of a new state, or `--draw` or `--for` in its place.
 pub const ID: Word = Word {
     name: "ID",
     meaning: "The author of what is issued there, 1 to 4294967295; each person needs a different one",
-    times: Times::OneOr(DRAW),
+    times: Times::OneOr(&[DRAW, FOR]),
 };
 
 /// In place of the author: the number is drawn.
@@ -69,6 +81,14 @@ pub const DRAW: Choice = Choice {
     name: "draw",
     takes: Takes::Nothing,
     meaning: "In place of ID: the number is drawn, so that nobody need know the numbers of others",
+    default: None,
+};
+
+/// In place of the author: the number is that of a text.
+pub const FOR: Choice = Choice {
+    name: "for",
+    takes: Takes::One("TEXT"),
+    meaning: "In place of ID: the number that TEXT has by its SHA-256, and so always the same one",
     default: None,
 };
 
@@ -171,6 +191,21 @@ pub const ADDR: Word = Word {
     times: Times::One,
 };
 
+/// The address at which one other replica is met.
+pub const PEER: Word = Word {
+    name: "ADDR",
+    meaning: "An address such as 127.0.0.1:4000",
+    times: Times::OneOr(&[STDIO]),
+};
+
+/// In place of the address: the session goes over the standard streams.
+pub const STDIO: Choice = Choice {
+    name: "stdio",
+    takes: Takes::Nothing,
+    meaning: "In place of ADDR: the session goes over standard input and output, as ssh lends them",
+    default: None,
+};
+
 /// The code of a game.
 pub const CODE: Word = Word {
     name: "CODE",
@@ -185,17 +220,17 @@ pub const COUNT: Word = Word {
     times: Times::One,
 };
 
-/// The codes of games, of which there are some.
+/// The codes of games, of which there are some, or a list of codes.
 pub const CODES: Word = Word {
     name: "CODE",
-    meaning: "One or more octal codes such as 0.77",
-    times: Times::OneOrMore,
+    meaning: "Octal codes such as 0.77: one or more, or as many as one likes where --codes stands",
+    times: Times::OneOrMoreUnless(LIST),
 };
 
 /// The codes of games; there may be none.
 pub const GAMES: Word = Word {
     name: "CODE",
-    meaning: "Octal codes such as 0.77; all games where there is none",
+    meaning: "Octal codes such as 0.77; all games where there is none, and no --codes",
     times: Times::Any,
 };
 
@@ -330,6 +365,22 @@ pub const PART: Choice = Choice {
     name: "part",
     takes: Takes::One("I/N"),
     meaning: "Takes the I-th of the codes, the I+N-th, and so on: one of N parts, 1 to 65536",
+    default: None,
+};
+
+/// The games whose operations alone are written.
+pub const OF_GAMES: Choice = Choice {
+    name: "only",
+    takes: Takes::Many("CODE"),
+    meaning: "Writes the blocks and claims of this game alone; may stand several times",
+    default: None,
+};
+
+/// Whether games are left out that are done.
+pub const SKIP_DONE: Choice = Choice {
+    name: "skip-done",
+    takes: Takes::Nothing,
+    meaning: "Leaves out the games of which blocks of the state's author have the heaps 1 to COUNT - 1",
     default: None,
 };
 

@@ -3,4 +3,4 @@ pub mod Listing
 pub mod Numerals
 pub mod Places
 mod ReadingBack
-pub mod Splitting
+pub mod WordEnds

@@ -3,7 +3,7 @@ use Rattle.std.proofs.Common.{◌≡◌, ◌⊎◌, inl, inr, ℕ, ◌==◌, Boo
 use Rattle.std.specs.Prelude.{if◌then◌else◌}
 use Rattle.std.specs.List.{onto_first, position_or_len}
 use Rattle.oct_text.specs.Words.{Text}
-use Rattle.oct_bfile.specs.Bfile.{begins_with_feed, end_len, ends_line, lines}
+use Rattle.oct_bfile.specs.Bfile.{begins_with_feed, behind_line, end_len, ends_line, lines}
 use Rattle.oct_bfile.proofs.Places.{len-no, rest_from, rest_from-drop}
 
 -- the first line, and the lines behind its end
@@ -56,3 +56,10 @@ next_line_is bs n e some len end =
     ∙ sym (ap (λ m. take m bs ∷ lines (drop (end_len (drop m bs)) (drop m bs))) len)
     ∙ sym (ap (λ r. take n bs ∷ lines (drop (end_len r) r)) (rest_from-drop n bs))
     ∙ sym (ap (λ l. take n bs ∷ lines l) (rest_from-drop e (rest_from n bs) ∙ ap (λ m. drop m (rest_from n bs)) end))
+
+-- what stands behind that end
+pub behind_is : (bs : Text) (n e : ℕ) → n ≡ position_or_len ends_line bs → e ≡ end_len (rest_from n bs) → rest_from e (rest_from n bs) ≡ behind_line bs
+behind_is bs n e len end =
+    rest_from-drop e (rest_from n bs) ∙ ap (λ m. drop m (rest_from n bs)) end
+    ∙ ap (λ r. drop (end_len r) r) (rest_from-drop n bs)
+    ∙ ap (λ m. drop (end_len (drop m bs)) (drop m bs)) len

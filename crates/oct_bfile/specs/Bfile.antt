@@ -1,7 +1,7 @@
 -- b-files: texts that list the values of a sequence, a line to each, as the On-Line Encyclopedia of Integer Sequences has
 -- them.
-use Rattle.std.specs.Prelude.{ℕ, ◌+◌, ◌^◌, ◌==◌, nat_lt, nat_le, Bool, true, not, ◌&&◌, ◌||◌, List, [], ◌∷◌, ◌++◌, length, filter, map, slice_index, codes, Option, Some, None, Result, Ok, Err, if◌then◌else◌}
-use Rattle.std.specs.List.{filter_map, onto_first, slice_split}
+use Rattle.std.specs.Prelude.{ℕ, ◌+◌, ◌^◌, ◌==◌, nat_lt, nat_le, Bool, true, not, ◌&&◌, ◌||◌, List, [], ◌∷◌, ◌++◌, length, filter, map, drop, slice_index, codes, Option, Some, None, Result, Ok, Err, if◌then◌else◌}
+use Rattle.std.specs.List.{filter_map, onto_first, position_or_len, slice_split}
 use Rattle.std.specs.Fmt.{decimal}
 use Rattle.std.specs.Str.{all_ascii_digits}
 use Rattle.std.specs.Str.Parse.{digits_value}
@@ -51,6 +51,12 @@ abbrev pub end_len : Text → ℕ
 end_len [] = 0
 end_len (b ∷ bs) = if (b == 13) && begins_with_feed bs then 2 else 1
 
+-- what stands behind the end of the first line
+abbrev pub behind_line : Text → Text
+behind_line bs =
+    let rest = drop (position_or_len ends_line bs) bs in
+    drop (end_len rest) rest
+
 -- ---- what a line says
 
 -- a space or a tab
@@ -63,6 +69,14 @@ is_filled part = not (length part == 0)
 -- what stands between the blanks of a line
 abbrev pub words : Text → List Text
 words line = filter is_filled (slice_split is_blank line)
+
+-- a line from its first word on
+abbrev pub from_word : Text → Text
+from_word line = drop (position_or_len (λ b. not (is_blank b)) line) line
+
+-- what stands behind the first word
+abbrev pub behind_word : Text → Text
+behind_word line = drop (position_or_len is_blank (from_word line)) (from_word line)
 
 -- one or more decimal digits, of a number below 2^32
 abbrev pub is_number : Text → Bool

@@ -1,12 +1,13 @@
 //! b-files: texts that list the values of a sequence, a line to each.
+#![tactic(auto, using(oct_ops::proofs::Growing::growing))]
 
-ghost use Rattle.std.specs.Prelude.{◌≡◌, ◌≢◌, ◌+◌, ◌<◌, ◌≤◌, ◌∷◌, ◌++◌, [], Ok, Err, Some, None, length, IfErr, IfOk, IsErrOf, IsOk, MatchOption, OnErr, OnOk};
-ghost use Rattle.std.specs.List.{position, position_or_len};
-ghost use Rattle.oct_text.specs.Growth.{Extends};
-ghost use Rattle.oct_bfile.specs.Bfile.{bfile_of, bfile_text, end_len, ends_line, lines, row_fault, row_text, row_values};
+ghost use Rattle.std.specs.Prelude.{◌≡◌, ◌≢◌, ◌+◌, ◌<◌, ◌≤◌, ◌++◌, Ok, Err, Some, None, length, IfErr, IfOk, IsErrOf, IsOk, OnErr, OnOk};
+ghost use Rattle.oct_ops.specs.Growth.{Extends};
+ghost use Rattle.oct_bfile.specs.Bfile.{bfile_of, bfile_text, row_fault, row_text, row_values};
 
 use crate::bfile_error::BfileError;
 use crate::bfile_line::{BfileLine, line_of};
+use crate::splitting::next_line;
 use oct_code::LIMIT;
 use oct_text::{append_labelled, append_number, append_text};
 use std::alloc::{AllocError, Allocator};
@@ -135,51 +136,4 @@ fn check_row(line: usize, due: Option<u32>, number: u32) -> Result<(), BfileErro
         return Err(BfileError::PastLimit { line });
     }
     Ok(())
-}
-
-// The first line of a text, and what stands behind its end.
-fn next_line(bytes: &[u8]) -> Option<(&[u8], &[u8])>
-    ensures lines { MatchOption result (lines bytes.now ≡ []) (λ parts. lines bytes.now ≡ parts.0.now ∷ lines parts.1.now) }
-    ensures shorter { MatchOption result (length bytes.now ≡ 0) (λ parts. length parts.1.now < length bytes.now) }
-{
-    if bytes.is_empty() {
-        return None;
-    }
-    let len = line_len(bytes);
-    let rest = &bytes[len..];
-    Some((&bytes[..len], &rest[end_len(rest)..]))
-}
-
-// How many bytes stand before the first LF or CR, or all where there is none.
-fn line_len(bytes: &[u8]) -> usize
-    ensures value { result ≡ position_or_len ends_line bytes.now }
-    ensures within { result ≤ length bytes.now }
-{
-    first_end(bytes).unwrap_or(bytes.len())
-}
-
-// The place of the first LF or CR.
-fn first_end(bytes: &[u8]) -> Option<usize>
-    ensures { result ≡ position ends_line bytes.now }
-{
-    bytes.iter().position(|byte| ends_line(*byte))
-}
-
-// How many bytes the end of a line takes with which these begin; none at the end of the text.
-fn end_len(bytes: &[u8]) -> usize
-    ensures value { result ≡ end_len bytes.now }
-    ensures within { result ≤ length bytes.now }
-{
-    match bytes {
-        [] => 0,
-        [b'\r', b'\n', ..] => 2,
-        _ => 1,
-    }
-}
-
-// Whether the byte is an LF or a CR.
-fn ends_line(byte: u8) -> bool
-    ensures { result ≡ ends_line byte }
-{
-    byte == b'\n' || byte == b'\r'
 }

@@ -9,7 +9,6 @@ pub mod Taken
 pub mod TakenLaws
 pub mod Passing
 pub mod Formats
-pub mod Writing
 pub mod Streaming
 pub mod State
 pub mod Spelling

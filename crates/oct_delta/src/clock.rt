@@ -1,4 +1,5 @@
 //! Clocks as bytes.
+#![tactic(auto, using(oct_ops::proofs::Growing::growing))]
 
 ghost use Rattle.std.specs.Prelude.{◌≡◌, ◌↔◌, ◌<◌, ◌^◌, ◌++◌, true, None, Some, Ok, [], length, IfOk, IfErr, OnOk, OnErr, IsErrOf};
 ghost use Rattle.std.specs.List.{flat_map};
@@ -7,7 +8,7 @@ ghost use Rattle.oct_join.specs.Entries.{Entries};
 ghost use Rattle.oct_delta.specs.Decoding.{all_of};
 ghost use Rattle.oct_delta.specs.Reading.{Gives, GivesIfRoom, skipped, chain_at, follows, next_at};
 ghost use Rattle.oct_delta.specs.Clocks.{IsClockText, author_cmp, entry_at, entries_at, entry_bytes, entries_bytes, clock_bytes, read_clock};
-ghost use Rattle.oct_delta.specs.Writing.{Keeps};
+ghost use Rattle.oct_ops.specs.Growth.{Extends};
 
 use crate::error::ClockError;
 use crate::fault::{ReadError, TextFault};
@@ -142,7 +143,7 @@ pub fn put_entries<A: Allocator>(
 ) -> Result<(), AllocError>
     requires { length entries.now < 2 ^ 32 }
     ensures ok { OnOk result (out.new.items ≡ out.old.items ++ entries_bytes entries.now) }
-    ensures kept { Keeps out.old.items out.new.items }
+    ensures kept { Extends out.old.items out.new.items }
 {
     put_u32(out, entries.len() as u32)?;
     put_each(out, entries)
@@ -150,6 +151,7 @@ pub fn put_entries<A: Allocator>(
 
 /// Appends the one text of a clock to `out`. After a refusal `out` is as it was. A clock always has a text,
 /// since its authors are distinct `u32`s.
+#[tactic(auto, using(oct_ops::proofs::Growing::cutting))]
 pub fn encode_clock<A: Allocator>(clock: &Clock<A>, out: &mut Vec<u8, A>) -> Result<(), AllocError>
     ensures ok { OnOk result (out.new.items ≡ out.old.items ++ clock_bytes clock.now) }
     ensures err { OnErr result (out.new.items ≡ out.old.items) }

@@ -1,4 +1,5 @@
 //! The delta of the operations that a set gives one by one, without a list of them.
+#![tactic(auto, using(oct_ops::proofs::Growing::growing))]
 
 ghost use Rattle.std.specs.Prelude.{◌≡◌, ◌↔◌, ◌≤◌, ◌<◌, ◌^◌, ◌++◌, length, OnOk, OnErr, IsErrOf};
 ghost use Rattle.std.specs.List.{flat_map, list_all};
@@ -6,7 +7,7 @@ ghost use Rattle.oct_ops.specs.Limits.{keeps_old_limits};
 ghost use Rattle.oct_delta.specs.Text.{op_bytes};
 ghost use Rattle.oct_delta.specs.Delta.{format_of, encoded};
 ghost use Rattle.oct_delta.specs.Formats.{format};
-ghost use Rattle.oct_delta.specs.Writing.{Keeps};
+ghost use Rattle.oct_ops.specs.Growth.{Extends};
 
 use crate::error::EncodeError;
 use crate::format::Edition;
@@ -18,7 +19,7 @@ use std::alloc::{AllocError, Allocator};
 // Appends operations.
 fn put_ops<A: Allocator>(out: &mut Vec<u8, A>, ops: Ops<'_, A>) -> Result<(), AllocError>
     ensures ok { OnOk result (out.new.items ≡ out.old.items ++ flat_map op_bytes ops.entry) }
-    ensures kept { Keeps out.old.items out.new.items }
+    ensures kept { Extends out.old.items out.new.items }
 {
     for op in ops {
         op.put(out)?;
@@ -53,7 +54,7 @@ fn edition_of_each<A: Allocator>(ops: Ops<'_, A>) -> Edition
 fn put_set<A: Allocator>(out: &mut Vec<u8, A>, ops: Ops<'_, A>) -> Result<(), AllocError>
     requires { length ops < 2 ^ 32 }
     ensures ok { OnOk result (out.new.items ≡ out.old.items ++ encoded ops.entry) }
-    ensures kept { Keeps out.old.items out.new.items }
+    ensures kept { Extends out.old.items out.new.items }
 {
     let count = ops.len() as u32;
     let all = ops.clone()?;
@@ -65,6 +66,7 @@ fn put_set<A: Allocator>(out: &mut Vec<u8, A>, ops: Ops<'_, A>) -> Result<(), Al
 /// Appends the one text of the operations that are left of an iterator over a set, as `encode` does for a list. No
 /// operation is copied. After a refusal `out` is as it was. The answer is `TooMany` exactly where their number is no
 /// `u32`.
+#[tactic(auto, using(oct_ops::proofs::Growing::cutting))]
 pub fn encode_each<A: Allocator>(ops: Ops<'_, A>, out: &mut Vec<u8, A>) -> Result<(), EncodeError>
     ensures ok { OnOk result (out.new.items ≡ out.old.items ++ encoded ops.entry) }
     ensures too_many { IsErrOf result EncodeError.TooMany ↔ (2 ^ 32 ≤ length ops.entry) }

@@ -1,4 +1,5 @@
 //! Deltas as bytes.
+#![tactic(auto, using(oct_ops::proofs::Growing::growing))]
 
 ghost use Rattle.std.specs.Prelude.{◌≡◌, ◌↔◌, ◌≤◌, ◌<◌, ◌^◌, ◌∷◌, ◌++◌, [], length, OnOk, OnErr, IsErrOf};
 ghost use Rattle.std.specs.List.{list_all};
@@ -7,7 +8,7 @@ ghost use Rattle.oct_ops.specs.Views.{content};
 ghost use Rattle.oct_delta.specs.Text.{code_bytes, dot_bytes, block_bytes, note_bytes, period_bytes, removal_bytes, body_bytes, op_bytes, u16, u32};
 ghost use Rattle.oct_delta.specs.Delta.{format_of, delta_bytes, encoded};
 ghost use Rattle.oct_delta.specs.Formats.{format};
-ghost use Rattle.oct_delta.specs.Writing.{Keeps};
+ghost use Rattle.oct_ops.specs.Growth.{Extends};
 
 use crate::error::EncodeError;
 use crate::format::Edition;
@@ -28,7 +29,7 @@ impl Put for Dot {
 // Appends a code: head, number of digits, digits.
 fn put_code<A: Allocator>(out: &mut Vec<u8, A>, code: Code) -> Result<(), AllocError>
     ensures ok { OnOk result (out.new.items ≡ out.old.items ++ code_bytes code) }
-    ensures kept { Keeps out.old.items out.new.items }
+    ensures kept { Extends out.old.items out.new.items }
 {
     put_byte(out, code.head())?;
     put_byte(out, code.len() as u8)?;
@@ -41,7 +42,7 @@ fn put_block<A: Allocator, B: Allocator>(
     block: &Block<B>,
 ) -> Result<(), AllocError>
     ensures ok { OnOk result (out.new.items ≡ out.old.items ++ block_bytes block.now) }
-    ensures kept { Keeps out.old.items out.new.items }
+    ensures kept { Extends out.old.items out.new.items }
 {
     let values = block.values();
     put_code(out, block.code())?;
@@ -53,7 +54,7 @@ fn put_block<A: Allocator, B: Allocator>(
 // Appends a period claim.
 fn put_period<A: Allocator>(out: &mut Vec<u8, A>, period: &Period) -> Result<(), AllocError>
     ensures ok { OnOk result (out.new.items ≡ out.old.items ++ period_bytes period.now) }
-    ensures kept { Keeps out.old.items out.new.items }
+    ensures kept { Extends out.old.items out.new.items }
 {
     put_code(out, period.code())?;
     put_u32(out, period.start())?;
@@ -66,7 +67,7 @@ fn put_note<A: Allocator, B: Allocator>(
     note: &Note<B>,
 ) -> Result<(), AllocError>
     ensures ok { OnOk result (out.new.items ≡ out.old.items ++ note_bytes note.now) }
-    ensures kept { Keeps out.old.items out.new.items }
+    ensures kept { Extends out.old.items out.new.items }
 {
     let name = note.name();
     let text = note.text();
@@ -82,7 +83,7 @@ fn put_removal<A: Allocator, B: Allocator>(
     removal: &Removal<B>,
 ) -> Result<(), AllocError>
     ensures ok { OnOk result (out.new.items ≡ out.old.items ++ removal_bytes removal.now) }
-    ensures kept { Keeps out.old.items out.new.items }
+    ensures kept { Extends out.old.items out.new.items }
 {
     let dots = removal.dots();
     put_u16(out, dots.len() as u16)?;
@@ -95,7 +96,7 @@ fn put_body<A: Allocator, B: Allocator>(
     body: &Body<B>,
 ) -> Result<(), AllocError>
     ensures ok { OnOk result (out.new.items ≡ out.old.items ++ body_bytes (content body.now)) }
-    ensures kept { Keeps out.old.items out.new.items }
+    ensures kept { Extends out.old.items out.new.items }
 {
     match body {
         Body::Block(block) => put_block(out, block),
@@ -137,7 +138,7 @@ fn edition_of<A: Allocator>(ops: &[Op<A>]) -> Edition
 fn put_delta<A: Allocator>(out: &mut Vec<u8, A>, ops: &[Op<A>]) -> Result<(), AllocError>
     requires { length ops.now < 2 ^ 32 }
     ensures ok { OnOk result (out.new.items ≡ out.old.items ++ encoded ops.now) }
-    ensures kept { Keeps out.old.items out.new.items }
+    ensures kept { Extends out.old.items out.new.items }
 {
     put_bytes(out, &edition_of(ops).tag())?;
     put_u32(out, ops.len() as u32)?;

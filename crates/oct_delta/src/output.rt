@@ -1,18 +1,18 @@
 //! Bytes and numbers at the end of a vector. A refusal leaves what was there before at the front.
+#![tactic(auto, using(oct_ops::proofs::Growing::growing))]
 
 ghost use Rattle.std.specs.Prelude.{◌≡◌, ◌∷◌, ◌++◌, [], OnOk};
 ghost use Rattle.std.specs.List.{flat_map};
 ghost use Rattle.oct_delta.specs.Text.{Bytes, u16, u32};
-ghost use Rattle.oct_delta.specs.Writing.{Keeps};
+ghost use Rattle.oct_ops.specs.Growth.{Extends};
 
 use byteorder::{BigEndian, ByteOrder};
 use std::alloc::{AllocError, Allocator};
 
 /// Appends the bytes. After a refusal what was there before is at the front.
-#[tactic(auto, using(crate::proofs::Written::keeps_same, crate::proofs::Written::keeps_more))]
 pub fn put_bytes<A: Allocator>(out: &mut Vec<u8, A>, bytes: &[u8]) -> Result<(), AllocError>
     ensures ok { OnOk result (out.new.items ≡ out.old.items ++ bytes.now) }
-    ensures kept { Keeps out.old.items out.new.items }
+    ensures kept { Extends out.old.items out.new.items }
 {
     out.extend_from_slice(bytes)
 }
@@ -20,7 +20,7 @@ pub fn put_bytes<A: Allocator>(out: &mut Vec<u8, A>, bytes: &[u8]) -> Result<(),
 /// Appends a byte.
 pub(crate) fn put_byte<A: Allocator>(out: &mut Vec<u8, A>, byte: u8) -> Result<(), AllocError>
     ensures ok { OnOk result (out.new.items ≡ out.old.items ++ byte ∷ []) }
-    ensures kept { Keeps out.old.items out.new.items }
+    ensures kept { Extends out.old.items out.new.items }
 {
     put_bytes(out, &[byte])
 }
@@ -28,7 +28,7 @@ pub(crate) fn put_byte<A: Allocator>(out: &mut Vec<u8, A>, byte: u8) -> Result<(
 /// Appends a number of 16 bits, big-endian.
 pub(crate) fn put_u16<A: Allocator>(out: &mut Vec<u8, A>, number: u16) -> Result<(), AllocError>
     ensures ok { OnOk result (out.new.items ≡ out.old.items ++ u16 number) }
-    ensures kept { Keeps out.old.items out.new.items }
+    ensures kept { Extends out.old.items out.new.items }
 {
     let mut bytes = [0; 2];
     BigEndian::write_u16(&mut bytes, number);
@@ -38,7 +38,7 @@ pub(crate) fn put_u16<A: Allocator>(out: &mut Vec<u8, A>, number: u16) -> Result
 /// Appends a number of 32 bits, big-endian. After a refusal what was there before is at the front.
 pub fn put_u32<A: Allocator>(out: &mut Vec<u8, A>, number: u32) -> Result<(), AllocError>
     ensures ok { OnOk result (out.new.items ≡ out.old.items ++ u32 number) }
-    ensures kept { Keeps out.old.items out.new.items }
+    ensures kept { Extends out.old.items out.new.items }
 {
     let mut bytes = [0; 4];
     BigEndian::write_u32(&mut bytes, number);
@@ -52,7 +52,7 @@ pub(crate) trait Put {
     /// Appends its bytes. After a refusal what was there before is at the front.
     fn put<A: Allocator>(&self, out: &mut Vec<u8, A>) -> Result<(), AllocError>
         ensures ok { OnOk result (out.new.items ≡ out.old.items ++ spelled self.now) }
-        ensures kept { Keeps out.old.items out.new.items };
+        ensures kept { Extends out.old.items out.new.items };
 }
 
 impl Put for u32 {
@@ -69,7 +69,7 @@ pub(crate) fn put_each<P: Put, A: Allocator>(
     items: &[P],
 ) -> Result<(), AllocError>
     ensures ok { OnOk result (out.new.items ≡ out.old.items ++ flat_map P.spelled items.now) }
-    ensures kept { Keeps out.old.items out.new.items }
+    ensures kept { Extends out.old.items out.new.items }
 {
     for item in items {
         item.put(out)?;

@@ -5,6 +5,7 @@ pub mod Codes
 pub mod DotOrder
 pub mod Faults
 pub mod Games
+pub mod Growth
 pub mod Laws
 pub mod Limits
 pub mod ListOrder

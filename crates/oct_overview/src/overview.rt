@@ -1,10 +1,11 @@
 //! What is told of games, a line for each, and of each block and claim that is refuted.
+#![tactic(auto, using(oct_ops::proofs::Growing::growing))]
 
 ghost use Rattle.std.specs.Prelude.{◌≡◌, ◌++◌, map, slice_get, OnErr, OnOk};
 ghost use Rattle.std.specs.List.{flat_map};
 ghost use Rattle.oct_ops.specs.Operations.{listed};
 ghost use Rattle.oct_pages.specs.Contents.{game_content};
-ghost use Rattle.oct_text.specs.Growth.{Extends};
+ghost use Rattle.oct_ops.specs.Growth.{Extends};
 ghost use Rattle.oct_pages.specs.Sheet.{game_sheet};
 ghost use Rattle.oct_store.specs.Summary as summary;
 ghost use Rattle.oct_sheet.specs.Sheet.{names_of};

@@ -1,4 +1,3 @@
-pub use Rattle.oct_text.proofs.Growing
 pub use Rattle.oct_text.proofs.Members
 pub mod Rows
 pub mod Held

@@ -1,9 +1,10 @@
 //! The lines of authors and forks.
+#![tactic(auto, using(oct_ops::proofs::Growing::growing))]
 
 ghost use Rattle.std.specs.Prelude.{map, OnOk};
 ghost use Rattle.oct_ops.specs.Operations.{listed};
 ghost use Rattle.oct_pages.specs.Catalogue.{author_line, author_text, fork_line, fork_text};
-ghost use Rattle.oct_pages.specs.Growth.{Extends};
+ghost use Rattle.oct_ops.specs.Growth.{Extends};
 ghost use Rattle.oct_pages.specs.Pager.{AreShown};
 ghost use Rattle.oct_store.specs.Summary as summary;
 

@@ -1,8 +1,9 @@
 //! The lines of a game and its blocks.
+#![tactic(auto, using(oct_ops::proofs::Growing::growing))]
 
 ghost use Rattle.std.specs.Prelude.{◌≡◌, ◌++◌, OnOk};
 ghost use Rattle.oct_pages.specs.Catalogue.{game_text, block_head_text, refutation_text, status_text};
-ghost use Rattle.oct_pages.specs.Growth.{Extends};
+ghost use Rattle.oct_ops.specs.Growth.{Extends};
 
 use crate::line::Line;
 use crate::statuses::BlockRow;

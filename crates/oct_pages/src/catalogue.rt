@@ -1,11 +1,12 @@
 //! The whole catalogue, and its pages.
+#![tactic(auto, using(oct_ops::proofs::Growing::growing))]
 
 ghost use Rattle.std.specs.Prelude.{◌≡◌, ◌++◌, false, OnOk, OnErr, IfOk};
 ghost use Rattle.oct_notes.specs.Notes.{notes_of};
 ghost use Rattle.oct_ops.specs.Operations.{listed};
 ghost use Rattle.oct_pages.specs.Catalogue.{catalogue, has_page, lines, page as page_text};
 ghost use Rattle.oct_pages.specs.GamesIn.{AreGamesIn};
-ghost use Rattle.oct_pages.specs.Growth.{Extends};
+ghost use Rattle.oct_ops.specs.Growth.{Extends};
 ghost use Rattle.oct_pages.specs.Rest.{lines_after_games};
 ghost use Rattle.oct_pages.specs.Pager.{AreShown};
 

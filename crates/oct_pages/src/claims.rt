@@ -1,8 +1,9 @@
 //! The lines of a game's period claims.
+#![tactic(auto, using(oct_ops::proofs::Growing::growing))]
 
 ghost use Rattle.std.specs.Prelude.{◌≡◌, ◌++◌, OnOk};
 ghost use Rattle.oct_pages.specs.Catalogue.{period_status_text, period_head_text};
-ghost use Rattle.oct_pages.specs.Growth.{Extends};
+ghost use Rattle.oct_ops.specs.Growth.{Extends};
 
 use crate::line::Line;
 use crate::statuses::PeriodRow;

@@ -1,4 +1,5 @@
 //! The lines of games.
+#![tactic(auto, using(oct_ops::proofs::Growing::growing))]
 
 ghost use Rattle.std.specs.Prelude.{◌≡◌, true, OnOk};
 ghost use Rattle.std.specs.List.{list_all, flat_map};
@@ -8,7 +9,7 @@ ghost use Rattle.oct_store.specs.Summary as summary;
 ghost use Rattle.oct_pages.specs.Catalogue.{blocks_of, games as games_of, game_lines};
 ghost use Rattle.oct_pages.specs.Contents.{game_content};
 ghost use Rattle.oct_pages.specs.GamesIn.{AreGamesIn};
-ghost use Rattle.oct_pages.specs.Growth.{Extends};
+ghost use Rattle.oct_ops.specs.Growth.{Extends};
 ghost use Rattle.oct_pages.specs.Sheet.{sheet_by, sheet_lines};
 ghost use Rattle.oct_pages.specs.Pager.{AreShown};
 

@@ -1,8 +1,9 @@
 //! Lines of a catalogue, and which of them are shown.
+#![tactic(auto, using(oct_ops::proofs::Growing::growing))]
 
 ghost use Rattle.std.specs.Prelude.{◌≡◌, ◌++◌, ◌∷◌, [], map, OnOk};
 ghost use Rattle.oct_pages.specs.Catalogue.{Text};
-ghost use Rattle.oct_pages.specs.Growth.{Extends};
+ghost use Rattle.oct_ops.specs.Growth.{Extends};
 ghost use Rattle.oct_pages.specs.Pager.{AreShown};
 
 use crate::pager::Pager;

@@ -1,9 +1,10 @@
 //! The lines of a game's values.
+#![tactic(auto, using(oct_ops::proofs::Growing::growing))]
 
 ghost use Rattle.std.specs.Prelude.{◌≡◌, ◌*◌, ◌<◌, ◌^◌, ◌++◌, ◌∷◌, [], OnOk, length};
 ghost use Rattle.std.specs.List.{flat_map};
 ghost use Rattle.oct_pages.specs.Catalogue.{value_text, values_per_line, values_text, values_line, values_lines};
-ghost use Rattle.oct_pages.specs.Growth.{Extends};
+ghost use Rattle.oct_ops.specs.Growth.{Extends};
 ghost use Rattle.oct_pages.specs.Pager.{AreShown};
 
 use crate::pager::Pager;

@@ -1,4 +1,3 @@
-pub use Rattle.oct_text.specs.Growth
 pub mod Axes
 pub mod Plot
 pub mod PlotLaws

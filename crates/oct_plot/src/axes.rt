@@ -1,8 +1,8 @@
 //! The axes of a plot.
-#![tactic(auto, using(oct_text::proofs::Growing::extends_trans))]
+#![tactic(auto, using(oct_ops::proofs::Growing::growing))]
 
 ghost use Rattle.std.specs.Prelude.{◌≡◌, ◌++◌, ◌*◌, ◌<◌, ◌^◌, OnOk, find, nat_le};
-ghost use Rattle.oct_text.specs.Growth.{Extends};
+ghost use Rattle.oct_ops.specs.Growth.{Extends};
 ghost use Rattle.oct_plot.specs.Axes.{axes, marked, step_of, tick, ticks};
 ghost use Rattle.oct_plot.specs.Points.{IsFrame};
 

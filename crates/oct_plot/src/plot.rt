@@ -1,8 +1,8 @@
 //! The plot of a game's known nim-values.
-#![tactic(auto, using(oct_text::proofs::Growing::extends_trans))]
+#![tactic(auto, using(oct_ops::proofs::Growing::growing))]
 
 ghost use Rattle.std.specs.Prelude.{◌≡◌, ◌++◌, ◌<◌, ◌≤◌, ◌^◌, IfOk, None, OnErr, OnOk, length};
-ghost use Rattle.oct_text.specs.Growth.{Extends};
+ghost use Rattle.oct_ops.specs.Growth.{Extends};
 ghost use Rattle.oct_plot.specs.Points.{IsFrame, points_of};
 ghost use Rattle.oct_plot.specs.Sentence.{sentence};
 ghost use Rattle.oct_plot.specs.Plot.{head, period_text, plot, plot_with, points_head, points_kind, points_text, proved_text, right_of, row_begin, runs_text, shade, shades, title, way_from, way_text, ways_text};

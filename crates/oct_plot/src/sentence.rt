@@ -1,8 +1,9 @@
 //! What is proved of all heaps of a game, in words.
+#![tactic(auto, using(oct_ops::proofs::Growing::growing))]
 
 ghost use Rattle.std.specs.Prelude.{◌≡◌, ◌++◌, OnOk, take, drop};
 ghost use Rattle.std.specs.List.{flat_map};
-ghost use Rattle.oct_text.specs.Growth.{Extends};
+ghost use Rattle.oct_ops.specs.Growth.{Extends};
 ghost use Rattle.oct_plot.specs.Sentence.{goes_on, period_words, sentence, short_words, word_of};
 
 use oct_ops::Period;

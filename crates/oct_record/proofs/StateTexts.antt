@@ -1,5 +1,5 @@
 -- The text of a state, part by part.
-use Rattle.std.proofs.Common.{◌≡◌, ℕ, true, false, Result, Ok, Err, OnOk, OnErr, List, ◌++◌, drop, refl, sym, ap, subst, ◌∙◌, append_assoc}
+use Rattle.std.proofs.Common.{◌≡◌, ℕ, true, false, Result, Ok, Err, OnOk, List, ◌++◌, drop, refl, sym, ap, subst, ◌∙◌, append_assoc}
 use Rattle.std.proofs.lemmas.List.{drop_at}
 use Rattle.std.specs.Result.{is_err}
 use Rattle.oct_ops.specs.Body.{Operation}
@@ -9,9 +9,7 @@ use Rattle.oct_ops.specs.SetLaws.{listed-set_of}
 use Rattle.oct_delta.specs.Text.{Bytes, u32}
 use Rattle.oct_delta.specs.Delta.{IsDeltaText}
 use Rattle.oct_delta.specs.State.{IsState, state_tag}
-use Rattle.oct_delta.specs.Writing.{Keeps}
 use Rattle.oct_delta.proofs.Deltas.{text_rising}
-use Rattle.oct_delta.proofs.Written.{keeps_more, keeps_same}
 use Rattle.oct_record.specs.Content.{RecordContent}
 use Rattle.oct_record.specs.States.{has_tag, state_text, IsHeaded, RefusesState, RefusesList}
 use Rattle.oct_record.specs.declared.error.LoadError.{LoadError}
@@ -62,7 +60,3 @@ pub state_saved : (out new : Bytes) (inside now : RecordContent) (list : List Op
 state_saved out new inside now list written is same =
     written ∙ ap (λ (ops : List Operation). out ++ state_text inside.author ops) is
     ∙ ap (λ (r : RecordContent). out ++ state_text r.author (listed r.ops)) same
-
-pub keeps_either : {T E : Type 0} (r : Result T E) (old new more : Bytes) → OnOk r (new ≡ old ++ more) → OnErr r (new ≡ old) → Keeps old new
-keeps_either (Ok x) old new more ok err = keeps_more old new more ok
-keeps_either (Err y) old new more ok err = keeps_same old new err

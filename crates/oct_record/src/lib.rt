@@ -28,4 +28,4 @@ mod valid;
 pub use error::{AuthorError, IssueError, LoadError, RemovalError, RenumberError, TakeError};
 pub use holder::Holder;
 pub use record::Record;
-pub use state::read_state;
+pub use state::parse_state;

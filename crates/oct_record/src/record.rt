@@ -27,7 +27,7 @@ ghost use Rattle.oct_record.specs.Valid.{AreValid};
 use crate::error::{AuthorError, IssueError, LoadError, RemovalError, RenumberError, TakeError};
 use crate::holder::Holder;
 use crate::index::{file, unfile};
-use crate::state::{put_state, read_state};
+use crate::state::{parse_state, put_state};
 use crate::taking::{issue, join, take, take_each, take_list};
 use crate::valid::are_valid;
 use oct_code::Code;
@@ -289,6 +289,7 @@ impl<A: Allocator + Copy> Record<A> {
 
     /// Appends the text of the record to `out`: `OGS1`, the author, and the delta of all operations. The answer is
     /// `TooMany` exactly where there are more than 4,294,967,295 of them. After a refusal `out` is as it was.
+    #[tactic(auto, using(oct_ops::proofs::Growing::cutting))]
     pub fn save(&self, out: &mut Vec<u8, A>) -> Result<(), EncodeError>
         ensures ok { OnOk result (out.new.items ≡ out.old.items ++ state_text self.now.author (listed self.now.ops)) }
         ensures too_many { IsErrOf result EncodeError.TooMany ↔ (2 ^ 32 ≤ length (listed self.now.ops)) }
@@ -311,7 +312,7 @@ impl<A: Allocator + Copy> Record<A> {
         ensures ok { IfOk result (λ said. IsState bytes.now said.author said.ops) }
         ensures err { IfErr result (RefusesState bytes.now) }
     {
-        let (author, ops) = read_state(bytes)?;
+        let (author, ops) = parse_state(bytes)?;
         let Ok(mut said) = Record::new(alloc, author) else {
             unreachable!();
         };

@@ -1,11 +1,12 @@
 //! An author and a set of operations as bytes.
+#![tactic(auto, using(oct_ops::proofs::Growing::growing))]
 
 ghost use Rattle.std.specs.Prelude.{◌≡◌, ◌≢◌, ◌≤◌, ◌<◌, ◌^◌, ◌++◌, ℕ, false, length, IfSome, IsNone, IfOk, IfErr, OnOk};
 ghost use Rattle.oct_ops.specs.Operations.{set_of, IsRising};
 ghost use Rattle.oct_delta.specs.Delta.{IsDeltaText};
 ghost use Rattle.oct_delta.specs.State.{state_tag, IsState};
 ghost use Rattle.oct_delta.specs.Text.{Bytes};
-ghost use Rattle.oct_delta.specs.Writing.{Keeps};
+ghost use Rattle.oct_ops.specs.Growth.{Extends};
 ghost use Rattle.oct_record.specs.States.{has_tag, state_text, IsAuthored, IsHeaded, RefusesList, RefusesState};
 
 use crate::error::LoadError;
@@ -15,14 +16,13 @@ use oct_join::Ops;
 use std::alloc::Allocator;
 
 /// Appends the text of an author and the operations of its set. After a refusal what was there before is at the front.
-#[tactic(auto, using(oct_delta::proofs::Written::keeps_then))]
 pub(crate) fn put_state<A: Allocator>(
     out: &mut Vec<u8, A>,
     author: u32,
     ops: Ops<'_, A>,
 ) -> Result<(), EncodeError>
     ensures ok { OnOk result (out.new.items ≡ out.old.items ++ state_text author ops.entry) }
-    ensures kept { Keeps out.old.items out.new.items }
+    ensures kept { Extends out.old.items out.new.items }
 {
     put_bytes(out, b"OGS1")?;
     put_u32(out, author)?;
@@ -32,7 +32,7 @@ pub(crate) fn put_state<A: Allocator>(
 /// The author of a state's text, which is at least 1, and its operations, in order. The answer is `Version` exactly where the
 /// first four bytes are not `OGS1` or are missing, and `Refused` exactly for any other bytes that are no text of a state. Takes
 /// no memory.
-pub fn read_state(bytes: &[u8]) -> Result<(u32, TextOps<'_>), LoadError>
+pub fn parse_state(bytes: &[u8]) -> Result<(u32, TextOps<'_>), LoadError>
     ensures ok { IfOk result (λ x. IsState bytes.now x.0 (set_of x.1)) }
     ensures author { IfOk result (λ x. 1 ≤ x.0) }
     ensures few { IfOk result (λ x. length x.1 < 2 ^ 32) }

@@ -44,7 +44,7 @@ use oct_pages::{write_catalogue_with, write_page_with};
 use oct_period::{ComputeError, Game, Move, Outcome, Unknown, next_block};
 use oct_record::taking::{issue, join, take, take_each, take_list};
 use oct_record::{
-    AuthorError, Holder, IssueError, LoadError, Record, RemovalError, TakeError, read_state,
+    AuthorError, Holder, IssueError, LoadError, Record, RemovalError, TakeError, parse_state,
 };
 use oct_verify::Ledger;
 use std::alloc::{AllocError, Allocator};
@@ -347,7 +347,7 @@ impl<A: Allocator + Copy> Replica<A> {
         ensures ok { IfOk result (λ replica. IsState bytes.now replica.author replica.ops) }
         ensures err { IfErr result (RefusesState bytes.now) }
     {
-        let (author, ops) = read_state(bytes)?;
+        let (author, ops) = parse_state(bytes)?;
         let Ok(mut replica) = Replica::new(alloc, author) else {
             unreachable!();
         };

@@ -11,8 +11,8 @@ use Rattle.std.specs.Cmp.{first_so, second_so}
 use mathlib.Core.Bool.{beq}
 use Rattle.oct_delta.specs.Delta.{encoded}
 use Rattle.oct_delta.specs.Text.{Bytes, op_bytes}
-use Rattle.oct_delta.specs.Writing.{Keeps}
-use Rattle.oct_delta.proofs.Written.{keeps_same, keeps_more, keeps_then}
+use Rattle.oct_ops.specs.Growth.{Extends}
+use Rattle.oct_ops.proofs.Growing.{extends_by, extends_equal, extends_trans}
 use Rattle.oct_ops.specs.Body.{Operation}
 use Rattle.oct_ops.specs.Limits.{keeps_old_limits}
 use Rattle.oct_ops.specs.Operations.{IsRising}
@@ -118,7 +118,7 @@ pub record Gathering (ops pack rest : List Operation) (old now : Bytes) : Type 0
   pub rising : IsRising (pack ++ rest)
   pub is : IsPack pack
   pub written : now ++ frames_of fuel (pack ++ rest) ≡ old ++ delta_frames ops
-  pub kept : Keeps old now
+  pub kept : Extends old now
 
 pub begin : (ops pack rest : List Operation) (old : Bytes) → pack ≡ [] → rest ≡ ops → IsRising ops → Gathering ops pack rest old old
 unfolding frames_of
@@ -130,7 +130,7 @@ begin ops pack rest old none all rising =
       rising = subst IsRising (sym both) rising;
       is = subst IsPack (sym none) (record { fits = omega arith; alike = tt });
       written = ap (λ xs. old ++ frames_of (length ops) xs) both;
-      kept = keeps_same old old refl;
+      kept = extends_equal old old refl;
     }
 
 -- one more operation is gathered
@@ -178,7 +178,7 @@ flushed ops (p ∷ pack) rest more empty o old now new next may none sent g = fl
           is = subst IsPack (sym none) (record { fits = omega arith; alike = tt });
           written = (λ i. sent i ++ frames_of fuel (both i)) ∙ append_assoc now (pack_frame (p ∷ pack)) (frames_of fuel more)
               ∙ ap (λ z. now ++ z) (sym (first_pack fuel p pack more length_is)) ∙ written;
-          kept = keeps_then old now new g.kept (keeps_more now new (pack_frame (p ∷ pack)) sent);
+          kept = extends_trans old now new g.kept (extends_by now new (pack_frame (p ∷ pack)) sent);
         }
 
 -- the last operations are sent

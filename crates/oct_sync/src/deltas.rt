@@ -1,10 +1,11 @@
 //! Operations in frames.
+#![tactic(auto, using(oct_ops::proofs::Growing::growing))]
 
 ghost use Rattle.std.specs.Prelude.{◌≡◌, ◌+◌, ◌<◌, ◌≤◌, ◌∷◌, ◌++◌, [], length, IfOk, OnOk};
 ghost use Rattle.std.specs.List.{flat_map};
 ghost use Rattle.oct_delta.specs.Delta.{encoded};
 ghost use Rattle.oct_delta.specs.Text.{op_bytes};
-ghost use Rattle.oct_delta.specs.Writing.{Keeps};
+ghost use Rattle.oct_ops.specs.Growth.{Extends};
 ghost use Rattle.oct_ops.specs.Operations.{IsRising};
 ghost use Rattle.oct_sync.specs.Frames.{frame_bytes, delta_frames};
 ghost use Rattle.oct_sync.specs.Packs.{pack_frame, may_follow, IsPack};
@@ -44,7 +45,7 @@ fn put_pack<A: Allocator>(
     requires is { size ≡ length (flat_map op_bytes pack.items) }
     requires fits { size ≤ PACK_ROOM }
     ensures ok { OnOk result (out.new.items ≡ out.old.items ++ pack_frame pack.items) }
-    ensures kept { Keeps out.old.items out.new.items }
+    ensures kept { Extends out.old.items out.new.items }
 {
     if pack.is_empty() {
         return Ok(());
@@ -64,7 +65,7 @@ pub(crate) fn put_delta_frames<A: Allocator + Copy>(
     out: &mut Vec<u8, A>,
 ) -> Result<(), AllocError>
     ensures ok { OnOk result (out.new.items ≡ out.old.items ++ delta_frames list) }
-    ensures kept { Keeps out.old.items out.new.items }
+    ensures kept { Extends out.old.items out.new.items }
 {
     let mut pack = Vec::new(alloc);
     let mut size = 0;

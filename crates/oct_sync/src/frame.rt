@@ -1,9 +1,10 @@
 //! Frames, as they are sent.
+#![tactic(auto, using(oct_ops::proofs::Growing::growing))]
 
 ghost use Rattle.std.specs.Prelude.{◌≡◌, ◌+◌, ◌<◌, ◌≤◌, ◌∷◌, ◌++◌, [], length, OnOk};
 ghost use Rattle.oct_delta.specs.Clocks.{entries_bytes};
 ghost use Rattle.oct_delta.specs.Text.{u32};
-ghost use Rattle.oct_delta.specs.Writing.{Keeps};
+ghost use Rattle.oct_ops.specs.Growth.{Extends};
 ghost use Rattle.oct_sync.specs.Frames.{frame_bytes, end_frame};
 
 use oct_delta::{put_bytes, put_entries, put_u32};
@@ -29,7 +30,7 @@ pub(crate) fn put_head<A: Allocator>(
 ) -> Result<(), AllocError>
     requires { size < MAX_FRAME }
     ensures ok { OnOk result (out.new.items ≡ out.old.items ++ (u32 (1 + size) ++ tag ∷ [])) }
-    ensures kept { Keeps out.old.items out.new.items }
+    ensures kept { Extends out.old.items out.new.items }
 {
     put_u32(out, 1 + size as u32)?;
     put_bytes(out, &[tag])
@@ -42,7 +43,7 @@ pub(crate) fn put_clock_frame<A: Allocator>(
 ) -> Result<(), AllocError>
     requires { length entries.now ≤ 65536 }
     ensures ok { OnOk result (out.new.items ≡ out.old.items ++ frame_bytes CLOCK (entries_bytes entries.now)) }
-    ensures kept { Keeps out.old.items out.new.items }
+    ensures kept { Extends out.old.items out.new.items }
 {
     put_head(out, CLOCK, 4 + 8 * entries.len())?;
     put_entries(out, entries)?;
@@ -52,7 +53,7 @@ pub(crate) fn put_clock_frame<A: Allocator>(
 /// Appends an end frame.
 pub(crate) fn put_end_frame<A: Allocator>(out: &mut Vec<u8, A>) -> Result<(), AllocError>
     ensures ok { OnOk result (out.new.items ≡ out.old.items ++ end_frame) }
-    ensures kept { Keeps out.old.items out.new.items }
+    ensures kept { Extends out.old.items out.new.items }
 {
     put_head(out, END, 0)
 }

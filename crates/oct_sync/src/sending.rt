@@ -1,7 +1,8 @@
 //! What a session sends. After a refusal the output is as it was.
+#![tactic(auto, using(oct_ops::proofs::Growing::cutting))]
 
 ghost use Rattle.std.specs.Prelude.{◌≡◌, ◌++◌, take, OnOk, OnErr};
-ghost use Rattle.oct_delta.specs.Writing.{Keeps};
+ghost use Rattle.oct_ops.specs.Growth.{Extends};
 ghost use Rattle.oct_sync.specs.Frames.{end_frame};
 ghost use Rattle.oct_sync.specs.Session.{clock_frame, empty_clock_frame, missing_frames};
 
@@ -36,7 +37,7 @@ fn put_clock<A: Allocator + Copy, P: Peer<A>>(
     out: &mut Vec<u8, A>,
 ) -> Result<(), AllocError>
     ensures ok { OnOk result (out.new.items ≡ out.old.items ++ clock_frame (P.held peer.now)) }
-    ensures kept { Keeps out.old.items out.new.items }
+    ensures kept { Extends out.old.items out.new.items }
 {
     let clock = peer.clock()?;
     let entries = clock.entries();
@@ -52,7 +53,7 @@ fn put_missing<A: Allocator + Copy, P: Peer<A>>(
     out: &mut Vec<u8, A>,
 ) -> Result<(), AllocError>
     ensures ok { OnOk result (out.new.items ≡ out.old.items ++ missing_frames (P.held peer.now) clock.now) }
-    ensures kept { Keeps out.old.items out.new.items }
+    ensures kept { Extends out.old.items out.new.items }
 {
     put_delta_frames(alloc, peer.beyond(clock)?, out)?;
     put_end_frame(out)?;
@@ -67,7 +68,7 @@ fn put_answer<A: Allocator + Copy, P: Peer<A>>(
     out: &mut Vec<u8, A>,
 ) -> Result<(), AllocError>
     ensures ok { OnOk result (out.new.items ≡ out.old.items ++ clock_frame (P.held peer.now) ++ missing_frames (P.held peer.now) clock.now) }
-    ensures kept { Keeps out.old.items out.new.items }
+    ensures kept { Extends out.old.items out.new.items }
 {
     put_clock(peer, out)?;
     put_missing(alloc, peer, clock, out)?;

@@ -1,8 +1,9 @@
 //! Tables in HTML.
+#![tactic(auto, using(oct_ops::proofs::Growing::growing))]
 
 ghost use Rattle.std.specs.Prelude.{◌≡◌, ◌++◌, ℕ, List, OnOk, map};
 ghost use Rattle.std.specs.List.{flat_map};
-ghost use Rattle.oct_text.specs.Growth.{Extends};
+ghost use Rattle.oct_ops.specs.Growth.{Extends};
 ghost use Rattle.oct_tables.specs.Tables.{column, table, table_end, table_head};
 
 use oct_text::Piece::Text;
@@ -55,6 +56,7 @@ pub(crate) fn append_set<S: Rows<R>, R: Ord, A: Allocator + Copy>(
 }
 
 /// Appends a table of the rows under these heads of columns, or nothing where the rows have no text.
+#[tactic(auto, using(oct_ops::proofs::Growing::cutting))]
 pub fn append_table<S: Rows<R>, R, A: Allocator + Copy>(
     out: &mut Vec<u8, A>,
     way: &S,
@@ -77,6 +79,7 @@ pub fn append_table<S: Rows<R>, R, A: Allocator + Copy>(
 }
 
 /// Appends a table of the rows of a set, or nothing where they have no text.
+#[tactic(auto, using(oct_ops::proofs::Growing::cutting))]
 pub fn append_set_table<S: Rows<R>, R: Ord, A: Allocator + Copy>(
     out: &mut Vec<u8, A>,
     way: &S,

@@ -1,9 +1,10 @@
 //! The tables of a game's known nim-values.
+#![tactic(auto, using(oct_ops::proofs::Growing::growing))]
 
 ghost use Rattle.std.specs.Prelude.{◌≡◌, ◌++◌, ◌+◌, ◌<◌, ◌≤◌, ◌^◌, OnOk, drop, find, fold, length, max, ◌%◌, ◌==◌};
 ghost use Rattle.std.specs.List.{enumerate_from, flat_map};
 ghost use Rattle.oct_code.specs.declared.limits.TheConstants.{LIMIT};
-ghost use Rattle.oct_text.specs.Growth.{Extends};
+ghost use Rattle.oct_ops.specs.Growth.{Extends};
 ghost use Rattle.oct_tables.specs.Values.{after_shade, back_layout, back_len, back_table, before_value, begins_row, blank_for, cell_head, front_layout, front_len, front_table, front_values, is_shaded, padded, row_before, row_end, row_head, value_text, values_in, values_rows, values_table, values_tables, width_of};
 
 use crate::tables::{Rows, append_end, append_head, append_rows};

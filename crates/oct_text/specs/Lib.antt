@@ -2,6 +2,5 @@ pub use Rattle.oct_code.specs.CodeText
 pub use Rattle.oct_ops.specs.Operation
 pub mod Escape
 pub mod EscapeLaws
-pub mod Growth
 pub mod Pieces
 pub mod Words

@@ -1,7 +1,8 @@
 //! Texts of others, as HTML and a string of JSON show them.
+#![tactic(auto, using(oct_ops::proofs::Growing::growing))]
 
 ghost use Rattle.std.specs.Prelude.{◌≡◌, ◌++◌, OnOk};
-ghost use Rattle.oct_text.specs.Growth.{Extends};
+ghost use Rattle.oct_ops.specs.Growth.{Extends};
 ghost use Rattle.oct_text.specs.Escape.{escaped, escaped_byte, name_beside, name_part, quoted, quoted_byte};
 
 use crate::words::append_text;

@@ -5,7 +5,7 @@
 //!     append_number(&mut text, 7u32)?;
 //!     append_pieces(&mut text, &[Text(b" games of "), Dot(dot)])?;
 //!
-//! Each of these calls says by `specs/Growth` that the vector keeps what it had, also where memory is refused.
+//! Each of these calls says by `Extends`, of `oct_ops`, that the vector keeps what it had, also where memory is refused.
 //!
 //! - `append_text`, `append_number`, `append_dot` and the rest of `words` append a word of a line.
 //! - `append_pieces` appends pieces, one after another. A `Piece` is a word, or a text of others, which is escaped.

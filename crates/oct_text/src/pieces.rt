@@ -1,8 +1,9 @@
 //! Texts that are put together from pieces.
+#![tactic(auto, using(oct_ops::proofs::Growing::growing))]
 
 ghost use Rattle.std.specs.Prelude.{◌≡◌, ◌++◌, OnOk};
 ghost use Rattle.std.specs.List.{flat_map};
-ghost use Rattle.oct_text.specs.Growth.{Extends};
+ghost use Rattle.oct_ops.specs.Growth.{Extends};
 ghost use Rattle.oct_text.specs.Pieces.{piece_text};
 
 use crate::escape::{append_beside, append_escaped, append_quoted};

@@ -1,9 +1,9 @@
 //! What a report and a site have in common: how HTML begins and ends, and the tables of what belongs to no game.
-#![tactic(auto, using(oct_text::proofs::Growing::extends_trans))]
+#![tactic(auto, using(oct_ops::proofs::Growing::growing))]
 
 ghost use Rattle.std.specs.Prelude.{◌≡◌, ◌++◌, IfOk, OnOk};
 ghost use Rattle.oct_ops.specs.Operations.{listed};
-ghost use Rattle.oct_text.specs.Growth.{Extends};
+ghost use Rattle.oct_ops.specs.Growth.{Extends};
 ghost use Rattle.oct_views.specs.Report.{games_head, html_end, records_part, style_inside};
 ghost use Rattle.oct_sheet.specs.Sheet.{sheet};
 

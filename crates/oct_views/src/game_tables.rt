@@ -1,8 +1,8 @@
 //! What HTML shows of one game, below its picture.
-#![tactic(auto, using(oct_text::proofs::Growing::extends_trans))]
+#![tactic(auto, using(oct_ops::proofs::Growing::growing))]
 
 ghost use Rattle.std.specs.Prelude.{◌≡◌, ◌++◌, OnOk, map};
-ghost use Rattle.oct_text.specs.Growth.{Extends};
+ghost use Rattle.oct_ops.specs.Growth.{Extends};
 ghost use Rattle.oct_pages.specs.Contents.{game_content};
 ghost use Rattle.oct_views.specs.Game.{game_tables, refuted_head, refuted_part, told};
 

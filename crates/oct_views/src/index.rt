@@ -1,8 +1,9 @@
 //! The tables of all games.
+#![tactic(auto, using(oct_ops::proofs::Growing::growing))]
 
 ghost use Rattle.std.specs.Prelude.{◌≡◌, ◌++◌, OnOk, count_by, is_some};
 ghost use Rattle.std.specs.List.{fold};
-ghost use Rattle.oct_text.specs.Growth.{Extends};
+ghost use Rattle.oct_ops.specs.Growth.{Extends};
 ghost use Rattle.oct_views.specs.Index.{games_part, games_table, known_after, known_cells, link_text, period_cells, periods_table, refuted_cells, refuted_table, tally_cells, target, totals};
 
 use oct_code::Code;

@@ -1,7 +1,8 @@
 //! The tables of a game's period claims: of those that are refuted, and of all.
+#![tactic(auto, using(oct_ops::proofs::Growing::growing))]
 
 ghost use Rattle.std.specs.Prelude.{◌≡◌, ◌++◌, OnOk, map};
-ghost use Rattle.oct_text.specs.Growth.{Extends};
+ghost use Rattle.oct_ops.specs.Growth.{Extends};
 ghost use Rattle.oct_views.specs.Game.{period_cells, period_row, period_status};
 
 use oct_ops::{Dot, Op, Period};

@@ -1,7 +1,8 @@
 //! The tables of what belongs to no game: notes, forks and authors.
+#![tactic(auto, using(oct_ops::proofs::Growing::growing))]
 
 ghost use Rattle.std.specs.Prelude.{◌≡◌, ◌++◌, OnOk, map};
-ghost use Rattle.oct_text.specs.Growth.{Extends};
+ghost use Rattle.oct_ops.specs.Growth.{Extends};
 ghost use Rattle.oct_views.specs.Index.{called_row, noted_row};
 
 use oct_ops::{Body, Dot, Note, Op};

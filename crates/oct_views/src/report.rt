@@ -1,11 +1,11 @@
 //! The report of a census.
-#![tactic(auto, using(oct_text::proofs::Growing::extends_trans))]
+#![tactic(auto, using(oct_ops::proofs::Growing::growing))]
 
 ghost use Rattle.std.specs.Prelude.{◌≡◌, ◌++◌, OnErr, OnOk, map, ◌∷◌, []};
 ghost use Rattle.std.specs.List.{flat_map};
 ghost use Rattle.oct_ops.specs.Operations.{listed};
 ghost use Rattle.oct_pages.specs.Contents.{game_content};
-ghost use Rattle.oct_text.specs.Growth.{Extends};
+ghost use Rattle.oct_ops.specs.Growth.{Extends};
 ghost use Rattle.oct_store.specs.Summary as summary;
 ghost use Rattle.oct_views.specs.Report.{figure, report, section};
 ghost use Rattle.oct_sheet.specs.Sheet.{game_sheet, sheet};

@@ -1,10 +1,10 @@
 //! The files of a site: HTML for each game, an index of all games, and their style.
-#![tactic(auto, using(oct_text::proofs::Growing::extends_trans))]
+#![tactic(auto, using(oct_ops::proofs::Growing::growing))]
 
 ghost use Rattle.std.specs.Prelude.{◌≡◌, ◌++◌, OnErr, OnOk, codes, map};
 ghost use Rattle.oct_ops.specs.Operations.{listed};
 ghost use Rattle.oct_pages.specs.Contents.{game_content};
-ghost use Rattle.oct_text.specs.Growth.{Extends};
+ghost use Rattle.oct_ops.specs.Growth.{Extends};
 ghost use Rattle.oct_views.specs.Report.{game_head, game_html, image, image_head, index_by, style_sheet};
 ghost use Rattle.oct_sheet.specs.Sheet.{sheet};
 

@@ -1,26 +1,21 @@
 //! Commands, each on the state that another one left.
 
-use crate::answers::is_text;
+use crate::answers::{check, check_equal, held};
 use crate::texts::{
-    EARLY, EMPTY_STATE, FIRST, FIRST_STATE, FORKED_SHOWN, LAST, LATER, ONE, REMOVAL, SECOND_PAGE,
-    TWO, bytes, long_claimed, many_blocks, many_notes,
+    CUT_STATE, EARLY, EMPTY_STATE, FIRST, FIRST_STATE, FORKED_SHOWN, LAST, LATER, ONE, REMOVAL,
+    SECOND_PAGE, TWO, bytes, long_claimed, many_blocks, many_notes,
 };
-use census_core::{
-    Fault, ImportError, Reply, Request, digest, number, perform, rejoin, rejoin_grown,
-};
+use census_core::{Fault, ImportError, Reply, Request, digest, number, perform};
 use oct_bfile::BfileError;
 use oct_code::CodeError;
-use oct_ops::{Dot, PeriodError};
-use oct_record::Record;
+use oct_ops::PeriodError;
 use oct_replica::{ComputeError, LoadError, RemovalError, TakeError};
 use oct_text::{Form, Shown};
-use std::alloc::{AllocError, Global};
 use std::process::Abort;
-use std::test::Fail;
 
 /// What is asked of a state, with the file that a command reads or should write, where a delta is a hexadecimal text. A claim
 /// has the period 1, and a note the name a.
-#[derive(Clone, Copy, Debug)]
+#[derive(Clone, Copy)]
 enum Ask<'a> {
     Init(u32),
     Renumber(u32),
@@ -41,6 +36,30 @@ enum Ask<'a> {
     Report,
 }
 
+impl Ask<'_> {
+    fn name(self) -> &'static str {
+        match self {
+            Ask::Init(_) => "init",
+            Ask::Renumber(_) => "renumber",
+            Ask::Import(_) => "import",
+            Ask::Claim(..) => "claim",
+            Ask::Compute(..) => "compute",
+            Ask::Period(..) => "period",
+            Ask::Note(_) => "note",
+            Ask::Unnote(_) => "unnote",
+            Ask::Merge(_) => "merge",
+            Ask::Delta(_) => "delta",
+            Ask::Value(..) => "value",
+            Ask::Page(_) => "page",
+            Ask::Show => "show",
+            Ask::Bfile(_) => "bfile",
+            Ask::Plot(_) => "plot",
+            Ask::Json => "json",
+            Ask::Report => "report",
+        }
+    }
+}
+
 /// A command, and the text that it prints or the fault that refuses it.
 type Step<'a> = (Ask<'a>, Result<&'a str, Fault>);
 
@@ -52,17 +71,10 @@ struct Script<'a> {
     end: Option<&'a str>,
 }
 
-/// The state of author 7 without operations but for its last byte, FIRST but for its last byte, and the state of author 8
-/// without operations.
-const CUT_STATE: &str = "\
-4f475331 00000007 4f474431 000000";
-
+/// FIRST but for its last byte.
 const CUT_FIRST: &str = "\
 4f474431 00000001
 00000001 00000001 01 00020707 00000000 0005 00000000 00000001 00000002 00000003 000000";
-
-const OTHER_STATE: &str = "\
-4f475331 00000008 4f474431 00000000";
 
 /// The state of author 7 with EARLY, LATER and REMOVAL, and with the removal 7.1 of the note 1.2 alone.
 const REMOVED_STATE: &str = "\
@@ -102,71 +114,70 @@ end
 ";
 
 // The command, with its words in memory.
-fn request_of(alloc: Global, ask: Ask) -> Result<Request, AllocError> {
-    Ok(match ask {
+fn request_of(rt: &(impl Abort + AllocGlobal), ask: Ask) -> Request {
+    match ask {
         Ask::Init(id) => Request::Init { id },
         Ask::Renumber(id) => Request::Renumber { id },
         Ask::Import(_) => Request::Import,
-        Ask::Claim(code, _) => {
-            let code = Vec::from_slice(alloc, code.as_bytes())?;
-            Request::Claim { code }
-        }
-        Ask::Compute(code, count) => {
-            let code = Vec::from_slice(alloc, code.as_bytes())?;
-            Request::Compute { code, count }
-        }
-        Ask::Period(code, start) => {
-            let code = Vec::from_slice(alloc, code.as_bytes())?;
-            Request::Period {
-                code,
-                e: start,
-                p: 1,
-            }
-        }
-        Ask::Note(text) => {
-            let text = Vec::from_slice(alloc, text.as_bytes())?;
-            let name = Vec::from_slice(alloc, b"a")?;
-            Request::Note { name, text }
-        }
-        Ask::Unnote(name) => {
-            let name = Vec::from_slice(alloc, name.as_bytes())?;
-            Request::Unnote { name }
-        }
+        Ask::Note(text) => Request::Note {
+            name: held(rt, b"a"),
+            text: held(rt, text.as_bytes()),
+        },
+        Ask::Unnote(name) => Request::Unnote {
+            name: held(rt, name.as_bytes()),
+        },
         Ask::Merge(_) => Request::Merge,
         Ask::Delta(_) => Request::Delta,
-        Ask::Value(code, heaps) => {
-            let code = Vec::from_slice(alloc, code.as_bytes())?;
-            let heaps = Vec::from_slice(alloc, heaps)?;
-            Request::Value {
-                code,
-                heaps,
-                form: Form::Lines,
-            }
-        }
         Ask::Page(number) => Request::Page { number },
         Ask::Show => Request::Show,
-        Ask::Bfile(code) => {
-            let code = Vec::from_slice(alloc, code.as_bytes())?;
-            Request::Bfile { code }
-        }
-        Ask::Plot(code) => {
-            let code = Vec::from_slice(alloc, code.as_bytes())?;
-            Request::Plot { code }
-        }
         Ask::Json => Request::Json,
         Ask::Report => Request::Report {
             shown: Shown::Brief,
         },
-    })
+        _ => request_of_game(rt, ask),
+    }
 }
 
-// The reply is this text, with the file that is wanted. Where it has a state, that becomes the state.
+// The same of a command on one game.
+fn request_of_game(rt: &(impl Abort + AllocGlobal), ask: Ask) -> Request {
+    match ask {
+        Ask::Claim(code, _) => Request::Claim {
+            code: held(rt, code.as_bytes()),
+        },
+        Ask::Compute(code, count) => Request::Compute {
+            code: held(rt, code.as_bytes()),
+            count,
+        },
+        Ask::Period(code, start) => Request::Period {
+            code: held(rt, code.as_bytes()),
+            e: start,
+            p: 1,
+        },
+        Ask::Value(code, heaps) => {
+            let heaps = Vec::from_slice(rt.alloc(), heaps).ok();
+            Request::Value {
+                code: held(rt, code.as_bytes()),
+                heaps: heaps.expect(rt, "memory"),
+                form: Form::Lines,
+            }
+        }
+        Ask::Bfile(code) => Request::Bfile {
+            code: held(rt, code.as_bytes()),
+        },
+        Ask::Plot(code) => Request::Plot {
+            code: held(rt, code.as_bytes()),
+        },
+        _ => panic!(rt; "{} is on no game", ask.name()),
+    }
+}
+
+// The reply is the answer, with the file that is wanted. Where it has a state, that becomes the state.
 fn is_reply(
     rt: &(impl Abort + AllocGlobal),
     reply: Reply,
     state: &mut Vec<u8>,
     wanted: Option<&[u8]>,
-    text: &str,
+    answer: Result<&str, Fault>,
     ask: Ask,
 ) {
     let Reply {
@@ -177,21 +188,19 @@ fn is_reply(
     if let Some(new) = new {
         *state = new;
     }
-    assert!(rt;
+    check(
+        rt,
         file.as_deref() == wanted,
-        "{ask:?} gives the file {file:?}"
+        format_args!("{} gives the file {file:?}", ask.name()),
     );
     let told = str::from_utf8(&told).ok().expect(rt, "a text");
-    assert_eq!(rt; told, text, "{ask:?}");
+    check_equal(rt, Ok(told), answer, ask.name());
 }
 
 // The files of a command: the bytes that it reads, and those that it should write.
 fn files_of(rt: &(impl Abort + AllocGlobal), ask: Ask) -> (Vec<u8>, Option<Vec<u8>>) {
     match ask {
-        Ask::Import(file) | Ask::Claim(_, file) => {
-            let read = Vec::from_slice(rt.alloc(), file).ok();
-            (read.expect(rt, "a file"), None)
-        }
+        Ask::Import(file) | Ask::Claim(_, file) => (held(rt, file), None),
         Ask::Merge(text) => (bytes(rt, text), None),
         Ask::Delta(text) => (bytes(rt, ""), Some(bytes(rt, text))),
         _ => (bytes(rt, ""), None),
@@ -205,12 +214,11 @@ fn answers(
     ask: Ask,
     answer: Result<&str, Fault>,
 ) {
-    let request = request_of(rt.alloc(), ask).ok().expect(rt, "a request");
+    let request = request_of(rt, ask);
     let (read, wanted) = files_of(rt, ask);
-    match (perform(rt.alloc(), &request, state, &read), answer) {
-        (Ok(reply), Ok(text)) => is_reply(rt, reply, state, wanted.as_deref(), text, ask),
-        (Ok(_), Err(fault)) => panic!(rt; "{ask:?} is not refused as {fault:?}"),
-        (Err(fault), wanted) => assert_eq!(rt; Err(fault), wanted, "{ask:?}"),
+    match perform(rt.alloc(), &request, state, &read) {
+        Ok(reply) => is_reply(rt, reply, state, wanted.as_deref(), answer, ask),
+        Err(fault) => check_equal(rt, Err(fault), answer, ask.name()),
     }
 }
 
@@ -227,10 +235,11 @@ fn follows(rt: &(impl Abort + AllocGlobal), script: Script) {
     let mut state = bytes(rt, start);
     answer_all(rt, &mut state, steps);
     if let Some(end) = end {
-        assert_eq!(rt;
+        check_equal(
+            rt,
             state.as_slice(),
             bytes(rt, end).as_slice(),
-            "the state after {steps:?}"
+            format_args!("the state of {end} after {} steps", steps.len()),
         );
     }
 }
@@ -238,11 +247,9 @@ fn follows(rt: &(impl Abort + AllocGlobal), script: Script) {
 // A delta is merged into the state of author 7, and the commands are answered so then.
 fn follow_delta(rt: &(impl Abort + AllocGlobal), delta: &[u8], merged: &str, steps: &[Step]) {
     let mut state = bytes(rt, EMPTY_STATE);
-    let request = Request::Merge;
-    match perform(rt.alloc(), &request, &state, delta) {
-        Ok(reply) => is_reply(rt, reply, &mut state, None, merged, Ask::Merge("..")),
-        Err(fault) => panic!(rt; "{merged} is refused as {fault:?}"),
-    }
+    let reply = perform(rt.alloc(), &Request::Merge, &state, delta);
+    let reply = reply.expect(rt, merged);
+    is_reply(rt, reply, &mut state, None, Ok(merged), Ask::Merge(".."));
     answer_all(rt, &mut state, steps);
 }
 
@@ -545,100 +552,34 @@ const DIGESTS: &[(&str, Result<&str, Fault>)] = &[
 #[test]
 fn digests_are_of_operations(rt: HostRuntime) {
     for &(file, wanted) in DIGESTS {
-        match (digest(rt.alloc(), &bytes(&rt, file)), wanted) {
-            (Ok(digits), Ok(wanted)) => is_text(&rt, &digits, wanted, file),
-            (Ok(_), Err(fault)) => panic!(rt; "{file} is not refused as {fault:?}"),
-            (Err(fault), wanted) => assert_eq!(rt; Err(fault), wanted, "{file}"),
+        match digest(rt.alloc(), &bytes(&rt, file)) {
+            Ok(digits) => {
+                let digits = str::from_utf8(&digits).ok().expect(&rt, file);
+                check_equal(&rt, Ok(digits), wanted, file);
+            }
+            Err(fault) => check_equal(&rt, Err(fault), wanted, file),
         }
     }
-}
-
-/// The state of author 7 with ONE.
-const ONE_STATE: &str = "\
-4f475331 00000007 4f474431 00000001
-00000007 00000001 03 01 61 03 6f6e65";
-
-/// The text of a state file, what is held, and the number of the least operation by the author, 7, that is held and that the
-/// file has not.
-#[derive(Clone, Copy)]
-struct Twice {
-    file: &'static str,
-    held: &'static str,
-    foreign: Option<u32>,
-}
-
-const TWICE: &[Twice] = &[
-    Twice {
-        file: EMPTY_STATE,
-        held: ONE_STATE,
-        foreign: Some(1),
-    },
-    Twice {
-        file: ONE_STATE,
-        held: EMPTY_STATE,
-        foreign: None,
-    },
-    Twice {
-        file: ONE_STATE,
-        held: ONE_STATE,
-        foreign: None,
-    },
-    Twice {
-        file: EMPTY_STATE,
-        held: FIRST_STATE,
-        foreign: None,
-    },
-];
-
-#[test]
-fn a_number_that_two_use_is_seen(rt: HostRuntime) {
-    for &Twice {
-        file,
-        held,
-        foreign,
-    } in TWICE {
-        let loaded = Record::load(rt.alloc(), &bytes(&rt, held));
-        let loaded = loaded.ok().expect(&rt, held);
-        let rejoined = rejoin(rt.alloc(), &bytes(&rt, file), &loaded);
-        let found = rejoined.ok().expect(&rt, file).foreign;
-        let found = found.map(|dot: Dot| (dot.author(), dot.number()));
-        let wanted = foreign.map(|number| (7, number));
-        assert_eq!(rt; found, wanted, "{file} with {held}");
-    }
-}
-
-#[test]
-fn what_grew_is_written_as_it_is_held(rt: HostRuntime) {
-    let loaded = Record::load(rt.alloc(), &bytes(&rt, ONE_STATE));
-    let loaded = loaded.ok().expect(&rt, ONE_STATE);
-    let reply = rejoin_grown(rt.alloc(), 0, &loaded);
-    is_union(
-        &rt,
-        &reply.ok().expect(&rt, ONE_STATE),
-        "new 1 operations 1\n",
-        ONE_STATE,
-    );
 }
 
 // The text that the request prints of the state begins so.
 fn begins(rt: &(impl Abort + AllocGlobal), state: &[u8], request: &Request, front: &str) {
-    match perform(rt.alloc(), request, state, b"") {
-        Ok(reply) => {
-            let text = str::from_utf8(&reply.text).ok().expect(rt, front);
-            assert!(rt; text.starts_with(front), "{text} in place of {front}");
-        }
-        Err(fault) => panic!(rt; "{front} is refused as {fault:?}"),
-    }
+    let reply = perform(rt.alloc(), request, state, b"").expect(rt, front);
+    let text = str::from_utf8(&reply.text).ok().expect(rt, front);
+    check(
+        rt,
+        text.starts_with(front),
+        format_args!("{text} in place of {front}"),
+    );
 }
 
 #[test]
-fn pictures_and_pages_are_printed(rt: HostRuntime) -> Result<(), Fail> {
-    let code = Vec::from_slice(rt.alloc(), b"0.77")?;
+fn pictures_and_pages_are_printed(rt: HostRuntime) {
+    let code = held(&rt, b"0.77");
     let state = bytes(&rt, FIRST_STATE);
     begins(&rt, &state, &Request::Plot { code }, "<svg ");
     let shown = Shown::All;
     begins(&rt, &state, &Request::Report { shown }, "<!DOCTYPE html>");
-    Ok(())
 }
 
 // What is shown of the second page of many blocks; of none after it, and after the one of many notes.
@@ -700,88 +641,8 @@ fn claims_give_values(rt: HostRuntime) {
 #[test]
 fn words_are_numbers(rt: HostRuntime) {
     let most = 4_294_967_295;
-    assert_eq!(rt; number("007", most), Some(7));
+    check_equal(&rt, number("007", most), Some(7), "007");
     for word in ["", "+1", "4294967296", "1 ", "0x1"] {
-        assert_eq!(rt; number(word, most), None, "{word:?}");
-    }
-}
-
-/// A state file, the state that a session holds, and what it leaves.
-#[derive(Clone, Copy)]
-struct Union<'a> {
-    file: &'a str,
-    held: &'a str,
-    left: Result<Left<'a>, Fault>,
-}
-
-/// What is printed after a session, and the state that is saved.
-#[derive(Clone, Copy)]
-struct Left<'a> {
-    text: &'a str,
-    state: &'a str,
-}
-
-const UNIONS: &[Union<'static>] = &[
-    Union {
-        file: EMPTY_STATE,
-        held: FIRST_STATE,
-        left: Ok(Left {
-            text: "new 1 operations 1\n",
-            state: FIRST_STATE,
-        }),
-    },
-    Union {
-        file: FIRST_STATE,
-        held: EMPTY_STATE,
-        left: Ok(Left {
-            text: "new 0 operations 1\n",
-            state: FIRST_STATE,
-        }),
-    },
-    Union {
-        file: FIRST_STATE,
-        held: OTHER_STATE,
-        left: Err(Fault::Author),
-    },
-    Union {
-        file: CUT_STATE,
-        held: OTHER_STATE,
-        left: Err(Fault::Load(LoadError::Refused)),
-    },
-    Union {
-        file: "",
-        held: EMPTY_STATE,
-        left: Err(Fault::Load(LoadError::Version)),
-    },
-];
-
-// The reply is this state and this text.
-fn is_union(rt: &(impl Abort + AllocGlobal), reply: &Reply, text: &str, state: &str) {
-    is_text(rt, &reply.text, text, "the text");
-    let wanted = bytes(rt, state);
-    assert!(rt;
-        reply.state.as_deref() == Some(&wanted[..]),
-        "not {state}: {:?}",
-        reply.state
-    );
-}
-
-// A session leaves what is told.
-fn leaves(rt: &(impl Abort + AllocGlobal), union: Union) {
-    let Union { file, held, left } = union;
-    let loaded = Record::load(rt.alloc(), &bytes(rt, held));
-    let loaded = loaded.ok().expect(rt, held);
-    match (rejoin(rt.alloc(), &bytes(rt, file), &loaded), left) {
-        (Ok(rejoined), Ok(Left { text, state })) => is_union(rt, &rejoined.reply, text, state),
-        (Ok(_), Err(fault)) => panic!(rt; "{file} with {held} is not refused as {fault:?}"),
-        (Err(fault), Ok(_)) => panic!(rt; "{file} with {held} is refused as {fault:?}"),
-        (Err(fault), Err(named)) => assert_eq!(rt; fault, named, "{file} with {held}"),
-    }
-}
-
-#[test]
-fn sessions_leave_the_union(rt: HostRuntime) {
-    for &union in UNIONS {
-        leaves(&rt, union);
+        check_equal(&rt, number(word, most), None, format_args!("{word:?}"));
     }
 }

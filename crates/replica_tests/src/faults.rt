@@ -1,11 +1,11 @@
 //! Faults, by their texts and exit statuses.
 
+use crate::answers::check_equal;
 use census_core::{Fault, ImportError, SavedError};
 use oct_code::CodeError;
 use oct_ops::{NoteError, PeriodError};
 use oct_replica::{ComputeError, IssueError, LoadError, RemovalError, TakeError};
 use oct_sync::SyncError;
-use std::test::Fail;
 
 /// A fault, its text and its status.
 #[derive(Clone, Copy)]
@@ -104,15 +104,20 @@ const FAULTS: &[Named] = &[
 ];
 
 #[test]
-fn faults_are_named(rt: HostRuntime) -> Result<(), Fail> {
+fn faults_are_named(rt: HostRuntime) {
     for &Named {
         fault,
         text,
         status,
     } in FAULTS {
-        let shown = format!(in rt.alloc(); "{fault}")?;
-        assert_eq!(rt; shown.as_str(), text);
-        assert_eq!(rt; fault.status(), status, "the status of {text}");
+        let shown = format!(in rt.alloc(); "{fault}").ok();
+        let shown = shown.expect(&rt, text);
+        check_equal(&rt, shown.as_str(), text, "the text");
+        check_equal(
+            &rt,
+            fault.status(),
+            status,
+            format_args!("the status of {text}"),
+        );
     }
-    Ok(())
 }

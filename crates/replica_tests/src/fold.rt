@@ -1,6 +1,6 @@
 //! Lines of deltas in hexadecimal, folded into one catalogue.
 
-use crate::answers::is_text;
+use crate::answers::{check, check_equal, is_text};
 use crate::texts::{
     BOTH_SHOWN, EARLY, FIRST, LATER, LATER_SHOWN, NEXT, NEXT_SHOWN, NONE_SHOWN, NOTHING,
     NOTHING_NEW, REMOVAL, SECOND, THIRD, THREE_SHOWN, TURNS, TURNS_SHOWN, UNTOLD, UNTOLD_SHOWN,
@@ -197,7 +197,7 @@ fn input_of(rt: &(impl Abort + AllocGlobal), lines: &[&str]) -> Vec<u8> {
     let mut input = Vec::new(rt.alloc());
     for line in lines {
         let is_put = put_digits(&mut input, line).is_ok() && input.push(b'\n').is_ok();
-        assert!(rt; is_put, "{line}");
+        check(rt, is_put, line);
     }
     input
 }
@@ -207,7 +207,12 @@ fn folds(rt: &(impl Abort + AllocGlobal), lines: &[&str], shown: &str, refused: 
     let input = input_of(rt, lines);
     let mut out = Vec::new(rt.alloc());
     let folded = fold_lines(rt.alloc(), &mut input.as_slice(), &mut out);
-    assert_eq!(rt; folded, Ok(refused), "refused of {lines:?}");
+    check_equal(
+        rt,
+        folded,
+        Ok(refused),
+        format_args!("refused of {lines:?}"),
+    );
     is_text(rt, &out, shown, "the catalogue");
 }
 
@@ -245,7 +250,7 @@ fn folds_over(
     written: usize,
 ) {
     let mut line = Vec::new(rt.alloc());
-    assert!(rt; put_digits(&mut line, FIRST).is_ok(), "{FIRST}");
+    check(rt, put_digits(&mut line, FIRST).is_ok(), FIRST);
     let mut source = Source { bytes: &line, kind };
     let mut sink = Sink {
         expected: FIRST_SHOWN.as_bytes(),
@@ -253,25 +258,42 @@ fn folds_over(
         is_flushed: true,
     };
     let folded = fold_lines(rt.alloc(), &mut source, &mut sink);
-    assert_eq!(rt; folded, answer, "{kind:?} with room for {room} bytes");
+    check_equal(
+        rt,
+        folded,
+        answer,
+        format_args!("{} with room for {room} bytes", kind.name()),
+    );
     let count = FIRST_SHOWN.len().saturating_sub(sink.expected.len());
-    assert_eq!(rt;
+    check_equal(
+        rt,
         count,
         written,
-        "bytes written: {kind:?} with room for {room} bytes"
+        format_args!("bytes after {} with room for {room} bytes", kind.name()),
     );
-    assert!(rt;
+    check(
+        rt,
         sink.is_flushed || folded.is_err(),
-        "bytes left in the writer with room for {room} bytes"
+        format_args!("bytes left in the writer with room for {room} bytes"),
     );
 }
 
 /// How a reader ends: well, by a failure at once, or never, since it gives lines without end.
-#[derive(Clone, Copy, Debug)]
+#[derive(Clone, Copy)]
 enum Kind {
     Whole,
     Failing,
     Endless,
+}
+
+impl Kind {
+    fn name(self) -> &'static str {
+        match self {
+            Kind::Whole => "a whole reader",
+            Kind::Failing => "a failing reader",
+            Kind::Endless => "an endless reader",
+        }
+    }
 }
 
 /// Gives its bytes, or fails at once, or gives lines without end, each of what stands in the room for it, up to its last byte.

@@ -25,3 +25,5 @@ mod surface;
 mod sync;
 #[cfg(test)]
 mod texts;
+#[cfg(test)]
+mod unions;

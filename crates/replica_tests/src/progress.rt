@@ -1,9 +1,10 @@
 //! Who is told how far a command is.
 
+use crate::answers::{check, held};
 use crate::texts::{EMPTY_STATE, bytes};
 use census_core::{Form, NoKeeper, Progress, Request, perform_kept, search};
 use oct_code::Code;
-use std::alloc::{AllocError, Global};
+use std::alloc::AllocGlobal;
 use std::process::Abort;
 
 /// The code of a game, how many of its values are known, and how many are wanted.
@@ -61,20 +62,18 @@ fn is_told(tale: Tale, code: Code, known: u64, wanted: u64) -> bool {
 }
 
 // The request for the values of both games.
-fn both_extended(alloc: Global) -> Result<Request, AllocError> {
-    let mut codes = Vec::new(alloc);
-    for name in ["0.137", "0.77"] {
-        codes.push(Vec::from_slice(alloc, name.as_bytes())?)?;
-    }
-    Ok(Request::Extend {
+fn both_extended(rt: &(impl Abort + AllocGlobal)) -> Request {
+    let both = [held(rt, b"0.137"), held(rt, b"0.77")];
+    let codes = Vec::from_array(rt.alloc(), both).ok();
+    Request::Extend {
         count: 1_030,
-        codes,
-    })
+        codes: codes.expect(rt, "memory"),
+    }
 }
 
 #[test]
 fn each_block_is_told_before(rt: HostRuntime) {
-    let request = both_extended(rt.alloc()).ok().expect(&rt, "a request");
+    let request = both_extended(&rt);
     let state = bytes(&rt, EMPTY_STATE);
     let mut listener = Listener {
         expected: TOLD,
@@ -88,9 +87,9 @@ fn each_block_is_told_before(rt: HostRuntime) {
         &mut listener,
         &mut NoKeeper,
     );
-    assert!(&rt; reply.is_ok(), "refused");
-    assert!(&rt; listener.is_right, "something else is told");
-    assert!(&rt; listener.expected.is_empty(), "less is told");
+    check(&rt, reply.is_ok(), "refused");
+    check(&rt, listener.is_right, "something else is told");
+    check(&rt, listener.expected.is_empty(), "less is told");
 }
 
 #[test]
@@ -105,7 +104,7 @@ fn a_search_is_told(rt: HostRuntime) {
         is_right: true,
     };
     let line = search(rt.alloc(), code, 5, &[], Form::Lines, &mut listener);
-    assert!(&rt; line.is_ok(), "refused");
-    assert!(&rt; listener.is_right, "something else is told");
-    assert!(&rt; listener.expected.is_empty(), "less is told");
+    check(&rt, line.is_ok(), "refused");
+    check(&rt, listener.is_right, "something else is told");
+    check(&rt, listener.expected.is_empty(), "less is told");
 }

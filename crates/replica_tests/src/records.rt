@@ -1,6 +1,7 @@
 //! Records: the operations of each game, the notes, an operation that is taken out again, and what became of those that
 //! are new.
 
+use crate::answers::{check, check_equal};
 use crate::texts::{EARLY, FIRST, LAST, NEXT, ONE, TURNS, bytes};
 use census_core::{Verdict, judge, tally};
 use oct_code::Code;
@@ -13,7 +14,11 @@ fn record_of(rt: &(impl Abort + AllocGlobal), deltas: &[&str]) -> Record<Global>
     let mut said = Record::new(rt.alloc(), 7).ok().expect(rt, "a record");
     for delta in deltas {
         let new = said.take(&bytes(rt, delta));
-        assert!(rt; matches!(new, Ok(1..)), "{delta} brings nothing: {new:?}");
+        check(
+            rt,
+            matches!(new, Ok(1..)),
+            format_args!("{delta} brings nothing: {new:?}"),
+        );
     }
     said
 }
@@ -25,18 +30,18 @@ fn has_of_game(rt: &impl Abort, said: &Record<Global>, code: &str, wanted: usize
         Some(held) => held.len(),
         None => 0,
     };
-    assert_eq!(rt; held, wanted, "of {code}");
+    check_equal(rt, held, wanted, format_args!("of {code}"));
 }
 
 #[test]
 fn a_record_tells_its_games_and_notes_apart(rt: HostRuntime) {
     let said = record_of(&rt, &[FIRST, NEXT, EARLY, TURNS]);
-    assert_eq!(rt; said.len(), 5, "operations in all");
-    assert_eq!(rt; said.store().len(), 5, "operations lent");
+    check_equal(&rt, said.len(), 5, "operations in all");
+    check_equal(&rt, said.store().len(), 5, "operations lent");
     has_of_game(&rt, &said, "0.77", 2);
     has_of_game(&rt, &said, "0.3", 2);
     has_of_game(&rt, &said, "0.07", 0);
-    assert_eq!(rt; said.notes().len(), 1, "notes");
+    check_equal(&rt, said.notes().len(), 1, "notes");
 }
 
 #[test]
@@ -44,21 +49,31 @@ fn what_is_taken_out_is_of_no_game(rt: HostRuntime) {
     let mut said = record_of(&rt, &[FIRST]);
     let first = said.store().iter().next().expect(&rt, "an operation");
     let first = first.copy(rt.alloc()).ok().expect(&rt, "a copy");
-    assert!(rt; said.remove(&first), "it was there");
-    assert!(rt; !said.remove(&first), "it is there no more");
-    assert!(rt; said.is_empty(), "nothing is left");
+    check(&rt, said.remove(&first), "it was there");
+    check(&rt, !said.remove(&first), "it is there no more");
+    check(&rt, said.is_empty(), "nothing is left");
     has_of_game(&rt, &said, "0.77", 0);
 }
 
 #[test]
 fn a_record_goes_on_under_another_number(rt: HostRuntime) {
     let mut said = record_of(&rt, &[FIRST]);
-    assert_eq!(rt; said.renumber(0), Err(RenumberError::Zero));
-    assert_eq!(rt; said.renumber(1), Err(RenumberError::Held));
-    assert_eq!(rt; said.author(), 7);
-    assert_eq!(rt; said.renumber(8), Ok(7));
-    assert_eq!(rt; said.author(), 8);
-    assert_eq!(rt; said.len(), 1, "operations");
+    check_equal(
+        &rt,
+        said.renumber(0),
+        Err(RenumberError::Zero),
+        "to author 0",
+    );
+    check_equal(
+        &rt,
+        said.renumber(1),
+        Err(RenumberError::Held),
+        "to author 1",
+    );
+    check_equal(&rt, said.author(), 7, "the author");
+    check_equal(&rt, said.renumber(8), Ok(7), "to author 8");
+    check_equal(&rt, said.author(), 8, "the author");
+    check_equal(&rt, said.len(), 1, "operations");
 }
 
 #[test]
@@ -66,10 +81,16 @@ fn an_operation_that_one_never_held_is_found(rt: HostRuntime) {
     let said = record_of(&rt, &[FIRST]);
     let later = record_of(&rt, &[FIRST, NEXT, ONE]);
     let found = said.first_foreign(&later);
-    assert_eq!(rt; found.map(|dot| (dot.author(), dot.number())), Some((7, 1)));
-    assert!(rt;
+    check_equal(
+        &rt,
+        found.map(|dot| (dot.author(), dot.number())),
+        Some((7, 1)),
+        "the operation that is found",
+    );
+    check(
+        &rt,
         later.first_foreign(&said).is_none(),
-        "all of the other are held"
+        "all of the other are held",
     );
 }
 
@@ -80,12 +101,12 @@ fn what_is_new_is_judged(rt: HostRuntime) {
     let all = judge(rt.alloc(), &before, &later);
     let all = all.ok().expect(&rt, "verdicts");
     let counts = tally(&all);
-    assert_eq!(rt; counts.proved, 3, "proved");
-    assert_eq!(rt; counts.refuted, 0, "refuted");
-    assert_eq!(rt; counts.pending, 1, "pending");
+    check_equal(&rt, counts.proved, 3, "proved");
+    check_equal(&rt, counts.refuted, 0, "refuted");
+    check_equal(&rt, counts.pending, 1, "pending");
     for one in &all {
         let is_last = one.dot.author() == 1 && one.dot.number() == 4;
         let is_pending = matches!(one.verdict, Verdict::PendingBlock);
-        assert_eq!(rt; is_pending, is_last, "past the known values");
+        check_equal(&rt, is_pending, is_last, "past the known values");
     }
 }

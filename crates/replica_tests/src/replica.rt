@@ -1,6 +1,6 @@
 //! Replicas: what they print, compute, issue, send, refuse, save and load.
 
-use crate::answers::{is_text, plain};
+use crate::answers::{check, check_equal, is_text, plain};
 use crate::texts::{
     BOTH_SHOWN, EARLY, EARLY_CLAIM, EMPTY_STATE, FIRST, FORKED_SHOWN, LAST, LATER, LATER_SHOWN,
     NEXT, NEXT_SHOWN, NONE_SHOWN, ONE, REMOVAL, RIGHT_CLAIM, SECOND, THIRD, THIRD_UNTOLD,
@@ -39,9 +39,10 @@ pub(crate) fn shows<A: Allocator + Copy>(
     name: &str,
 ) {
     let mut text = Vec::new(alloc);
-    assert!(rt;
+    check(
+        rt,
         replica.catalogue(&mut text).is_ok(),
-        "no catalogue of {name}"
+        format_args!("no catalogue of {name}"),
     );
     is_text(rt, &text, wanted, name);
 }
@@ -64,8 +65,13 @@ fn takes_bytes<A: Allocator + Copy>(
     delta: &[u8],
     new: u32,
 ) {
-    assert_eq!(rt; replica.take(delta), Ok(new), "{delta:?}");
-    assert_eq!(rt; replica.take(delta), Ok(0), "{delta:?} once more");
+    check_equal(rt, replica.take(delta), Ok(new), format_args!("{delta:?}"));
+    check_equal(
+        rt,
+        replica.take(delta),
+        Ok(0),
+        format_args!("{delta:?} once more"),
+    );
 }
 
 // The code of the text.
@@ -187,22 +193,31 @@ fn joins(rt: &(impl Abort + AllocGlobal), case: Joined) {
     let mut other = new_replica(rt, rt.alloc(), 1);
     takes(rt, &mut replica, &[ours], 1);
     takes(rt, &mut other, &[theirs], 1);
-    assert!(rt; replica.join(&other).is_ok(), "{ours} with {theirs}");
+    check(
+        rt,
+        replica.join(&other).is_ok(),
+        format_args!("{ours} with {theirs}"),
+    );
     shows(rt, rt.alloc(), &replica, shown, "a join");
-    assert_eq!(rt;
+    check_equal(
+        rt,
         (replica.author(), replica.len()),
         (7, 2),
-        "{ours} with {theirs}"
+        format_args!("{ours} with {theirs}"),
     );
-    assert!(rt; !replica.is_empty(), "{ours} with {theirs}");
+    check(
+        rt,
+        !replica.is_empty(),
+        format_args!("{ours} with {theirs}"),
+    );
 }
 
 // The replica takes the list of TURNS.
 fn prints_list(rt: &(impl Abort + AllocGlobal)) {
     let list = decode(rt.alloc(), &bytes(rt, TURNS)).ok().expect(rt, TURNS);
-    assert_eq!(rt; list.len(), 2, "{TURNS}");
+    assert!(rt; list.len() == 2);
     let mut replica = new_replica(rt, rt.alloc(), 1);
-    assert_eq!(rt; replica.take_list(list), Ok(2), "{TURNS}");
+    check_equal(rt, replica.take_list(list), Ok(2), TURNS);
     shows(rt, rt.alloc(), &replica, TURNS_SHOWN, "a list");
 }
 
@@ -253,20 +268,35 @@ const VALUES: &[(&[u64], u32)] = &[(&[1_000_000_000], 1), (&[5, 6], 7), (&[], 0)
 // The replica gives these values, and none of the other code.
 fn has_values(rt: &(impl Abort + AllocGlobal), replica: &Replica<Global>, code: Code, other: Code) {
     for &(heaps, value) in VALUES {
-        assert_eq!(rt; value_of(replica, code, heaps), Ok(value), "{heaps:?}");
+        check_equal(
+            rt,
+            value_of(replica, code, heaps),
+            Ok(value),
+            format_args!("{heaps:?}"),
+        );
     }
-    assert_eq!(rt; outcome_of(replica, code, &[1_000_000_000]), "next wins");
-    assert_eq!(rt; value_of(replica, other, &[1]), Err(0), "another game");
-    assert_eq!(rt; outcome_of(replica, other, &[]), "next loses");
+    check_equal(
+        rt,
+        outcome_of(replica, code, &[1_000_000_000]),
+        "next wins",
+        "the outcome of a claim",
+    );
+    check_equal(rt, value_of(replica, other, &[1]), Err(0), "another game");
+    check_equal(
+        rt,
+        outcome_of(replica, other, &[]),
+        "next loses",
+        "the outcome of another game",
+    );
 }
 
 // The catalogue has one page.
 fn has_one_page(rt: &(impl Abort + AllocGlobal), replica: &Replica<Global>) {
     let mut text = Vec::new(rt.alloc());
-    assert_eq!(rt; replica.page(0, &mut text), Ok(true), "the first page");
+    check_equal(rt, replica.page(0, &mut text), Ok(true), "the first page");
     let is_begun = text.starts_with(b"census 2\ngame 0.77 known 168\n");
-    assert!(rt; is_begun, "{text:?}");
-    assert_eq!(rt; replica.page(1, &mut text), Ok(false), "a second page");
+    check(rt, is_begun, format_args!("{text:?}"));
+    check_equal(rt, replica.page(1, &mut text), Ok(false), "a second page");
 }
 
 // The claim gives values once its last value is there, and not before.
@@ -276,7 +306,7 @@ fn follows_claims(rt: &(impl Abort + AllocGlobal)) {
     takes_bytes(rt, &mut replica, &long_block(rt), 1);
     takes(rt, &mut replica, &[RIGHT_CLAIM, EARLY_CLAIM], 1);
     let value = value_of(&replica, code, &[5, 1_000_000_000]);
-    assert_eq!(rt; value, Err(1), "before the last value");
+    check_equal(rt, value, Err(1), "before the last value");
     takes(rt, &mut replica, &[LAST], 1);
     has_values(rt, &replica, code, other);
     has_one_page(rt, &replica);
@@ -304,15 +334,24 @@ fn sends_beyond(
     wanted: &[u8],
 ) {
     let mut delta = Vec::new(rt.alloc());
-    assert!(rt; replica.delta(clock, &mut delta).is_ok(), "no {wanted:?}");
-    assert_eq!(rt; delta.as_slice(), wanted);
+    check(
+        rt,
+        replica.delta(clock, &mut delta).is_ok(),
+        format_args!("no {wanted:?}"),
+    );
+    check_equal(rt, delta.as_slice(), wanted, "the delta");
 }
 
 // One operation is beyond the replica's own clock, and the delta of it is this.
 fn sends(rt: &(impl Abort + AllocGlobal), replica: &Replica<Global>, wanted: &str) {
     let clock = replica.clock().ok().expect(rt, "the clock");
     let list = replica.beyond(&clock).ok().expect(rt, "a list");
-    assert_eq!(rt; list.len(), 1, "operations beyond {wanted}");
+    check_equal(
+        rt,
+        list.len(),
+        1,
+        format_args!("operations beyond {wanted}"),
+    );
     sends_beyond(rt, replica, &clock, &bytes(rt, wanted));
 }
 
@@ -327,11 +366,21 @@ fn issues_after_the_last(rt: &(impl Abort + AllocGlobal)) {
     takes(rt, &mut replica, &[UNTOLD], 2);
     shows(rt, rt.alloc(), &replica, UNTOLD_SHOWN, "notes without text");
     sends(rt, &replica, THIRD_UNTOLD);
-    assert_eq!(rt; issued(rt.alloc(), &mut replica), Ok((5, 4)));
+    check_equal(
+        rt,
+        issued(rt.alloc(), &mut replica),
+        Ok((5, 4)),
+        "the note 5.4",
+    );
     takes(rt, &mut replica, &[LAST_OF_5], 1);
     let refused = issued(rt.alloc(), &mut replica);
-    assert_eq!(rt; refused, Err(IssueError::LastNumber));
-    assert_eq!(rt; replica.len(), 4, "operations");
+    check_equal(
+        rt,
+        refused,
+        Err(IssueError::LastNumber),
+        "a note after the last number",
+    );
+    check_equal(rt, replica.len(), 4, "operations");
 }
 
 // The next values of the game are not computed, for this reason.
@@ -343,7 +392,7 @@ fn computes_none(
     why: ComputeError,
 ) {
     let refused = replica.compute(code, count).err();
-    assert_eq!(rt; refused, Some(why), "{count} values");
+    check_equal(rt, refused, Some(why), format_args!("{count} values"));
 }
 
 // An empty replica computes five values of 0.137, neither none nor too many, and stays empty.
@@ -351,21 +400,26 @@ fn computes_first(rt: &(impl Abort + AllocGlobal)) {
     let code = code_of(rt, "0.137");
     let replica = new_replica(rt, rt.alloc(), 7);
     let block = replica.compute(code, 5).ok().expect(rt, "five values");
-    assert!(rt; block.code() == code, "another code");
-    assert_eq!(rt; block.start(), 1, "the start");
-    assert_eq!(rt; block.values(), [1, 1, 2, 0, 3].as_slice());
+    check(rt, block.code() == code, "another code");
+    check_equal(rt, block.start(), 1, "the start");
+    check_equal(rt, block.values(), [1, 1, 2, 0, 3].as_slice(), "the values");
     computes_none(rt, &replica, code, 0, ComputeError::Zero);
     computes_none(rt, &replica, code, 1_025, ComputeError::TooMany);
-    assert_eq!(rt; replica.len(), 0, "operations");
+    check_equal(rt, replica.len(), 0, "operations");
 }
 
 // The block has so many values from the start on, in turn 0 and 1.
 fn takes_turns(rt: &(impl Abort + AllocGlobal), block: &Block<Global>, start: u32, count: usize) {
     let shown = (block.start(), block.values().len());
-    assert_eq!(rt; shown, (start, count), "start and count");
+    check_equal(rt, shown, (start, count), "start and count");
     let mut value = start % 2;
     for claimed in block.values() {
-        assert_eq!(rt; *claimed, value, "a value of the block at {start}");
+        check_equal(
+            rt,
+            *claimed,
+            value,
+            format_args!("a value of the block at {start}"),
+        );
         value ^= 1;
     }
 }
@@ -381,7 +435,11 @@ fn goes_on(
     let block = replica.compute(code, 1_024).ok().expect(rt, "a block");
     takes_turns(rt, &block, start, count);
     let dot = plain(replica.issue(Body::Block(block)));
-    assert!(rt; dot.is_ok(), "the block at {start} is not issued");
+    check(
+        rt,
+        dot.is_ok(),
+        format_args!("the block at {start} is not issued"),
+    );
 }
 
 // The values of 0.3 are computed up to the limit, and none beyond it.
@@ -401,13 +459,13 @@ fn removes_by_name(rt: &(impl Abort + AllocGlobal)) {
     let mut replica = new_replica(rt, rt.alloc(), 1);
     takes(rt, &mut replica, &[EARLY, LATER, REMOVAL], 1);
     let removal = replica.removal(b"kayles").ok().expect(rt, "a removal");
-    assert_eq!(rt; removal.dots().len(), 1, "dots");
+    check_equal(rt, removal.dots().len(), 1, "dots");
     for dot in removal.dots() {
-        assert_eq!(rt; (dot.author(), dot.number()), (1, 2));
+        check_equal(rt, (dot.author(), dot.number()), (1, 2), "the dot");
     }
     let refused = replica.removal(b"dawson").err();
-    assert_eq!(rt; refused, Some(RemovalError::NoNote));
-    assert_eq!(rt; replica.len(), 3, "operations");
+    check_equal(rt, refused, Some(RemovalError::NoNote), "the note dawson");
+    check_equal(rt, replica.len(), 3, "operations");
 }
 
 #[test]
@@ -428,7 +486,12 @@ fn refuses_prefixes(rt: &(impl Abort + AllocGlobal), replica: &mut Replica<Globa
             TakeError::Refused
         };
         let front = &delta[..end];
-        assert_eq!(rt; replica.take(front), Err(wanted), "{front:?}");
+        check_equal(
+            rt,
+            replica.take(front),
+            Err(wanted),
+            format_args!("{front:?}"),
+        );
     }
 }
 
@@ -477,7 +540,7 @@ fn stays_empty(rt: &(impl Abort + AllocGlobal)) {
     }
     for &(text, why) in CHANGED {
         let taken = replica.take(&bytes(rt, text));
-        assert_eq!(rt; taken, Err(why), "{text}");
+        check_equal(rt, taken, Err(why), text);
     }
     shows(
         rt,
@@ -506,7 +569,7 @@ fn is_refused_or_sent(rt: &(impl Abort + AllocGlobal), bytes: &[u8], old: &[u8])
 
 // That is so of the delta with each byte replaced by each other one.
 fn changes_are_refused_or_sent(rt: &(impl Abort + AllocGlobal), delta: &[u8]) {
-    assert!(rt; delta.len() <= 74, "{} bytes", delta.len());
+    check(rt, delta.len() <= 74, format_args!("{} bytes", delta.len()));
     let count = delta.len().min(74);
     for place in 0..count {
         for byte in 0..=u8::MAX {
@@ -531,23 +594,27 @@ fn bytes_that_are_no_delta_are_refused(rt: HostRuntime) {
 // The bytes are the state of author 7 that is loaded from them.
 fn is_saved_again(rt: &(impl Abort + AllocGlobal), bytes: &[u8]) {
     let replica = Replica::load(rt.alloc(), bytes).ok().expect(rt, "a state");
-    assert_eq!(rt; replica.author(), 7, "{bytes:?}");
+    check_equal(rt, replica.author(), 7, format_args!("{bytes:?}"));
     let mut text = Vec::new(rt.alloc());
-    assert!(rt; replica.save(&mut text).is_ok(), "{bytes:?}");
-    assert_eq!(rt; text.as_slice(), bytes);
+    check(
+        rt,
+        replica.save(&mut text).is_ok(),
+        format_args!("{bytes:?}"),
+    );
+    check_equal(rt, text.as_slice(), bytes, "the state");
 }
 
 // The bytes are no state, for this reason.
 fn refuses_state(rt: &(impl Abort + AllocGlobal), bytes: &[u8], why: LoadError) {
     let refused = Replica::load(rt.alloc(), bytes).err();
-    assert_eq!(rt; refused, Some(why), "{bytes:?}");
+    check_equal(rt, refused, Some(why), format_args!("{bytes:?}"));
 }
 
 // A delta is refused, and each proper prefix of a state.
 fn refuses_states(rt: &(impl Abort + AllocGlobal)) {
     refuses_state(rt, &bytes(rt, FIRST), LoadError::Version);
     let state = bytes(rt, EMPTY_STATE);
-    assert_eq!(rt; state.len(), 16, "{EMPTY_STATE}");
+    check_equal(rt, state.len(), 16, EMPTY_STATE);
     for end in 0..state.len() {
         let wanted = if end < 4 {
             LoadError::Version
@@ -569,7 +636,7 @@ fn states_are_loaded_as_they_were_saved(rt: HostRuntime) {
         is_saved_again(&rt, &bytes(&rt, text));
     }
     refuses_states(&rt);
-    assert!(rt; no_author_is_zero(rt.alloc()), "a replica of author 0");
+    check(&rt, no_author_is_zero(rt.alloc()), "a replica of author 0");
 }
 
 // The delta of the block 1.N of another game for each number N, at heap 1 with the value 0.
@@ -578,7 +645,7 @@ fn other_block(rt: &(impl Abort + AllocGlobal), number: u8) -> Vec<u8> {
     put_number(rt, &mut out, u32::from(number));
     put(rt, &mut out, "01 0003");
     let digits = [number / 49 % 7, number / 7 % 7, number % 7 + 1];
-    assert!(rt; out.extend_from_slice(&digits).is_ok(), "{number}");
+    check(rt, out.extend_from_slice(&digits).is_ok(), number);
     put(rt, &mut out, "00000001 0001 00000000");
     out
 }
@@ -600,13 +667,13 @@ fn touches_its_game_alone<A: Allocator + Copy>(
     let mut replica = new_replica(rt, alloc, 1);
     for number in 1..201u8 {
         let taken = replica.take(&other_block(rt, number));
-        assert_eq!(rt; taken, Ok(1), "game {number}");
+        check_equal(rt, taken, Ok(1), format_args!("game {number}"));
     }
     let first = bytes(rt, FIRST);
     heap.arm(64);
-    assert_eq!(rt; replica.take(&first), Ok(1), "with 64 requests");
+    check_equal(rt, replica.take(&first), Ok(1), "with 64 requests");
     let counted = counts(&replica, code_of(rt, "0.77"));
-    assert_eq!(rt; counted, (5, 1), "the known length and the comparisons");
+    check_equal(rt, counted, (5, 1), "the known length and the comparisons");
 }
 
 #[test]

@@ -1,12 +1,13 @@
 //! A search in windows that is taken up again.
 
+use crate::answers::{check, check_equal};
 use census_core::{
     Fault, Forgetful, Form, Keeper, Place, Progress, Unkept, read_search, resume_in_windows,
     search_in_windows, write_place,
 };
 use oct_code::Code;
-use std::alloc::Global;
-use std::test::Fail;
+use std::alloc::{AllocGlobal, Global};
+use std::process::Abort;
 
 /// Keeps the text of each place, and notes how many were called the last one.
 #[derive(Drop)]
@@ -58,30 +59,47 @@ impl Keeper<Global> for Refusing {
 // The period of published tables, by the values at which the window marked at 262,144 comes again.
 const FOUND: &str = "0.16 period 149459 from 105351 needs 509622 values 411603";
 
+const RESUMED: &str =
+    "0.16 period 149459 from 105351 needs 509622 values 411603 from a saved search";
+
 // It comes to a place behind each 65,536 values, up to these; then a period ahead, 149,459; then before the marked window, 229,376.
 const PLACES: usize = 6 + 3 + 4;
 
-#[test]
-fn a_search_goes_on_from_each_place(rt: HostRuntime) -> Result<(), Fail> {
-    let alloc = rt.alloc();
-    let code = Code::parse(b"0.16").ok().expect(&rt, "a code");
-    let mut album = album_of_none(alloc);
-    let line = search_in_windows(alloc, code, 1_000_000, Form::Lines, &mut album);
-    let due = format!(in alloc; "{FOUND}\n")?;
-    assert_eq!(rt; line.ok().expect(&rt, "a line").as_slice(), due.as_bytes());
-    assert_eq!(rt; album.texts.len(), PLACES);
-    assert_eq!(rt; album.lasts, 1);
+// The line is the one that is due, with a line feed.
+fn is_line(rt: &impl Abort, line: Result<Vec<u8>, Fault>, due: &str) {
+    let line = line.ok().expect(rt, due);
+    check_equal(
+        rt,
+        line.strip_suffix(b"\n"),
+        Some(due.as_bytes()),
+        "the line",
+    );
+}
 
-    let due = format!(in alloc; "{FOUND} from a saved search\n")?;
+// The search goes on from the place of the text, and that is written as this text.
+fn goes_on(rt: &(impl Abort + AllocGlobal), code: Code, text: &[u8]) {
+    let alloc = rt.alloc();
+    let Ok(place) = read_search(alloc, code, text) else {
+        return check(rt, false, "a place is read");
+    };
+    let same = write_place(alloc, &place).ok().expect(rt, "memory");
+    check_equal(rt, same.as_slice(), text, "the place");
+    let mut keeper = Forgetful(&mut album_of_none(alloc));
+    let line = resume_in_windows(alloc, place, 1_000_000, Form::Lines, &mut keeper);
+    is_line(rt, line, RESUMED);
+}
+
+#[test]
+fn a_search_goes_on_from_each_place(rt: HostRuntime) {
+    let code = Code::parse(b"0.16").ok().expect(&rt, "a code");
+    let mut album = album_of_none(rt.alloc());
+    let line = search_in_windows(rt.alloc(), code, 1_000_000, Form::Lines, &mut album);
+    is_line(&rt, line, FOUND);
+    let kept = (album.texts.len(), album.lasts);
+    check_equal(&rt, kept, (PLACES, 1), "places and last places");
     for text in &album.texts {
-        let place = read_search(alloc, code, text).ok().expect(&rt, "a place");
-        let same = write_place(alloc, &place)?;
-        assert_eq!(rt; same.as_slice(), text.as_slice());
-        let mut keeper = Forgetful(&mut album_of_none(alloc));
-        let line = resume_in_windows(alloc, place, 1_000_000, Form::Lines, &mut keeper);
-        assert_eq!(rt; line.ok().expect(&rt, "a line").as_slice(), due.as_bytes());
+        goes_on(&rt, code, text);
     }
-    Ok(())
 }
 
 // One that keeps nothing yet.
@@ -97,5 +115,5 @@ fn album_of_none(alloc: Global) -> Album {
 fn a_place_that_is_not_kept_ends_a_search(rt: HostRuntime) {
     let code = Code::parse(b"0.16").ok().expect(&rt, "a code");
     let line = search_in_windows(rt.alloc(), code, 70_000, Form::Lines, &mut Refusing);
-    assert_eq!(rt; line.err(), Some(Fault::File));
+    check_equal(&rt, line.err(), Some(Fault::File), "the fault");
 }

@@ -2,6 +2,7 @@
 //! refusal by its name: what is renamed, or takes its arguments otherwise, no longer compiles. What the calls do is tested
 //! beside this.
 
+use crate::answers::{check, check_equal};
 use crate::replica::new_replica;
 use crate::texts::{FIRST, bytes};
 use census_core::{Fault, ImportError, Reply, Request, fold_lines, import_block, number, perform};
@@ -21,7 +22,6 @@ use serde_json::Value;
 use std::alloc::Global;
 use std::collections::BTreeMap;
 use std::process::Abort;
-use std::test::Fail;
 
 // The names of the refusals of a replica.
 fn author_refusal(error: AuthorError) -> &'static str {
@@ -84,7 +84,7 @@ fn encode_refusal(error: EncodeError) -> &'static str {
 }
 
 #[test]
-fn pages(rt: HostRuntime) -> Result<(), Fail> {
+fn pages(rt: HostRuntime) {
     let alloc = rt.alloc();
     let said: Record<Global> = Record::new(alloc, 1).ok().expect(&rt, "an author");
     let games: BTreeMap<Code, Game<Global>> = BTreeMap::new(alloc);
@@ -95,36 +95,56 @@ fn pages(rt: HostRuntime) -> Result<(), Fail> {
     };
     let mut out = Vec::new(alloc);
     let written: Result<(), OutOfMemory> = write_catalogue(alloc, &parts, &mut out);
-    written?;
-    assert_eq!(rt; out.as_slice(), b"census 2\nend\n".as_slice());
+    check(&rt, written.is_ok(), "no catalogue");
+    check_equal(
+        &rt,
+        out.as_slice(),
+        b"census 2\nend\n".as_slice(),
+        "the catalogue",
+    );
     let found: Result<bool, OutOfMemory> = write_page(alloc, &parts, 1, &mut out);
-    assert_eq!(rt; found?, false);
-    Ok(())
+    check_equal(&rt, found.ok(), Some(false), "a second page");
 }
 
 // What a replica takes and issues.
-fn takes_and_issues(
-    rt: &(impl Abort + AllocGlobal),
-    replica: &mut Replica<Global>,
-    delta: &[u8],
-) -> Result<(), Fail> {
+fn takes_and_issues(rt: &(impl Abort + AllocGlobal), replica: &mut Replica<Global>, delta: &[u8]) {
     let alloc = rt.alloc();
     let taken: Result<u32, TakeError> = replica.take(delta);
-    assert_eq!(rt; taken.map_err(take_refusal), Ok(1));
+    check_equal(
+        rt,
+        taken.map_err(take_refusal),
+        Ok(1),
+        "operations that are taken",
+    );
     let list = decode(alloc, delta).ok().expect(rt, "a list");
     assert!(rt; list.len() == 1);
     let again: Result<u32, TakeError> = replica.take_list(list);
-    assert_eq!(rt; again.map_err(take_refusal), Ok(0));
-    let body = Body::Note(Note::new(alloc, b"a", b"")?);
-    let issued: Result<Dot, (IssueError, Body<Global>)> = replica.issue(body);
-    match issued {
-        Ok(dot) => assert_eq!(rt; dot.author(), 7),
-        Err((error, _)) => panic!(rt; "{}", issue_refusal(error)),
-    }
+    check_equal(
+        rt,
+        again.map_err(take_refusal),
+        Ok(0),
+        "operations that are taken again",
+    );
+    issues(rt, replica);
     let joined: Result<(), OutOfMemory> = replica.join(&new_replica(rt, alloc, 1));
-    joined?;
-    assert_eq!(rt; (replica.author(), replica.len()), (7, 2));
-    Ok(())
+    check(rt, joined.is_ok(), "the replica is not joined");
+    check_equal(
+        rt,
+        (replica.author(), replica.len()),
+        (7, 2),
+        "author and operations",
+    );
+}
+
+// Issues a note.
+fn issues(rt: &(impl Abort + AllocGlobal), replica: &mut Replica<Global>) {
+    let note = Note::new(rt.alloc(), b"a", b"").ok().expect(rt, "a note");
+    let issued: Result<Dot, (IssueError, Body<Global>)> = replica.issue(Body::Note(note));
+    let author = match issued {
+        Ok(dot) => Ok(dot.author()),
+        Err((error, _)) => Err(issue_refusal(error)),
+    };
+    check_equal(rt, author, Ok(7), "the author of the dot");
 }
 
 // What a replica says of a game.
@@ -132,45 +152,81 @@ fn tells_of_a_game(rt: &impl Abort, replica: &Replica<Global>, code: Code) {
     let game: Option<&Game<Global>> = replica.game(code);
     let value: Result<u32, QueryError> = replica.value(code, &[9]);
     let outcome: Outcome = replica.outcome(code, &[]);
+    check(rt, game.is_some(), "the game");
+    check(rt, outcome == Outcome::NextLoses, "the outcome");
+    check_equal(
+        rt,
+        value.map_err(query_refusal),
+        Err("Unknown"),
+        "the value",
+    );
     let block: Result<Block<Global>, ComputeError> = replica.compute(code, 0);
+    check_equal(
+        rt,
+        block.err().map(compute_refusal),
+        Some("Zero"),
+        "a block",
+    );
     let removal: Result<Removal<Global>, RemovalError> = replica.removal(b"b");
-    assert!(rt; game.is_some() && outcome == Outcome::NextLoses);
-    assert_eq!(rt; value.map_err(query_refusal), Err("Unknown"));
-    assert_eq!(rt; block.err().map(compute_refusal), Some("Zero"));
-    assert_eq!(rt; removal.err().map(removal_refusal), Some("NoNote"));
+    check_equal(
+        rt,
+        removal.err().map(removal_refusal),
+        Some("NoNote"),
+        "a removal",
+    );
 }
 
-// What a replica writes.
-fn writes(rt: &(impl Abort + AllocGlobal), replica: &Replica<Global>) -> Result<(), Fail> {
-    let alloc = rt.alloc();
-    let mut out = Vec::new(alloc);
+// What a replica writes for a reader.
+fn prints(rt: &(impl Abort + AllocGlobal), replica: &Replica<Global>) {
+    let mut out = Vec::new(rt.alloc());
     let catalogue: Result<(), OutOfMemory> = replica.catalogue(&mut out);
-    catalogue?;
+    check(rt, catalogue.is_ok(), "no catalogue");
     let page: Result<bool, OutOfMemory> = replica.page(0, &mut out);
-    assert!(rt; page?);
+    check_equal(rt, page.ok(), Some(true), "the page");
+}
+
+// What a replica writes for another one.
+fn sends(rt: &(impl Abort + AllocGlobal), replica: &Replica<Global>) {
     let clock: Result<Clock<Global>, OutOfMemory> = replica.clock();
-    let clock = clock?;
+    let clock = clock.ok().expect(rt, "a clock");
     let beyond: Result<OpList<Global>, OutOfMemory> = replica.beyond(&clock);
-    assert_eq!(rt; beyond?.len(), 0);
+    let beyond = beyond.ok().expect(rt, "a list");
+    check_equal(rt, beyond.len(), 0, "operations beyond the clock");
+    let mut out = Vec::new(rt.alloc());
     let delta: Result<(), EncodeError> = replica.delta(&clock, &mut out);
-    assert_eq!(rt; delta.map_err(encode_refusal), Ok(()));
-    let mut state = Vec::new(alloc);
+    check_equal(rt, delta.map_err(encode_refusal), Ok(()), "the delta");
+}
+
+// What a replica writes for itself.
+fn saves(rt: &(impl Abort + AllocGlobal), replica: &Replica<Global>) {
+    let mut state = Vec::new(rt.alloc());
     let saved: Result<(), EncodeError> = replica.save(&mut state);
-    assert_eq!(rt; saved.map_err(encode_refusal), Ok(()));
-    let loaded: Result<Replica<Global>, LoadError> = Replica::load(alloc, &state);
-    assert_eq!(rt; loaded.err().map(load_refusal), None);
-    Ok(())
+    check_equal(rt, saved.map_err(encode_refusal), Ok(()), "the state");
+    let loaded: Result<Replica<Global>, LoadError> = Replica::load(rt.alloc(), &state);
+    check_equal(
+        rt,
+        loaded.err().map(load_refusal),
+        None,
+        "the replica that is loaded",
+    );
 }
 
 #[test]
-fn replicas(rt: HostRuntime) -> Result<(), Fail> {
+fn replicas(rt: HostRuntime) {
     let alloc = rt.alloc();
     let none: Result<Replica<Global>, AuthorError> = Replica::new(alloc, 0);
-    assert_eq!(rt; none.err().map(author_refusal), Some("Zero"));
+    check_equal(
+        &rt,
+        none.err().map(author_refusal),
+        Some("Zero"),
+        "a replica of author 0",
+    );
     let mut replica = new_replica(&rt, alloc, 7);
-    takes_and_issues(&rt, &mut replica, &bytes(&rt, FIRST))?;
+    takes_and_issues(&rt, &mut replica, &bytes(&rt, FIRST));
     tells_of_a_game(&rt, &replica, Code::parse(b"0.77").expect(&rt, "Kayles"));
-    writes(&rt, &replica)
+    prints(&rt, &replica);
+    sends(&rt, &replica);
+    saves(&rt, &replica);
 }
 
 // The name of what a session answers.
@@ -198,33 +254,42 @@ fn sync_refusal(error: SyncError) -> &'static str {
 
 // A session of each role.
 #[test]
-fn sessions(rt: HostRuntime) -> Result<(), Fail> {
+fn sessions(rt: HostRuntime) {
     let alloc = rt.alloc();
     let mut replica = new_replica(&rt, alloc, 1);
     let mut out = Vec::new(alloc);
     let client: Result<Session<Global>, OutOfMemory> = Session::client(alloc, &replica, &mut out);
-    assert_eq!(rt; client?.wanted(), 5);
+    let client = client.ok().expect(&rt, "a session");
+    check_equal(&rt, client.wanted(), 5, "bytes that are wanted");
     let mut server: Session<Global> = Session::server(alloc);
     let mut answers = Vec::new(alloc);
     let fed: Result<Progress, SyncError> = server.feed(&mut replica, &out, &mut answers);
-    assert_eq!(rt; fed.map(progress_name), Ok("More"));
+    check_equal(
+        &rt,
+        fed.map(progress_name),
+        Ok("More"),
+        "the answer of the server",
+    );
+}
+
+// A session of the role ends where nothing comes.
+fn is_cut(rt: &(impl Abort + AllocGlobal), role: Role) {
+    let mut replica = new_replica(rt, rt.alloc(), 1);
+    let mut answers = Vec::new(rt.alloc());
     let driven: Result<(), SyncError> = drive(
-        alloc,
-        Role::Server,
+        rt.alloc(),
+        role,
         &mut replica,
         &mut &b""[..],
         &mut answers,
     );
-    assert_eq!(rt; driven.map_err(sync_refusal), Err("Cut"));
-    let driven: Result<(), SyncError> = drive(
-        alloc,
-        Role::Client,
-        &mut replica,
-        &mut &b""[..],
-        &mut answers,
-    );
-    assert_eq!(rt; driven.map_err(sync_refusal), Err("Cut"));
-    Ok(())
+    check_equal(rt, driven.map_err(sync_refusal), Err("Cut"), "the drive");
+}
+
+#[test]
+fn drives(rt: HostRuntime) {
+    is_cut(&rt, Role::Server);
+    is_cut(&rt, Role::Client);
 }
 
 // The name of why a JSON value is no block.
@@ -297,32 +362,43 @@ fn fault_name(fault: Fault) -> &'static str {
 }
 
 #[test]
-fn commands(rt: HostRuntime) -> Result<(), Fail> {
+fn commands(rt: HostRuntime) {
     let alloc = rt.alloc();
     let request = Request::Init { id: 7 };
-    assert_eq!(rt; request_name(&request), "Init");
+    check_equal(&rt, request_name(&request), "Init", "the name of a request");
     let reply: Result<Reply, Fault> = perform(alloc, &request, b"", b"");
     let Ok(Reply { state, file, text }) = reply else {
         panic!(rt; "no state");
     };
-    assert!(rt; state.is_some() && file.is_none());
-    assert_eq!(rt; text.as_slice(), b"author 7\n".as_slice());
-    match perform(alloc, &Request::Show, b"", b"") {
-        Ok(_) => panic!(rt; "a state of no byte"),
-        Err(fault) => assert_eq!(rt; fault_name(fault), "Load"),
-    }
-    Ok(())
+    check_equal(
+        &rt,
+        (state.is_some(), file.is_some()),
+        (true, false),
+        "state and file",
+    );
+    check_equal(&rt, text.as_slice(), b"author 7\n".as_slice(), "the text");
+    let refused = perform(alloc, &Request::Show, b"", b"").err();
+    check_equal(
+        &rt,
+        refused.map(fault_name),
+        Some("Load"),
+        "a state of no byte",
+    );
 }
 
 #[test]
-fn lines_and_words(rt: HostRuntime) -> Result<(), Fail> {
+fn lines_and_words(rt: HostRuntime) {
     let alloc = rt.alloc();
     let mut out = Vec::new(alloc);
     let folded: Result<u64, Fault> = fold_lines(alloc, &mut &b"zz\n"[..], &mut out);
-    assert_eq!(rt; folded, Ok(1));
+    check_equal(&rt, folded, Ok(1), "refused lines");
     let block: Result<Block<Global>, ImportError> = import_block(alloc, &Value::Null);
-    assert_eq!(rt; block.err().map(import_refusal), Some("Shape"));
+    check_equal(
+        &rt,
+        block.err().map(import_refusal),
+        Some("Shape"),
+        "a block of null",
+    );
     let word: Option<u64> = number("007", 4_294_967_295);
-    assert_eq!(rt; word, Some(7));
-    Ok(())
+    check_equal(&rt, word, Some(7), "the number");
 }

@@ -4,6 +4,7 @@
 mod deltas;
 mod driven;
 
+use crate::answers::{check, check_equal};
 use crate::replica::{new_replica, shows};
 use crate::texts::{
     BOTH, BOTH_SHOWN, FIRST, FORKED_SHOWN, Frame, NEXT, NEXT_SHOWN, NONE_SHOWN, NOTHING,
@@ -278,7 +279,7 @@ fn outcome_of<A: Allocator + Copy>(
     input: Input,
 ) -> Option<Outcome> {
     let taken = replica.take(&side.holds);
-    assert!(rt; taken.is_ok(), "{}: {taken:?}", side.name);
+    check(rt, taken.is_ok(), format_args!("{}: {taken:?}", side.name));
     let mut out = Vec::new(alloc);
     heap.arm(input.grants);
     let session = session_of(alloc, side.role, replica, &mut out);
@@ -290,7 +291,12 @@ fn outcome_of<A: Allocator + Copy>(
     heap.arm(u64::MAX);
     let after = session.feed(replica, &[], &mut out);
     let front = &side.sends[..out.len().min(side.sends.len())];
-    assert_eq!(rt; out.as_slice(), front, "{} sends", side.name);
+    check_equal(
+        rt,
+        out.as_slice(),
+        front,
+        format_args!("{} sends", side.name),
+    );
     Some(Outcome {
         answer: answer_name(answer),
         after: answer_name(after),
@@ -314,17 +320,17 @@ fn is_done<A: Allocator + Copy>(
     };
     let outcome = outcome_of(rt, heap, alloc, &mut replica, side, input);
     let outcome = outcome.expect(rt, side.name);
-    assert_eq!(rt;
+    check_equal(
+        rt,
         outcome.after,
         Ok("done"),
-        "{} in pieces of {size}",
-        side.name
+        format_args!("{} in pieces of {size}", side.name),
     );
-    assert_eq!(rt;
+    check_equal(
+        rt,
         outcome.sent,
         side.sends.len(),
-        "{} in pieces of {size}",
-        side.name
+        format_args!("{} in pieces of {size}", side.name),
     );
     shows(rt, alloc, &replica, side.shows, side.name);
 }
@@ -423,8 +429,18 @@ fn refuses<A: Allocator + Copy>(
     };
     let outcome = outcome_of(rt, heap, alloc, &mut replica, side, input);
     let outcome = outcome.expect(rt, text);
-    assert_eq!(rt; outcome.answer, Err(fault), "{text} at {}", side.name);
-    assert_eq!(rt; outcome.after, Err(SyncError::Failed), "after {text}");
+    check_equal(
+        rt,
+        outcome.answer,
+        Err(fault),
+        format_args!("{text} at {}", side.name),
+    );
+    check_equal(
+        rt,
+        outcome.after,
+        Err(SyncError::Failed),
+        format_args!("after {text}"),
+    );
 }
 
 #[test]
@@ -443,21 +459,19 @@ fn is_short_of_memory(
     outcome: &Outcome,
     held: usize,
 ) {
-    assert_eq!(rt;
-        outcome.answer,
-        Err(SyncError::OutOfMemory),
-        "{}",
-        side.name
-    );
-    assert_eq!(rt; outcome.after, Err(SyncError::Failed), "{}", side.name);
+    check_equal(rt, outcome.answer, Err(SyncError::OutOfMemory), side.name);
+    check_equal(rt, outcome.after, Err(SyncError::Failed), side.name);
     let ends = [0, side.first, side.sends.len()];
-    assert!(rt;
+    check(
+        rt,
         ends.contains(&outcome.sent),
-        "{} sent {} bytes",
-        side.name,
-        outcome.sent
+        format_args!("{} sent {} bytes", side.name, outcome.sent),
     );
-    assert!(rt; held <= 2, "{} holds {held} operations", side.name);
+    check(
+        rt,
+        held <= 2,
+        format_args!("{} holds {held} operations", side.name),
+    );
 }
 
 // The side leaves what it promises where each request for memory is refused in turn, and is done in the end.
@@ -477,7 +491,7 @@ fn keeps_its_promise<A: Allocator + Copy>(
         };
         if let Some(outcome) = outcome_of(rt, heap, alloc, &mut replica, side, input) {
             if outcome.after == Ok("done") {
-                assert_eq!(rt; outcome.sent, side.sends.len(), "{}", side.name);
+                check_equal(rt, outcome.sent, side.sends.len(), side.name);
                 shows(rt, alloc, &replica, side.shows, side.name);
                 return;
             }
@@ -503,8 +517,8 @@ fn stands_freely<A: Allocator + Copy>(
 ) {
     heap.arm(1_000);
     let session = Session::server(alloc);
-    assert_eq!(rt; session.wanted(), 5, "bytes that are wanted");
-    assert_eq!(rt; heap.left(), 1_000, "requests that are left");
+    check_equal(rt, session.wanted(), 5, "bytes that are wanted");
+    check_equal(rt, heap.left(), 1_000, "requests that are left");
 }
 
 #[test]

@@ -1,6 +1,7 @@
 //! Worked byte strings as hexadecimal texts, with blanks between their fields and a line for each operation; the catalogues that
 //! they have; and frames.
 
+use crate::answers::check;
 use std::alloc::{AllocError, Global};
 use std::process::Abort;
 
@@ -101,6 +102,9 @@ pub(crate) const NOTHING_NEW: &str = "4f474432 00000000";
 
 /// The state of author 7 without operations.
 pub(crate) const EMPTY_STATE: &str = "4f475331 00000007 4f474431 00000000";
+
+/// The same but for its last byte.
+pub(crate) const CUT_STATE: &str = "4f475331 00000007 4f474431 000000";
 
 /// The state of author 7 with FIRST.
 pub(crate) const FIRST_STATE: &str = "\
@@ -212,13 +216,13 @@ pub(crate) fn bytes(rt: &(impl Abort + AllocGlobal), text: &str) -> Vec<u8> {
 
 /// Appends the bytes of a hexadecimal text.
 pub(crate) fn put(rt: &(impl Abort + AllocGlobal), out: &mut Vec<u8>, text: &str) {
-    assert!(rt; out.extend_from_slice(&bytes(rt, text)).is_ok(), "{text}");
+    check(rt, out.extend_from_slice(&bytes(rt, text)).is_ok(), text);
 }
 
 /// Appends a number of four bytes.
 pub(crate) fn put_number(rt: &(impl Abort + AllocGlobal), out: &mut Vec<u8>, number: u32) {
     let digits = number.to_be_bytes();
-    assert!(rt; out.extend_from_slice(&digits).is_ok(), "{number}");
+    check(rt, out.extend_from_slice(&digits).is_ok(), number);
 }
 
 /// The nim-values of Kayles for the heaps below 84, of which the last twelve repeat.
@@ -308,7 +312,8 @@ pub(crate) enum Frame<'a> {
 fn put_frame(rt: &(impl Abort + AllocGlobal), out: &mut Vec<u8>, tag: u8, payload: &[u8]) {
     let length = u32::try_from(payload.len()).ok().expect(rt, "a length");
     put_number(rt, out, length.saturating_add(1));
-    assert!(rt; out.push(tag).is_ok() && out.extend_from_slice(payload).is_ok());
+    check(rt, out.push(tag).is_ok(), "memory");
+    check(rt, out.extend_from_slice(payload).is_ok(), "memory");
 }
 
 // A clock: the count of its entries, and the entries.

@@ -4,7 +4,7 @@ use crate::found::{form, repeated};
 use crate::task::Task;
 use census_core::{Fault, Form, digest};
 use census_diagnosis::{Given, of_either};
-use census_failure::Failure;
+use census_failure::{Failure, escaped};
 use census_files::read_file;
 use census_words::{Row, words};
 use clap::ArgMatches;
@@ -69,11 +69,11 @@ fn told(alloc: Global, digits: &[u8], path: &str, form: Form) -> Result<Vec<u8>,
     }
 }
 
-// The digits, two spaces and the name, as `sha256sum` prints them.
+// The digits, two spaces and the name, in which signs that show nothing are escaped, as `sha256sum` prints them.
 fn line(alloc: Global, digits: &[u8], path: &str) -> Result<Vec<u8>, Failure> {
     let mut line = Vec::from_slice(alloc, digits)?;
     line.extend_from_slice(b"  ")?;
-    line.extend_from_slice(path.as_bytes())?;
+    line.extend_from_slice(escaped(alloc, path)?.as_bytes())?;
     line.extend_from_slice(b"\n")?;
     Ok(line)
 }

@@ -1,19 +1,21 @@
 //! `census find`: the period that known values prove.
 
 use crate::ask::asking;
-use crate::found::{codes, form};
+use crate::found::form;
+use crate::lists::listed;
 use crate::task::Task;
 use census_core::Request;
 use census_failure::Failure;
 use census_words::{Row, words};
 use clap::ArgMatches;
-use std::alloc::Global;
+use std::io::Read;
+use std::rt::Files;
 
 /// Its row in the table.
 pub(crate) const ROW: Row = Row {
     name: "find",
     words: &[words::STATE, words::CODES],
-    options: &[words::EACH_JSON],
+    options: &[words::LIST, words::PART, words::EACH_JSON],
     line: "The period that the known values of each game prove",
     about: "Says which period the known values of each game prove",
     after: "\
@@ -21,6 +23,7 @@ A line for each game names the least period P that its known values prove, the l
 which on it holds, and how many values prove it: 2E + 2P + k, k the number of digits of the code. Or
 it says `no period in N values`, as many as are known. A period that is named holds for all heaps.
 The state stays as it is. With --json a line is an object, whose `period` is null where there is none.
+The games are named as for extend.
 
 Exit status: 0 done (also where there is no period), 1 refused: Load (the state), Code;
 2 command line, 3 file, 4 memory
@@ -30,9 +33,17 @@ Example:
 };
 
 /// What its words ask for.
-pub(crate) fn task<'a>(alloc: Global, found: &ArgMatches<'a>) -> Result<Task<'a>, Failure> {
+pub(crate) fn task<'a, R, I>(
+    rt: &R,
+    found: &ArgMatches<'a>,
+    input: &mut I,
+) -> Result<Task<'a>, Failure>
+where
+    R: Files + AllocGlobal,
+    I: Read,
+{
     let request = Request::Find {
-        codes: codes(alloc, found)?,
+        codes: listed(rt, found, words::CODES.name, input)?,
         form: form(found),
     };
     asking(found, None, request)

@@ -7,19 +7,20 @@ use census_core::{Request, View};
 use census_failure::Failure;
 use census_words::{Row, words};
 use clap::ArgMatches;
-use std::alloc::Global;
+use std::io::Read;
+use std::rt::Files;
 
 /// Its row in the table.
 pub(crate) const ROW: Row = Row {
     name: "json",
     words: &[words::STATE],
-    options: &[words::ONLY],
+    options: &[words::ONLY, words::LIST, words::PART],
     line: "All that is known, for scripts",
     about: "Prints all that is known as one JSON document",
     after: "\
 It has the keys authors, census (the edition of the catalogue), forks, games and notes;
-docs/FORMATS.md says what stands under each. With --only it has the blocks and claims of the games
-that are named, and nothing else.
+docs/FORMATS.md says what stands under each. With --only or --codes it has the blocks and claims of
+the games that are named, and nothing else.
 
 Exit status: 0 done, 1 refused: Load (the state), Code; 2 command line, 3 file, 4 memory
 
@@ -28,7 +29,15 @@ Example:
 };
 
 /// What its words ask for.
-pub(crate) fn task<'a>(alloc: Global, found: &ArgMatches<'a>) -> Result<Task<'a>, Failure> {
-    let request = all_or_only(alloc, found, Request::Json, View::Json)?;
+pub(crate) fn task<'a, R, I>(
+    rt: &R,
+    found: &ArgMatches<'a>,
+    input: &mut I,
+) -> Result<Task<'a>, Failure>
+where
+    R: Files + AllocGlobal,
+    I: Read,
+{
+    let request = all_or_only(rt, found, Request::Json, View::Json, input)?;
     asking(found, None, request)
 }

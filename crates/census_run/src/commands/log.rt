@@ -60,7 +60,7 @@ fn author(alloc: Global, found: &ArgMatches<'_>) -> Result<Option<u32>, Failure>
 // The game that is named, if one is.
 fn game_found(alloc: Global, found: &ArgMatches<'_>) -> Result<Option<Code>, Failure> {
     match found.get_str(words::OF.name) {
-        Some(word) => Ok(Some(game(alloc, word)?)),
+        Some(word) => Ok(Some(game(alloc, word.as_bytes())?)),
         None => Ok(None),
     }
 }

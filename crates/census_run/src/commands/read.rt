@@ -78,7 +78,7 @@ pub(crate) fn of_files(alloc: Global, fault: Fault, paths: &[&str], files: &[Vec
 /// Whether the bytes of a file are neither a state nor a delta.
 pub(crate) fn is_refused(bytes: &[u8]) -> bool {
     if bytes.starts_with(b"OGS1") {
-        oct_record::read_state(bytes).is_err()
+        oct_record::parse_state(bytes).is_err()
     } else {
         read_ops(bytes).is_err()
     }

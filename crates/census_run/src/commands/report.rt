@@ -8,21 +8,22 @@ use census_failure::Failure;
 use census_words::{Row, words};
 use clap::ArgMatches;
 use oct_text::Shown;
-use std::alloc::Global;
+use std::io::Read;
+use std::rt::Files;
 
 /// Its row in the table.
 pub(crate) const ROW: Row = Row {
     name: "report",
     words: &[words::STATE],
-    options: &[words::SHOWN, words::ONLY],
+    options: &[words::SHOWN, words::ONLY, words::LIST, words::PART],
     line: "All that is known, as one page of HTML",
     about: "Prints all that is known as one page of HTML",
     after: "\
 Tables of all games come first, then notes, forks and authors, then each game with its values and a
 picture of the first of them, its blocks and its period claims. Where a period is proved, the values
 up to the end of its second run are shown, which go on so for ever; else the first 1,000 and the last
-100, unless all are asked for. The page has no script, and names nothing outside it. With --only it
-has the blocks and claims of the games that are named, and nothing else.
+100, unless all are asked for. The page has no script, and names nothing outside it. With --only or
+--codes it has the blocks and claims of the games that are named, and nothing else.
 
 Exit status: 0 done, 1 refused: Load (the state), Code; 2 command line, 3 file, 4 memory
 
@@ -31,12 +32,21 @@ Example:
 };
 
 /// What its words ask for.
-pub(crate) fn task<'a>(alloc: Global, found: &ArgMatches<'a>) -> Result<Task<'a>, Failure> {
+pub(crate) fn task<'a, R, I>(
+    rt: &R,
+    found: &ArgMatches<'a>,
+    input: &mut I,
+) -> Result<Task<'a>, Failure>
+where
+    R: Files + AllocGlobal,
+    I: Read,
+{
     let shown = match found.get_str(words::SHOWN.name) {
         Some("brief") => Shown::Brief,
         Some("all") => Shown::All,
         _ => return Err(Failure::from(Fault::Words)),
     };
-    let request = all_or_only(alloc, found, Request::Report { shown }, View::Report(shown))?;
+    let all = Request::Report { shown };
+    let request = all_or_only(rt, found, all, View::Report(shown), input)?;
     asking(found, None, request)
 }

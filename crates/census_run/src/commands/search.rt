@@ -1,6 +1,7 @@
 //! `census search`: the period of each game, past every limit, or a list of first values.
 
-use crate::found::{game, games, repeated};
+use crate::found::{copies, game, games};
+use crate::lists::{is_listed, listed};
 use crate::numbers::{Range, heaps, value_count};
 use crate::system::System;
 use crate::task::Task;
@@ -14,7 +15,8 @@ use census_words::{Row, words};
 use clap::ArgMatches;
 use oct_code::Code;
 use std::alloc::Global;
-use std::io::Write;
+use std::io::{Read, Write};
+use std::rt::Files;
 use written::write_out;
 
 /// Its row in the table.
@@ -22,6 +24,8 @@ pub(crate) const ROW: Row = Row {
     name: "search",
     words: &[words::VALUES, words::CODES],
     options: &[
+        words::LIST,
+        words::PART,
         words::AT,
         words::AS_JSON,
         words::AS_BFILE,
@@ -50,10 +54,12 @@ line says `no period seen in COUNT values` where they do not come again: they ar
 lengths that double, so a period that a search without --window would find may not be seen.
 
 With --save FILE such a search, of one game, can be stopped at any moment and taken up again by the same
-line: how far it is stands in FILE, which is written every two minutes and at the end, with a checksum,
+line: how far it is stands in FILE, written every fifteen seconds and at the end, with a checksum,
 and goes on from there, by more values where COUNT is greater than before. What FILE has is believed, and
 the line ends with `from a saved search`. FILE is locked meanwhile, and written as a state is; where it
 can't be written, the search ends. The first 65,536 values, or as many as are listed, are computed anew.
+
+The games are named as for extend; those of --bfile and --save are one word CODE.
 
 No state is needed. A value takes a byte of memory while none is above 255, and two from then on, and
 up to a third more while the list grows. On a terminal a line on standard error says how far it is.
@@ -96,22 +102,30 @@ const WINDOWED: Range = Range {
 };
 
 /// What its words ask for.
-pub(crate) fn task<'a>(alloc: Global, found: &ArgMatches<'a>) -> Result<Task<'a>, Failure> {
+pub(crate) fn task<'a, R, I>(
+    rt: &R,
+    found: &ArgMatches<'a>,
+    input: &mut I,
+) -> Result<Task<'a>, Failure>
+where
+    R: Files + AllocGlobal,
+    I: Read,
+{
     if found.get_flag(words::AS_BFILE.name) {
-        return listed(alloc, found);
+        return tabled(rt.alloc(), found);
     }
-    Ok(Task::Search(sought(alloc, found)?))
+    Ok(Task::Search(sought(rt, found, input)?))
 }
 
 // The values that are asked for as a b-file: those of one game, and nothing else.
-fn listed<'a>(alloc: Global, found: &ArgMatches<'a>) -> Result<Task<'a>, Failure> {
+fn tabled<'a>(alloc: Global, found: &ArgMatches<'a>) -> Result<Task<'a>, Failure> {
     let is_more = found.get_flag(words::AS_JSON.name)
         || found.get_flag(words::WINDOW.name)
         || found.get_str(words::SAVE.name).is_some();
-    if is_more || found.get_strs(words::AT.name).is_some() {
+    if is_more || is_listed(found) || found.get_strs(words::AT.name).is_some() {
         return Err(crowded(alloc));
     }
-    let codes = repeated(alloc, found, words::CODES)?;
+    let codes = copies(alloc, found, words::CODES.name)?;
     let [code] = codes.as_slice() else {
         return Err(crowded(alloc));
     };
@@ -122,7 +136,12 @@ fn listed<'a>(alloc: Global, found: &ArgMatches<'a>) -> Result<Task<'a>, Failure
 }
 
 // What is searched for.
-fn sought<'a>(alloc: Global, found: &ArgMatches<'a>) -> Result<Search<'a>, Failure> {
+fn sought<'a, R, I>(rt: &R, found: &ArgMatches<'a>, input: &mut I) -> Result<Search<'a>, Failure>
+where
+    R: Files + AllocGlobal,
+    I: Read,
+{
+    let alloc = rt.alloc();
     let form = if found.get_flag(words::AS_JSON.name) {
         Form::Json
     } else {
@@ -133,23 +152,29 @@ fn sought<'a>(alloc: Global, found: &ArgMatches<'a>) -> Result<Search<'a>, Failu
         return Err(forgotten(alloc));
     }
     let save = found.get_str(words::SAVE.name);
-    if save.is_some() && (!is_windowed || repeated(alloc, found, words::CODES)?.len() != 1) {
+    if save.is_some() && (!is_windowed || is_listed(found) || !is_one(alloc, found)?) {
         return Err(unsaved(alloc));
     }
     let range = if is_windowed { WINDOWED } else { SEARCHED };
     Ok(Search {
         count: value_count(alloc, found, range)?,
         heaps: heaps(alloc, found, words::AT.name)?,
-        codes: games(alloc, found)?,
+        codes: games(alloc, &listed(rt, found, words::CODES.name, input)?)?,
         form,
         is_windowed,
         save,
     })
 }
 
+// Whether one code is named by a word.
+fn is_one(alloc: Global, found: &ArgMatches<'_>) -> Result<bool, Failure> {
+    Ok(copies(alloc, found, words::CODES.name)?.len() == 1)
+}
+
 // The failure of a list of values, for which too much is asked.
 fn crowded(alloc: Global) -> Failure {
-    let text = "--bfile takes one CODE, and neither --at, --json, --window nor --save";
+    let text =
+        "--bfile takes one CODE, and neither --codes, --part, --at, --json, --window nor --save";
     Failure::from(Fault::Words).found(String::from_str(alloc, text))
 }
 
@@ -161,7 +186,7 @@ fn forgotten(alloc: Global) -> Failure {
 
 // The failure of a search that can't be saved.
 fn unsaved(alloc: Global) -> Failure {
-    let text = "--save takes one CODE, and --window";
+    let text = "--save takes one CODE, --window, and neither --codes nor --part";
     Failure::from(Fault::Words).found(String::from_str(alloc, text))
 }
 

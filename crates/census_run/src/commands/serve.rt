@@ -1,16 +1,16 @@
 //! `census serve`: one session with whoever connects.
 
-use crate::endpoint::endpoint;
+use crate::endpoint::{Meeting, meeting_of};
 use crate::found::is_quiet;
-use crate::printing::print_unless;
+use crate::printing::{print_unless, tell_done};
 use crate::task::Task;
 use census_failure::{Advice, Failure};
-use census_net::{Endpoint, serve};
+use census_net::{serve, serve_over};
 use census_words::{Row, words};
 use clap::ArgMatches;
 use std::alloc::Global;
 use std::fs::File;
-use std::io::Write;
+use std::io::{Read, Write};
 use std::net::{Net, TcpListener, TcpStream};
 use std::rt::Files;
 use std::time::Clock;
@@ -18,42 +18,58 @@ use std::time::Clock;
 /// Its row in the table.
 pub(crate) const ROW: Row = Row {
     name: "serve",
-    words: &[words::STATE, words::ADDR],
+    words: &[words::STATE, words::PEER],
     options: &[words::PATIENCE, words::QUIET],
     line: "Waits for one `sync`, and exchanges all that is new",
     about: "Waits for one connection to an address, and exchanges all that is new with its `sync`",
     after: of_sessions!(
         "",
         "
+With --stdio the session goes over standard input and output, and `done` is written to standard
+error; nothing is listened to, and --patience counts for nothing. So a line of authorized_keys with
+command=\"census serve --stdio group.state\",restrict lets whoever has that key sync, and nothing else.
+
 Exit status: 0 done, 1 refused: Load (the state), Sync (the other side's bytes), Author, TooMany;
 2 command line, 3 file or network, 4 memory
 
-Example:
-  census serve anna.state 127.0.0.1:4000"
+Examples:
+  census serve anna.state 127.0.0.1:4000
+  census serve --stdio anna.state"
     ),
 };
 
 /// What its words ask for.
 pub(crate) fn task<'a>(alloc: Global, found: &ArgMatches<'a>) -> Result<Task<'a>, Failure> {
     Ok(Task::Serve {
-        endpoint: endpoint(alloc, found, None)?,
+        meeting: meeting_of(alloc, found)?,
         is_quiet: is_quiet(found),
     })
 }
 
 /// Has the session, and says that it is done.
-pub(crate) fn run<R, O, E>(
+pub(crate) fn run<R, I, O, E>(
     rt: &R,
-    endpoint: Endpoint<'_>,
+    meeting: Meeting<'_>,
     is_quiet: bool,
+    input: &mut I,
     output: &mut O,
     advice: &mut Advice<'_, E>,
 ) -> Result<(), Failure>
 where
     R: Files<File = File> + AllocGlobal + Net<Stream = TcpStream, Listener = TcpListener> + Clock,
+    I: Read,
     O: Write,
     E: Write,
 {
-    serve(rt, endpoint, advice)?;
-    print_unless(is_quiet, b"done\n", output)
+    match meeting {
+        Meeting::At(endpoint) => {
+            serve(rt, endpoint, advice)?;
+            print_unless(is_quiet, b"done\n", output)
+        }
+        Meeting::Streams { state } => {
+            serve_over(rt, state, input, output, advice)?;
+            tell_done(is_quiet, advice.errors());
+            Ok(())
+        }
+    }
 }

@@ -7,17 +7,19 @@ use census_core::{Request, View};
 use census_failure::Failure;
 use census_words::{Row, words};
 use clap::ArgMatches;
-use std::alloc::Global;
+use std::io::Read;
+use std::rt::Files;
 
 /// Its row in the table.
 pub(crate) const ROW: Row = Row {
     name: "show",
     words: &[words::STATE],
-    options: &[words::ONLY],
+    options: &[words::ONLY, words::LIST, words::PART],
     line: "The catalogue: all that follows from the state's operations",
     about: "Prints the catalogue",
     after: "\
-With --only the catalogue has the blocks and claims of the games that are named, and nothing else.
+With --only or --codes the catalogue has the blocks and claims of the games that are named, and
+nothing else.
 
 Exit status: 0 done, 1 refused: Load (the state), Code; 2 command line, 3 file, 4 memory
 
@@ -27,7 +29,15 @@ Examples:
 };
 
 /// What its words ask for.
-pub(crate) fn task<'a>(alloc: Global, found: &ArgMatches<'a>) -> Result<Task<'a>, Failure> {
-    let request = all_or_only(alloc, found, Request::Show, View::Catalogue)?;
+pub(crate) fn task<'a, R, I>(
+    rt: &R,
+    found: &ArgMatches<'a>,
+    input: &mut I,
+) -> Result<Task<'a>, Failure>
+where
+    R: Files + AllocGlobal,
+    I: Read,
+{
+    let request = all_or_only(rt, found, Request::Show, View::Catalogue, input)?;
     asking(found, None, request)
 }

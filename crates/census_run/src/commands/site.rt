@@ -2,7 +2,7 @@
 
 use crate::found::word;
 use crate::task::Task;
-use census_core::{Fault, Shelf, write_site};
+use census_core::{Fault, Folder, write_site};
 use census_diagnosis::{Given, of_state};
 use census_failure::{Advice, Failure};
 use census_files::{SiteFolder, read_state};
@@ -77,20 +77,20 @@ where
     R: Files<File = File> + AllocGlobal + Clock + Clone + Drop,
     E: Write,
 {
-    let mut shelf = FolderShelf {
+    let mut site = LockedFolder {
         folder: SiteFolder::open(rt, path, advice)?,
     };
-    let put = write_site(rt.alloc(), bytes, &mut shelf);
-    shelf.folder.close(put)
+    let put = write_site(rt.alloc(), bytes, &mut site);
+    site.folder.close(put)
 }
 
-// A folder, as the shelf that takes the files of a site.
+// A folder that no other command writes into meanwhile, as it takes the files of a site.
 #[derive(Drop)]
-struct FolderShelf<'a, 'b, R, E> {
+struct LockedFolder<'a, 'b, R, E> {
     folder: SiteFolder<'a, 'b, R, E>,
 }
 
-impl<'a, 'b, R, E> Shelf for FolderShelf<'a, 'b, R, E>
+impl<'a, 'b, R, E> Folder for LockedFolder<'a, 'b, R, E>
 where
     R: Files<File = File> + AllocGlobal + Clock + Clone + Drop,
     E: Write,

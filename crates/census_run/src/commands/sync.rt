@@ -1,12 +1,12 @@
 //! `census sync`: one session with whoever serves, and what became of what it brought.
 
-use crate::endpoint::endpoint;
+use crate::endpoint::{Meeting, meeting_of};
 use crate::found::is_quiet;
-use crate::printing::print_unless;
+use crate::printing::{print_unless, tell_done};
 use crate::task::Task;
 use census_failure::{Advice, Failure};
 use census_files::read_state;
-use census_net::{Endpoint, record_of, sync};
+use census_net::{record_of, sync, sync_over};
 use census_progress::{is_told, say_of_records};
 use census_words::{Row, words};
 use clap::ArgMatches;
@@ -14,7 +14,7 @@ use oct_record::Record;
 use oct_sync::Role;
 use std::alloc::Global;
 use std::fs::File;
-use std::io::Write;
+use std::io::{Read, Write};
 use std::net::{Net, TcpListener, TcpStream};
 use std::rt::Files;
 use std::time::Clock;
@@ -22,7 +22,7 @@ use std::time::Clock;
 /// Its row in the table.
 pub(crate) const ROW: Row = Row {
     name: "sync",
-    words: &[words::STATE, words::ADDR],
+    words: &[words::STATE, words::PEER],
     options: &[words::ALL, words::PATIENCE, words::QUIET],
     line: "Exchanges all that is new with a `serve` or a `hub`",
     about: "Connects to an address, and exchanges all that is new with the `serve` or `hub` there",
@@ -35,18 +35,22 @@ brings both to one set, and forks then show on both.
 
 ",
         "
+With --stdio the session goes over standard input and output, and `done` is written to standard
+error; --patience counts for nothing then. So ssh gives encryption, keys, and who may come in.
+
 Exit status: 0 done, 1 refused: Load (the state), Sync (the other side's bytes), Author, TooMany;
 2 command line, 3 file or network, 4 memory
 
-Example:
-  census sync ben.state 127.0.0.1:4000"
+Examples, the second over ssh:
+  census sync ben.state 127.0.0.1:4000
+  mkfifo p; census sync --stdio ben.state < p | ssh hub.example.org census serve --stdio a.state > p"
     ),
 };
 
 /// What its words ask for.
 pub(crate) fn task<'a>(alloc: Global, found: &ArgMatches<'a>) -> Result<Task<'a>, Failure> {
     Ok(Task::Sync {
-        endpoint: endpoint(alloc, found, None)?,
+        meeting: meeting_of(alloc, found)?,
         role: role(found),
         is_quiet: is_quiet(found),
     })
@@ -63,23 +67,34 @@ fn role(found: &ArgMatches<'_>) -> Role {
 
 /// Has the session, says that it is done, and then what became of what it brought. The fault is that of the state, as it is
 /// read first; then that of `sync`, and `Write`.
-pub(crate) fn run<R, O, E>(
+pub(crate) fn run<R, I, O, E>(
     rt: &R,
-    endpoint: Endpoint<'_>,
+    meeting: Meeting<'_>,
     role: Role,
     is_quiet: bool,
+    input: &mut I,
     output: &mut O,
     advice: &mut Advice<'_, E>,
 ) -> Result<(), Failure>
 where
     R: Files<File = File> + AllocGlobal + Net<Stream = TcpStream, Listener = TcpListener> + Clock,
+    I: Read,
     O: Write,
     E: Write,
 {
-    let mut brought = Brought::begin(rt, endpoint.state, is_quiet, advice)?;
-    sync(rt, endpoint, role, &mut brought.later, advice)?;
-    print_unless(is_quiet, b"done\n", output)?;
-    brought.tell(rt.alloc(), endpoint.state, advice);
+    let state = meeting.state();
+    let mut brought = Brought::begin(rt, state, is_quiet, advice)?;
+    match meeting {
+        Meeting::At(endpoint) => {
+            sync(rt, endpoint, role, &mut brought.later, advice)?;
+            print_unless(is_quiet, b"done\n", output)?;
+        }
+        Meeting::Streams { .. } => {
+            sync_over(rt, state, role, &mut brought.later, input, output, advice)?;
+            tell_done(is_quiet, advice.errors());
+        }
+    }
+    brought.tell(rt.alloc(), state, advice);
     Ok(())
 }
 

@@ -1,6 +1,7 @@
 //! Calls whose requests for memory are refused one after the other: what each refusal leaves, and the answer in the end.
 
 use super::*;
+use crate::answers::{check, check_equal};
 use crate::commands::COMPUTED;
 use crate::texts::{SECOND_PAGE, note_of_3};
 
@@ -35,7 +36,7 @@ const REMOVED: &str =
     "census 2\nauthor 1 through 2 last 2\nauthor 2 through 1 last 1\nauthor 3 through 1 last 1\nend\n";
 
 /// A call that adds operations: those of a delta, those of another replica, or one of its own.
-#[derive(Clone, Copy, Debug)]
+#[derive(Clone, Copy)]
 enum Change<'a> {
     Take(&'a [u8]),
     TakeList(&'a [u8]),
@@ -43,6 +44,19 @@ enum Change<'a> {
     Issue,
     Compute,
     Remove,
+}
+
+impl Change<'_> {
+    fn name(self) -> &'static str {
+        match self {
+            Change::Take(_) => "take",
+            Change::TakeList(_) => "take_list",
+            Change::Join => "join",
+            Change::Issue => "issue",
+            Change::Compute => "compute",
+            Change::Remove => "removal",
+        }
+    }
 }
 
 // Makes the change. After a refusal this is how many operations are in.
@@ -57,7 +71,7 @@ fn make<A: Allocator + Copy>(
         Change::Take(delta) => taken(rt, replica.take(delta)),
         Change::TakeList(delta) => match decode(alloc, delta) {
             Ok(list) => {
-                assert!(rt; list.len() <= 2, "{} operations", list.len());
+                assert!(rt; list.len() <= 2);
                 taken(rt, replica.take_list(list))
             }
             Err(_) => Err(0),
@@ -141,26 +155,47 @@ fn changes<A: Allocator + Copy>(
         heap.arm(u64::MAX);
         match made {
             Ok(()) => {
-                assert!(rt; grants > 0, "{change:?} took no memory");
+                check(
+                    rt,
+                    grants > 0,
+                    format_args!("{} took no memory", change.name()),
+                );
                 return;
             }
             Err(done) => {
                 let count = held.saturating_add(done);
-                assert_eq!(rt; replica.len(), count, "{change:?} with {grants} requests");
+                check_equal(
+                    rt,
+                    replica.len(),
+                    count,
+                    format_args!("{} with {grants} requests", change.name()),
+                );
             }
         }
     }
-    panic!(rt; "{change:?} is refused at 200 requests");
+    panic!(rt; "{} is refused at 200 requests", change.name());
 }
 
 /// A call that writes.
-#[derive(Clone, Copy, Debug)]
+#[derive(Clone, Copy)]
 enum Writing {
     Catalogue,
     Page(u32),
     Delta,
     Save,
     Load,
+}
+
+impl Writing {
+    fn name(self) -> &'static str {
+        match self {
+            Writing::Catalogue => "catalogue",
+            Writing::Page(_) => "page",
+            Writing::Delta => "delta",
+            Writing::Save => "save",
+            Writing::Load => "load",
+        }
+    }
 }
 
 // Appends what the call writes, and says whether it did: of a delta what is beyond the replica's own clock, and of a state
@@ -206,20 +241,26 @@ fn writes<A: Allocator + Copy>(
         let is_written = write(alloc, replica, writing, wanted, &mut out);
         heap.arm(u64::MAX);
         if is_written {
-            assert!(rt; grants > 0, "{writing:?} took no memory");
-            assert_eq!(rt;
+            check(
+                rt,
+                grants > 0,
+                format_args!("{} took no memory", writing.name()),
+            );
+            check_equal(
+                rt,
                 out.as_slice(),
                 wanted,
-                "{writing:?} with {grants} requests"
+                format_args!("{} with {grants} requests", writing.name()),
             );
             return;
         }
-        assert!(rt;
+        check(
+            rt,
             out.is_empty(),
-            "{writing:?} with {grants} requests wrote {out:?}"
+            format_args!("{} with {grants} requests wrote {out:?}", writing.name()),
         );
     }
-    panic!(rt; "{writing:?} is refused at 200 requests");
+    panic!(rt; "{} is refused at 200 requests", writing.name());
 }
 
 /// A change of a case, where a delta is a hexadecimal text.
@@ -368,7 +409,7 @@ fn makes<A: Allocator + Copy>(
     let mut replica = new_replica(rt, alloc, author);
     for text in held {
         let taken = replica.take(&bytes(rt, text));
-        assert!(rt; taken.is_ok(), "{text}: {taken:?}");
+        check(rt, taken.is_ok(), format_args!("{text}: {taken:?}"));
     }
     for step in made {
         steps(rt, heap, alloc, &mut replica, *step, &other);
@@ -436,7 +477,7 @@ fn writes_text<A: Allocator + Copy>(
     for byte in text {
         lines = lines.saturating_add(u32::from(*byte == b'\n'));
     }
-    assert_eq!(rt; lines, 73, "lines");
+    check_equal(rt, lines, 73, "lines");
     let front = text.strip_suffix(SECOND_PAGE.as_bytes());
     let front = front.expect(rt, "another second page");
     writes(rt, heap, alloc, replica, Writing::Catalogue, text);
@@ -459,9 +500,9 @@ fn writes_pages<A: Allocator + Copy>(
     replica: &Replica<A>,
 ) {
     let mut text = Vec::new(alloc);
-    assert!(rt; replica.catalogue(&mut text).is_ok(), "no catalogue");
+    check(rt, replica.catalogue(&mut text).is_ok(), "no catalogue");
     writes_text(rt, heap, alloc, replica, &text);
-    assert_eq!(rt; replica.page(2, &mut text), Ok(false), "a third page");
+    check_equal(rt, replica.page(2, &mut text), Ok(false), "a third page");
 }
 
 // A replica takes 70 notes of author 3, each in spite of refusals, and writes its pages.
@@ -476,7 +517,7 @@ fn writes_notes<A: Allocator + Copy>(
         let note = note_of_3(rt, number);
         changes(rt, heap, alloc, &mut replica, Change::Take(&note), &other);
     }
-    assert_eq!(rt; replica.len(), 70, "notes");
+    check_equal(rt, replica.len(), 70, "notes");
     writes_pages(rt, heap, alloc, &replica);
 }
 
@@ -494,27 +535,30 @@ fn answers<A: Allocator + Copy>(
     code: Code,
     other: Code,
 ) {
-    assert_eq!(rt; value_of(replica, code, &[1, 2]), Ok(3), "0.77 at 1, 2");
-    assert_eq!(rt; value_of(replica, other, &[1]), Err(0), "0.07 at 1");
+    check_equal(rt, value_of(replica, code, &[1, 2]), Ok(3), "0.77 at 1, 2");
+    check_equal(rt, value_of(replica, other, &[1]), Err(0), "0.07 at 1");
     let outcome = outcome_of(replica, code, &[1, 2, 3]);
-    assert_eq!(rt; outcome, "next loses", "0.77 at 1, 2, 3");
-    assert_eq!(rt;
+    check_equal(rt, outcome, "next loses", "0.77 at 1, 2, 3");
+    check_equal(
+        rt,
         outcome_of(replica, other, &[]),
         "next loses",
-        "0.07 at none"
+        "0.07 at none",
     );
-    assert_eq!(rt;
+    check_equal(
+        rt,
         counts(replica, code),
         (5, 1),
-        "the known length and the comparisons"
+        "the known length and the comparisons",
     );
-    assert!(rt; replica.game(other).is_none(), "a game 0.07");
-    assert_eq!(rt;
+    check(rt, replica.game(other).is_none(), "a game 0.07");
+    check_equal(
+        rt,
         (replica.author(), replica.len()),
         (7, 1),
-        "author and operations"
+        "author and operations",
     );
-    assert!(rt; !replica.is_empty(), "it is empty");
+    check(rt, !replica.is_empty(), "it is empty");
 }
 
 const LAST_NUMBER: &str = "\
@@ -530,11 +574,15 @@ fn refuses<A: Allocator + Copy>(
 ) {
     match plain(replica.issue(Body::Note(note))) {
         Ok(_) => panic!(rt; "a note after the last number"),
-        Err(fault) => assert_eq!(rt; fault, IssueError::LastNumber),
+        Err(fault) => check_equal(rt, fault, IssueError::LastNumber, "the fault"),
     }
     for end in 0..delta.len() {
         let taken = replica.take(&delta[..end]);
-        assert!(rt; taken.is_err(), "the first {end} bytes of {delta:?}");
+        check(
+            rt,
+            taken.is_err(),
+            format_args!("the first {end} bytes of {delta:?}"),
+        );
     }
 }
 
@@ -548,14 +596,14 @@ fn answers_freely<A: Allocator + Copy>(
     let (first, last) = (bytes(rt, FIRST), bytes(rt, LAST_NUMBER));
     let note = Note::new(alloc, b"a", b"").ok().expect(rt, "a note");
     let mut replica = new_replica(rt, alloc, 7);
-    assert_eq!(rt; replica.take(&first), Ok(1), "{FIRST}");
+    check_equal(rt, replica.take(&first), Ok(1), FIRST);
     heap.arm(1_000);
     answers(rt, &replica, code, other);
-    assert_eq!(rt; heap.left(), 1_000, "requests left by the answers");
-    assert_eq!(rt; replica.take(&last), Ok(1), "{LAST_NUMBER}");
+    check_equal(rt, heap.left(), 1_000, "requests left by the answers");
+    check_equal(rt, replica.take(&last), Ok(1), LAST_NUMBER);
     heap.arm(1_000);
     refuses(rt, &mut replica, note, &first);
-    assert_eq!(rt; heap.left(), 1_000, "requests left by the refusals");
+    check_equal(rt, heap.left(), 1_000, "requests left by the refusals");
 }
 
 // Replicas are made and refused in the same way.
@@ -566,9 +614,9 @@ fn is_made_freely<A: Allocator + Copy>(
 ) {
     heap.arm(1_000);
     let replica = new_replica(rt, alloc, 1);
-    assert!(rt; replica.is_empty(), "a new replica");
-    assert!(rt; no_author_is_zero(alloc), "a replica of author 0");
-    assert_eq!(rt; heap.left(), 1_000, "requests left by new replicas");
+    check(rt, replica.is_empty(), "a new replica");
+    check(rt, no_author_is_zero(alloc), "a replica of author 0");
+    check_equal(rt, heap.left(), 1_000, "requests left by new replicas");
 }
 
 #[test]

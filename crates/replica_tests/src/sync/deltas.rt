@@ -1,6 +1,7 @@
 //! Deltas of several operations, of which the first ones stay where memory ends.
 
 use super::*;
+use crate::answers::{check, check_equal};
 use crate::texts::put;
 
 // What a replica shows that holds all the notes that come, and the first so many of them.
@@ -62,17 +63,20 @@ fn answers<A: Allocator + Copy>(
     let answer = session.feed(replica, &side.comes, &mut out);
     heap.arm(u64::MAX);
     let front = &side.sends[..out.len().min(side.sends.len())];
-    assert_eq!(rt;
+    check_equal(
+        rt,
         out.as_slice(),
         front,
-        "{} with {grants} requests",
-        side.name
+        format_args!("{} with {grants} requests", side.name),
     );
     let (sent, held) = (out.len(), replica.len());
-    assert!(rt;
+    check(
+        rt,
         is_kept(side, sent, held),
-        "{} sent {sent} bytes and holds {held} with {grants} requests",
-        side.name
+        format_args!(
+            "{} sent {sent} bytes and holds {held} with {grants} requests",
+            side.name
+        ),
     );
     shows(rt, alloc, replica, FIRST_SHOWN[held.min(3)], side.name);
     answer_name(answer)
@@ -92,8 +96,18 @@ fn keeps_the_first<A: Allocator + Copy>(
         let answer = answers(rt, heap, alloc, &mut replica, side, grants);
         parts[replica.len().min(3)] = true;
         if answer != Err(SyncError::OutOfMemory) {
-            assert_eq!(rt; answer, Ok("done"), "{} with {grants} requests", side.name);
-            assert_eq!(rt; parts, [true; 4], "{} held so many notes", side.name);
+            check_equal(
+                rt,
+                answer,
+                Ok("done"),
+                format_args!("{} with {grants} requests", side.name),
+            );
+            check_equal(
+                rt,
+                parts,
+                [true; 4],
+                format_args!("{} held so many notes", side.name),
+            );
             return;
         }
     }

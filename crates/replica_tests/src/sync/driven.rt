@@ -1,10 +1,10 @@
 //! Sessions over readers and writers: in memory, slow, failing, and over the loopback.
 
 use super::*;
+use crate::answers::{check, check_equal};
 use std::cmp::Ordering;
 use std::io::{self, ErrorKind, Read, Write};
 use std::net::{TcpListener, TcpStream};
-use std::test::Fail;
 
 // The answer of the session of a new replica of the side over the reader and the writer, and the replica after it.
 fn drives<R: Read, W: Write>(
@@ -15,7 +15,7 @@ fn drives<R: Read, W: Write>(
 ) -> (Result<(), SyncError>, Replica<Global>) {
     let mut replica = new_replica(rt, rt.alloc(), side.author);
     let taken = replica.take(&side.holds);
-    assert!(rt; taken.is_ok(), "{}: {taken:?}", side.name);
+    check(rt, taken.is_ok(), format_args!("{}: {taken:?}", side.name));
     let answer = drive(rt.alloc(), side.role, &mut replica, reader, writer);
     (answer, replica)
 }
@@ -165,19 +165,24 @@ fn is_answered(rt: &(impl Abort + AllocGlobal), side: &Side, number: u32) {
         answer: wanted,
     } = case_of(side, number);
     let (answer, replica) = drives(rt, side, &mut source, &mut sink);
-    assert_eq!(rt; answer, wanted, "{} in case {number}", side.name);
-    assert!(rt;
+    check_equal(
+        rt,
+        answer,
+        wanted,
+        format_args!("{} in case {number}", side.name),
+    );
+    check(
+        rt,
         sink.is_flushed || answer == Err(SyncError::Write),
-        "{} leaves bytes in the writer in case {number}",
-        side.name
+        format_args!("{} leaves bytes in the writer in case {number}", side.name),
     );
     if answer.is_ok() {
         let left = (source.bytes.len(), sink.expected.len());
-        assert_eq!(rt;
+        check_equal(
+            rt,
             left,
             (0, 0),
-            "bytes left in case {number} of {}",
-            side.name
+            format_args!("bytes left in case {number} of {}", side.name),
         );
         shows(rt, rt.alloc(), &replica, side.shows, side.name);
     }
@@ -189,10 +194,15 @@ fn keeps_what_came(rt: &(impl Abort + AllocGlobal), side: &Side) {
     let mut sink = sink_of(side);
     source.left = 4;
     let (answer, replica) = drives(rt, side, &mut source, &mut sink);
-    assert_eq!(rt; answer, Err(SyncError::Read), "{}", side.name);
+    check_equal(rt, answer, Err(SyncError::Read), side.name);
     shows(rt, rt.alloc(), &replica, side.shows, side.name);
     let sent = side.sends.len().saturating_sub(sink.expected.len());
-    assert_eq!(rt; sent, side.first, "bytes that {} sent", side.name);
+    check_equal(
+        rt,
+        sent,
+        side.first,
+        format_args!("bytes that {} sent", side.name),
+    );
 }
 
 // The side is answered `Write` where its writer fails to flush.
@@ -201,7 +211,7 @@ fn is_refused_unflushed(rt: &(impl Abort + AllocGlobal), side: &Side) {
     let mut sink = sink_of(side);
     sink.flushes = false;
     let (answer, _) = drives(rt, side, &mut source, &mut sink);
-    assert_eq!(rt; answer, Err(SyncError::Write), "{}", side.name);
+    check_equal(rt, answer, Err(SyncError::Write), side.name);
 }
 
 // The side, where the last of what it sends is left to the caller, is done, and has written all but that, which are so many
@@ -209,12 +219,22 @@ fn is_refused_unflushed(rt: &(impl Abort + AllocGlobal), side: &Side) {
 fn leaves_its_last_frame(rt: &(impl Abort + AllocGlobal), side: &Side, last: usize) {
     let mut replica = new_replica(rt, rt.alloc(), side.author);
     let taken = replica.take(&side.holds);
-    assert!(rt; taken.is_ok(), "{}: {taken:?}", side.name);
+    check(rt, taken.is_ok(), format_args!("{}: {taken:?}", side.name));
     let (mut source, mut sink) = (source_of(side), sink_of(side));
     let answer = converse(rt.alloc(), side.role, &mut replica, &mut source, &mut sink);
     let owed = answer.expect(rt, side.name);
-    assert_eq!(rt; owed.as_slice(), sink.expected, "{} owes", side.name);
-    assert_eq!(rt; owed.len(), last, "bytes that {} owes", side.name);
+    check_equal(
+        rt,
+        owed.as_slice(),
+        sink.expected,
+        format_args!("{} owes", side.name),
+    );
+    check_equal(
+        rt,
+        owed.len(),
+        last,
+        format_args!("bytes that {} owes", side.name),
+    );
     shows(rt, rt.alloc(), &replica, side.shows, side.name);
 }
 
@@ -249,7 +269,7 @@ fn drives_short<A: Allocator + Copy>(
     let (source, sink) = devices;
     let mut replica = new_replica(rt, alloc, side.author);
     let taken = replica.take(&side.holds);
-    assert!(rt; taken.is_ok(), "{}: {taken:?}", side.name);
+    check(rt, taken.is_ok(), format_args!("{}: {taken:?}", side.name));
     heap.arm(grants);
     let answer = drive(alloc, side.role, &mut replica, source, sink);
     heap.arm(u64::MAX);
@@ -286,23 +306,26 @@ fn keeps_its_promise<A: Allocator + Copy>(
         let (mut source, mut sink) = (source_of(side), sink_of(side));
         let devices = (&mut source, &mut sink);
         let (answer, held) = drives_short(rt, heap, alloc, grants, side, devices);
-        assert!(rt;
+        check(
+            rt,
             sink.is_right,
-            "{} wrote other bytes with {grants} requests",
-            side.name
+            format_args!("{} wrote other bytes with {grants} requests", side.name),
         );
         let read = side.comes.len().saturating_sub(source.bytes.len());
         let written = side.sends.len().saturating_sub(sink.expected.len());
         if answer == Ok(()) {
-            assert!(rt; grants > 0, "{} took no memory", side.name);
-            assert_eq!(rt; (written, held), (side.sends.len(), 2), "{}", side.name);
+            check(rt, grants > 0, format_args!("{} took no memory", side.name));
+            check_equal(rt, (written, held), (side.sends.len(), 2), side.name);
             return;
         }
-        assert_eq!(rt; answer, Err(SyncError::OutOfMemory), "{}", side.name);
-        assert!(rt;
+        check_equal(rt, answer, Err(SyncError::OutOfMemory), side.name);
+        check(
+            rt,
             is_cut_short(side, read, written, held),
-            "{} read {read} bytes, wrote {written} and holds {held} with {grants} requests",
-            side.name
+            format_args!(
+                "{} read {read} bytes, wrote {written} and holds {held} with {grants} requests",
+                side.name
+            ),
         );
     }
     panic!(rt; "{} is refused at 200 requests", side.name);
@@ -343,8 +366,8 @@ fn too_many_reads_are_refused(rt: HostRuntime) {
     let mut reader = Trickle { given: 0 };
     let mut sink = sink_of(&side);
     let (answer, _) = drives(&rt, &side, &mut reader, &mut sink);
-    assert_eq!(rt; answer, Err(SyncError::Turns));
-    assert_eq!(rt; reader.given, u64::from(MAX_READS), "reads");
+    check_equal(&rt, answer, Err(SyncError::Turns), "the answer");
+    check_equal(&rt, reader.given, u64::from(MAX_READS), "reads");
 }
 
 /// The two ends of a connection.
@@ -363,31 +386,30 @@ fn connect(rt: &HostRuntime) -> io::Result<Ends> {
 }
 
 // The side, driven over the near end, takes what comes from the far one, where all that it sends is read.
-fn is_driven_between(
-    rt: &(impl Abort + AllocGlobal),
-    ends: &Ends,
-    side: &Side,
-) -> Result<(), Fail> {
+fn is_driven_between(rt: &(impl Abort + AllocGlobal), ends: &Ends, side: &Side) {
     let mut far = &ends.far;
     let mut reader = &ends.near;
     let mut writer = &ends.near;
-    far.write_all(&side.comes)?;
+    check(rt, far.write_all(&side.comes).is_ok(), "nothing comes");
     let (answer, replica) = drives(rt, side, &mut reader, &mut writer);
-    assert_eq!(rt; answer, Ok(()), "{}", side.name);
+    check_equal(rt, answer, Ok(()), side.name);
     shows(rt, rt.alloc(), &replica, side.shows, side.name);
     let mut came = [0; 128];
     let came = &mut came[..side.sends.len().min(128)];
-    far.read_exact(came)?;
-    assert_eq!(rt; &*came, side.sends.as_slice(), "{} sends", side.name);
-    Ok(())
+    check(rt, far.read_exact(came).is_ok(), "nothing goes");
+    check_equal(
+        rt,
+        &*came,
+        side.sends.as_slice(),
+        format_args!("{} sends", side.name),
+    );
 }
 
 // Both sides over one connection.
 #[test]
-fn sides_are_driven_over_the_loopback(rt: HostRuntime) -> Result<(), Fail> {
-    let ends = connect(&rt)?;
+fn sides_are_driven_over_the_loopback(rt: HostRuntime) {
+    let ends = connect(&rt).ok().expect(&rt, "a connection");
     for role in [Role::Client, Role::ClientOfAll, Role::Server] {
-        is_driven_between(&rt, &ends, &Side::of(&rt, role))?;
+        is_driven_between(&rt, &ends, &Side::of(&rt, role));
     }
-    Ok(())
 }

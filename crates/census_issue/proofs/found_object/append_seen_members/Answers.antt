@@ -1,6 +1,6 @@
 use Rattle.std.proofs.Common.{◌++◌, ap, codes, ◌∙◌}
 use Rattle.std.proofs.lemmas.Result.{on_ok_weaker}
-use Rattle.oct_text.proofs.Growing.{grown_thrice}
+use Rattle.oct_ops.proofs.Growing.{grown_thrice}
 use Rattle.oct_text.specs.Words.{labelled}
 use Rattle.census_issue.proofs.found_object.append_seen_members.Goals as goal
 

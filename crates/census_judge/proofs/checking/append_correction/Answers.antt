@@ -1,5 +1,5 @@
 use Rattle.std.proofs.lemmas.Result.{on_ok_weaker}
-use Rattle.oct_text.proofs.Growing.{grown_twice}
+use Rattle.oct_ops.proofs.Growing.{grown_twice}
 use Rattle.census_judge.proofs.checking.append_correction.Goals as goal
 
 pub returns : goal.returns

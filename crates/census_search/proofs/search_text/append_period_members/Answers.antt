@@ -1,6 +1,6 @@
 use Rattle.std.proofs.Common.{◌++◌, ap, codes, ◌∙◌}
 use Rattle.std.proofs.lemmas.Result.{on_ok_weaker}
-use Rattle.oct_text.proofs.Growing.{grown_thrice}
+use Rattle.oct_ops.proofs.Growing.{grown_thrice}
 use Rattle.oct_text.specs.Words.{labelled}
 use Rattle.census_search.proofs.search_text.append_period_members.Goals as goal
 

@@ -1,5 +1,5 @@
 use Rattle.std.proofs.lemmas.Result.{on_ok_weaker}
-use Rattle.oct_text.proofs.Growing.{grown_twice}
+use Rattle.oct_ops.proofs.Growing.{grown_twice}
 use Rattle.census_search.proofs.sought_text.append_members.Goals as goal
 
 pub returns-in_ok-append_period_members-in-Least : goal.returns-in_ok-append_period_members-in-Least

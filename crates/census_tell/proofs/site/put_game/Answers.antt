@@ -16,4 +16,4 @@ returns-clause-rows g c =
 pub returns-clause-put : goal.returns-clause-put
 returns-clause-put g c =
     let is = c.in_ok-sheet.ensures ∙ sheet_by-is c.args.held.now.ops c.args.code c.in_ok-game.game c.args.ops.now c.in_ok-game.ensures c.requires in
-    on_ok_weaker c.put_sheet.result (λ e. subst (λ s. Filled g.S.Shelf.puts c.args.shelf.now (files_of (map (λ op. op.now) c.args.names.now) s) c.put_sheet.new.shelf) is e) c.put_sheet.ensures
+    on_ok_weaker c.put_sheet.result (λ e. subst (λ s. Filled g.S.Folder.puts c.args.folder.now (files_of (map (λ op. op.now) c.args.names.now) s) c.put_sheet.new.folder) is e) c.put_sheet.ensures

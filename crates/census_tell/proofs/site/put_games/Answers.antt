@@ -23,7 +23,7 @@ loop-code-init g c =
     let files = λ (e : Code × Operations). files_of names (game_sheet (listed ops) e.0) in
     record {
       rows = ap (λ t. c.args.rows.now.items ++ t) (ap (map row) all ∙ each_value ops games ordered c.games-games.ensures summary_of);
-      put = filling_begins g.S.Shelf.puts c.args.shelf.now _ _ (ap (flat_map files) all ∙ each_text ops games ordered c.games-games.ensures (files_of names));
+      put = filling_begins g.S.Folder.puts c.args.folder.now _ _ (ap (flat_map files) all ∙ each_text ops games ordered c.games-games.ensures (files_of names));
       held = subst (AreHeld ops) (sym all) (all_held ops games ordered c.games-games.ensures);
     }
 
@@ -38,8 +38,8 @@ loop-code-preserved g c =
     record {
       rows = one_pushed row here c.next.new.self c.loop-code.rows.items c.put_game.new.rows.items _ c.in_ok-put_game.ensures.rows
           (ap (λ es. c.loop-code.rows.items ++ map row es) (sym c.in-Some.ensures.steps) ∙ c.loop-code.invariant.rows);
-      put = filling_more g.S.Shelf.puts c.args.shelf.now c.loop-code.shelf c.put_game.new.shelf (files here) (flat_map files c.next.new.self) all
-          (subst (λ es. Filling g.S.Shelf.puts c.args.shelf.now c.loop-code.shelf (flat_map files es) all) c.in-Some.ensures.steps c.loop-code.invariant.put) c.in_ok-put_game.ensures.put;
+      put = filling_more g.S.Folder.puts c.args.folder.now c.loop-code.folder c.put_game.new.folder (files here) (flat_map files c.next.new.self) all
+          (subst (λ es. Filling g.S.Folder.puts c.args.folder.now c.loop-code.folder (flat_map files es) all) c.in-Some.ensures.steps c.loop-code.invariant.put) c.in_ok-put_game.ensures.put;
       held = rest_held ops _ _ _ _ c.in-Some.ensures.steps c.loop-code.invariant.held;
     }
 
@@ -49,5 +49,5 @@ returns-clause-put g c =
     let names = map (λ op. op.now) c.args.names.now in
     let files = λ (e : Code × Operations). files_of names (game_sheet (listed ops) e.0) in
     let all = flat_map (files_of names) (map (game_sheet (listed ops)) (games (listed ops))) in
-    filling_ends g.S.Shelf.puts c.args.shelf.now c.loop-code.shelf all
-    (subst (λ es. Filling g.S.Shelf.puts c.args.shelf.now c.loop-code.shelf (flat_map files es) all) c.in-None.ensures.steps.0 c.loop-code.invariant.put)
+    filling_ends g.S.Folder.puts c.args.folder.now c.loop-code.folder all
+    (subst (λ es. Filling g.S.Folder.puts c.args.folder.now c.loop-code.folder (flat_map files es) all) c.in-None.ensures.steps.0 c.loop-code.invariant.put)

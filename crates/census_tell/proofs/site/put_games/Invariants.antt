@@ -14,7 +14,7 @@ abbrev pub invariant-loop-code : goal.invariant-loop-code
 invariant-loop-code g l = record {
   rows : l.rows.items ++ map (λ (e : Code × Operations). summary_of (game_sheet (listed l.fn.held.ops) e.0)) l.code-iterator
       ≡ l.fn.rows.items ++ map summary_of (map (game_sheet (listed l.fn.held.ops)) (games (listed l.fn.held.ops)));
-  put : Filling g.S.Shelf.puts l.fn.shelf l.shelf (flat_map (λ (e : Code × Operations). files_of (map (λ op. op.now) l.fn.names) (game_sheet (listed l.fn.held.ops) e.0)) l.code-iterator)
+  put : Filling g.S.Folder.puts l.fn.folder l.folder (flat_map (λ (e : Code × Operations). files_of (map (λ op. op.now) l.fn.names) (game_sheet (listed l.fn.held.ops) e.0)) l.code-iterator)
       (flat_map (files_of (map (λ op. op.now) l.fn.names)) (map (game_sheet (listed l.fn.held.ops)) (games (listed l.fn.held.ops))));
   held : AreHeld l.fn.held.ops l.code-iterator;
 }

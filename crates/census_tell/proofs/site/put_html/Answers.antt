@@ -10,4 +10,4 @@ returns g c =
     let game = game_content c.args.game.now in
     let names = map (λ op. op.now) c.args.names.now in
     let bytes = c.deref.ensures.value ∙ c.in_ok-write_game_html.ensures.ok ∙ ap (λ t. t ++ game_html names game) c.new-bytes.ensures.items in
-    on_ok_weaker c.put_named.result (λ e. subst (λ b. g.S.Shelf.puts c.args.shelf.now (html_of names game).name b c.put_named.new.shelf) bytes e) c.put_named.ensures
+    on_ok_weaker c.put_named.result (λ e. subst (λ b. g.S.Folder.puts c.args.folder.now (html_of names game).name b c.put_named.new.folder) bytes e) c.put_named.ensures

@@ -9,4 +9,4 @@ pub returns : goal.returns
 returns g c =
     let game = game_content c.args.game.now in
     let bytes = c.deref.ensures.value ∙ c.in_ok-write_plot.ensures.ok ∙ ap (λ t. t ++ plot game.code game.values game.proved) c.new-bytes.ensures.items in
-    on_ok_weaker c.put_named.result (λ e. subst (λ b. g.S.Shelf.puts c.args.shelf.now (picture_of game).name b c.put_named.new.shelf) bytes e) c.put_named.ensures
+    on_ok_weaker c.put_named.result (λ e. subst (λ b. g.S.Folder.puts c.args.folder.now (picture_of game).name b c.put_named.new.folder) bytes e) c.put_named.ensures

@@ -13,7 +13,7 @@ use Rattle.census_tell.proofs.site.put_site.Goals as goal
 pub returns : goal.returns
 returns g c =
     let all = sheet (listed c.args.held.now.ops) in
-    let puts = g.S.Shelf.puts in
+    let puts = g.S.Folder.puts in
     let called = ap (map (λ op. op.now)) c.deref.ensures.value ∙ c.in_ok-names.ensures in
     let rows = c.deref-2.ensures.value ∙ c.in_ok-put_games.ensures.rows ∙ ap (λ t. t ++ map summary_of all.games) c.new-rows.ensures.items in
     on_ok_weaker c.put_index.result
@@ -21,11 +21,11 @@ returns g c =
       c.put.new.self,
       c.in_ok-put.ensures,
       (
-        c.put_style.new.shelf,
+        c.put_style.new.folder,
         c.in_ok-put_style.ensures,
-        filled_then puts c.put_style.new.shelf c.put_games.new.shelf c.put_index.new.shelf (flat_map (files_of all.names) all.games) (index_of all ∷ [])
-            (subst (λ names. Filled puts c.put_style.new.shelf (flat_map (files_of names) all.games) c.put_games.new.shelf) called c.in_ok-put_games.ensures.put)
-            (c.put_index.new.shelf, subst (λ r. puts c.put_games.new.shelf (codes "index.html") (index_by r all) c.put_index.new.shelf) rows e, refl),
+        filled_then puts c.put_style.new.folder c.put_games.new.folder c.put_index.new.folder (flat_map (files_of all.names) all.games) (index_of all ∷ [])
+            (subst (λ names. Filled puts c.put_style.new.folder (flat_map (files_of names) all.games) c.put_games.new.folder) called c.in_ok-put_games.ensures.put)
+            (c.put_index.new.folder, subst (λ r. puts c.put_games.new.folder (codes "index.html") (index_by r all) c.put_index.new.folder) rows e, refl),
       ),
     ))
     c.put_index.ensures

@@ -1,5 +1,5 @@
 use Rattle.std.proofs.Common.{◌≡◌, ◌++◌, drop}
-use Rattle.oct_text.specs.Growth.{Extends}
+use Rattle.oct_ops.specs.Growth.{Extends}
 use Rattle.oct_bfile.specs.Bfile.{bfile_text, rows_text}
 use Rattle.oct_bfile.proofs.bfile.append_rows.Given as goal
 

@@ -4,6 +4,3 @@ use Rattle.oct_delta.proofs.clock.put_entries.Goals as goal
 
 pub returns-clause-ok : goal.returns-clause-ok
 returns-clause-ok g c = grind (arith, common_steps)
-
-pub returns-clause-kept : goal.returns-clause-kept
-returns-clause-kept g c = grind (arith, common_steps)

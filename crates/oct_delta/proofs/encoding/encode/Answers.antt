@@ -2,7 +2,8 @@ use Rattle.std.proofs.Common.{◌≡◌, ◌++◌, List, Err, OnOk, IsErrOf, len
 use Rattle.oct_ops.specs.Body.{Operation}
 use Rattle.oct_delta.specs.declared.error.EncodeError.TheVariants.{TooMany, OutOfMemory}
 use Rattle.oct_delta.specs.Delta.{encoded}
-use Rattle.oct_delta.proofs.Written.{cut_back, written}
+use Rattle.oct_ops.proofs.Growing.{cut_back}
+use Rattle.oct_delta.proofs.Written.{written}
 use Rattle.oct_delta.proofs.encoding.encode.Goals as goal
 
 other_error : {T : Type 0} → IsErrOf {T = T} (Err OutOfMemory) TooMany → ⊥
@@ -28,7 +29,7 @@ returns-then-is_err-clause-too_many g c = (λ e. absurd (other_error e), λ le. 
 
 pub returns-then-is_err-clause-err : goal.returns-then-is_err-clause-err
 returns-then-is_err-clause-err g c =
-    cut_back c.args.out.now.items c.put_delta.new.out.items c.truncate.new.self.items c.len-length.result c.put_delta.ensures.kept c.truncate.ensures.items (omega (arith, c.len-length.ensures, c.args.out.now.ok))
+    cut_back c.len-length.result c.args.out.now.items c.put_delta.new.out.items c.truncate.new.self.items (omega (arith, c.len-length.ensures, c.args.out.now.ok)) c.put_delta.ensures.kept c.truncate.ensures.items
 
 pub returns-clause-ok : goal.returns-clause-ok
 returns-clause-ok g c =

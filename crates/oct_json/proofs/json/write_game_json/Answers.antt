@@ -1,6 +1,6 @@
 use Rattle.std.proofs.Common.{◌++◌, ap, ◌∙◌}
 use Rattle.std.specs.Prelude.{is_ok, if◌then◌else◌}
-use Rattle.oct_text.proofs.Growing.{extended}
+use Rattle.oct_ops.proofs.Growing.{extended}
 use Rattle.oct_pages.specs.Contents.{game_content}
 use Rattle.oct_json.specs.Json.{game_data}
 use Rattle.oct_json.proofs.Floats.{game_float}

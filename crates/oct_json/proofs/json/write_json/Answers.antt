@@ -1,7 +1,7 @@
 use Rattle.std.proofs.Common.{◌++◌, ap, ◌∙◌}
 use Rattle.std.specs.Prelude.{is_ok, if◌then◌else◌}
 use Rattle.oct_ops.specs.Operations.{listed}
-use Rattle.oct_text.proofs.Growing.{extended}
+use Rattle.oct_ops.proofs.Growing.{extended}
 use Rattle.oct_json.specs.Json.{document}
 use Rattle.oct_sheet.specs.Sheet.{sheet}
 use Rattle.oct_json.proofs.Floats.{document_float}

@@ -1,5 +1,5 @@
 use Rattle.std.proofs.Common.{map}
-use Rattle.oct_text.proofs.Growing.{extends_by, extends_trans, grown_each}
+use Rattle.oct_ops.proofs.Growing.{grown_each}
 use Rattle.oct_ops.specs.Operations.{listed}
 use Rattle.oct_pages.specs.Sheet.{game_sheet}
 use Rattle.oct_overview.specs.Overview.{told}
@@ -9,9 +9,3 @@ pub loop-code-preserved : goal.loop-code-preserved
 loop-code-preserved g c =
     grown_each (λ x. told c.args.what c.args.form (map (λ op. op.now) c.args.names.now) (game_sheet (listed c.args.said.now.ops) x)) c.args.codes.now c.loop-code.code-index _ c.code-item.result c.args.out.now.items c.loop-code.out.items c.append_game.new.out.items
     c.loop-code-test.true c.code-item.is c.loop-code.invariant c.in_ok-append_game.ensures.ok
-
-pub returns-in_err-append_game-clause-grown : goal.returns-in_err-append_game-clause-grown
-returns-in_err-append_game-clause-grown g c = extends_trans _ _ _ (extends_by _ _ _ c.loop-code.invariant) c.append_game.ensures.grown
-
-pub returns-clause-grown : goal.returns-clause-grown
-returns-clause-grown g c = extends_by _ _ _ c.loop-code.invariant

@@ -1,5 +1,5 @@
 use Rattle.std.proofs.Common.{map}
-use Rattle.oct_text.proofs.Growing.{extends_by, extends_trans, grown_each}
+use Rattle.oct_ops.proofs.Growing.{grown_each}
 use Rattle.oct_overview.specs.Overview.{block_refutation}
 use Rattle.oct_overview.proofs.overview.append_wrong_blocks.Goals as goal
 
@@ -7,9 +7,3 @@ pub loop-row-preserved : goal.loop-row-preserved
 loop-row-preserved g c =
     grown_each (block_refutation c.args.form (map (λ op. op.now) c.args.names.now) c.args.code) c.args.rows.now c.loop-row.row-index _ c.row-item.result c.args.out.now.items c.loop-row.out.items c.append_block_refutation.new.out.items
     c.loop-row-test.true c.row-item.is c.loop-row.invariant c.in_ok-append_block_refutation.ensures.ok
-
-pub returns-in_err-append_block_refutation-clause-grown : goal.returns-in_err-append_block_refutation-clause-grown
-returns-in_err-append_block_refutation-clause-grown g c = extends_trans _ _ _ (extends_by _ _ _ c.loop-row.invariant) c.append_block_refutation.ensures.grown
-
-pub returns-clause-grown : goal.returns-clause-grown
-returns-clause-grown g c = extends_by _ _ _ c.loop-row.invariant

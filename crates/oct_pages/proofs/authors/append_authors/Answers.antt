@@ -6,11 +6,7 @@ use Rattle.oct_store.specs.Summary.{through, last, authors}
 use Rattle.oct_store.specs.declared.author.Author.{Author}
 use Rattle.oct_pages.specs.Catalogue.{author_text}
 use Rattle.oct_pages.specs.Pager.{AreShown}
-use Rattle.oct_pages.proofs.Growing.{extends_same}
 use Rattle.oct_pages.proofs.authors.append_authors.Goals as goal
-
-pub returns-in_err-authors-clause-grown : goal.returns-in_err-authors-clause-grown
-returns-in_err-authors-clause-grown g c = extends_same c.args.out.now.items
 
 pub returns-clause-ok : goal.returns-clause-ok
 returns-clause-ok g c =

@@ -6,11 +6,7 @@ use Rattle.oct_store.specs.Summary.{contents, forks}
 use Rattle.oct_store.specs.declared.fork.Fork.{Fork}
 use Rattle.oct_pages.specs.Catalogue.{fork_text}
 use Rattle.oct_pages.specs.Pager.{AreShown}
-use Rattle.oct_pages.proofs.Growing.{extends_same}
 use Rattle.oct_pages.proofs.authors.append_forks.Goals as goal
-
-pub returns-in_err-forks-clause-grown : goal.returns-in_err-forks-clause-grown
-returns-in_err-forks-clause-grown g c = extends_same c.args.out.now.items
 
 pub returns-clause-ok : goal.returns-clause-ok
 returns-clause-ok g c =

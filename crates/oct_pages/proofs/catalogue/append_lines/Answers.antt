@@ -5,16 +5,9 @@ use Rattle.oct_ops.specs.Operations.{listed}
 use Rattle.oct_pages.specs.Catalogue.{game_lines, games, heading}
 use Rattle.oct_pages.specs.Rest.{lines_after_games}
 use Rattle.oct_pages.specs.Pager.{AreShown}
-use Rattle.oct_pages.proofs.Growing.{extends_trans}
 use Rattle.oct_pages.proofs.RestLines.{lines_split}
 use Rattle.oct_pages.proofs.Pagers.{shown_then}
 use Rattle.oct_pages.proofs.catalogue.append_lines.Goals as goal
-
-pub returns-in_err-show-clause-grown : goal.returns-in_err-show-clause-grown
-returns-in_err-show-clause-grown g c = c.show.ensures.grown
-
-pub returns-in_err-append_games-clause-grown : goal.returns-in_err-append_games-clause-grown
-returns-in_err-append_games-clause-grown g c = extends_trans _ _ _ c.show.ensures.grown c.append_games.ensures.grown
 
 pub returns-clause-ok : goal.returns-clause-ok
 returns-clause-ok g c =
@@ -25,6 +18,3 @@ returns-clause-ok g c =
     (shown_then _ _ _ _ _ _ (heading ∷ all_games) (lines_after_games ops)
     (shown_then _ _ _ _ _ _ (heading ∷ []) all_games c.in_ok-show.ensures.ok c.in_ok-append_games.ensures.ok)
     (subst (AreShown _ _ _ _) (ap (λ store. lines_after_games (listed store)) c.store.ensures) last))) c.append_rest.ensures.ok
-
-pub returns-clause-grown : goal.returns-clause-grown
-returns-clause-grown g c = extends_trans _ _ _ c.show.ensures.grown (extends_trans _ _ _ c.append_games.ensures.grown c.append_rest.ensures.grown)

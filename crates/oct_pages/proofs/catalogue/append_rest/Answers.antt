@@ -6,18 +6,8 @@ use Rattle.oct_ops.specs.Operations.{listed}
 use Rattle.oct_store.specs.Summary as summary
 use Rattle.oct_pages.specs.Catalogue.{author_line, ending, fork_line, note_line}
 use Rattle.oct_pages.specs.Pager.{AreShown}
-use Rattle.oct_pages.proofs.Growing.{extends_trans}
 use Rattle.oct_pages.proofs.Pagers.{shown_then}
 use Rattle.oct_pages.proofs.catalogue.append_rest.Goals as goal
-
-pub returns-in_err-append_notes-clause-grown : goal.returns-in_err-append_notes-clause-grown
-returns-in_err-append_notes-clause-grown g c = c.append_notes.ensures.grown
-
-pub returns-in_err-append_forks-clause-grown : goal.returns-in_err-append_forks-clause-grown
-returns-in_err-append_forks-clause-grown g c = extends_trans _ _ _ c.append_notes.ensures.grown c.append_forks.ensures.grown
-
-pub returns-in_err-append_authors-clause-grown : goal.returns-in_err-append_authors-clause-grown
-returns-in_err-append_authors-clause-grown g c = extends_trans _ _ _ c.append_notes.ensures.grown (extends_trans _ _ _ c.append_forks.ensures.grown c.append_authors.ensures.grown)
 
 pub returns-clause-ok : goal.returns-clause-ok
 returns-clause-ok g c =
@@ -32,7 +22,3 @@ returns-clause-ok g c =
     (shown_then _ _ _ _ _ _ (notes ++ all_forks) all_authors
     (shown_then _ _ _ _ _ _ notes all_forks
     (subst (AreShown _ _ _ _) same c.in_ok-append_notes.ensures.ok) c.in_ok-append_forks.ensures.ok) c.in_ok-append_authors.ensures.ok) last) c.show.ensures.ok
-
-pub returns-clause-grown : goal.returns-clause-grown
-returns-clause-grown g c =
-    extends_trans _ _ _ c.append_notes.ensures.grown (extends_trans _ _ _ c.append_forks.ensures.grown (extends_trans _ _ _ c.append_authors.ensures.grown c.show.ensures.grown))

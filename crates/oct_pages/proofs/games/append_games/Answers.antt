@@ -4,7 +4,7 @@ use Rattle.oct_ops.specs.Operations.{listed}
 use Rattle.oct_pages.specs.Catalogue.{game_lines}
 use Rattle.oct_pages.proofs.BuiltGames.{AreHeld, all_held, codes_are, rest_held}
 use Rattle.oct_pages.proofs.GameParts.{entries_games, entries_lines}
-use Rattle.oct_pages.proofs.Growing.{extends_same, extends_trans}
+use Rattle.oct_ops.proofs.Growing.{extends_same, extends_trans}
 use Rattle.oct_pages.proofs.Pagers.{showing, showing_next}
 use Rattle.oct_pages.proofs.games.append_games.Goals as goal
 
@@ -30,9 +30,3 @@ loop-code-preserved g c =
       each = rest_held ops _ _ _ _ c.in-Some.ensures.steps c.loop-code.invariant.each;
       grown = extends_trans _ _ _ c.loop-code.invariant.grown c.in_ok-append_game.ensures.grown;
     }
-
-pub returns-in_err-append_game-clause-grown : goal.returns-in_err-append_game-clause-grown
-returns-in_err-append_game-clause-grown g c = extends_trans _ _ _ c.loop-code.invariant.grown c.in_err-append_game.ensures.grown
-
-pub returns-clause-grown : goal.returns-clause-grown
-returns-clause-grown g c = c.loop-code.invariant.grown

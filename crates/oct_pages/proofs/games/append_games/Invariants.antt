@@ -1,7 +1,7 @@
 use Rattle.std.specs.List.{flat_map}
 use Rattle.oct_ops.specs.Operations.{listed}
 use Rattle.oct_pages.specs.Catalogue.{game_lines, games}
-use Rattle.oct_pages.specs.Growth.{Extends}
+use Rattle.oct_ops.specs.Growth.{Extends}
 use Rattle.oct_pages.proofs.BuiltGames.{AreHeld}
 use Rattle.oct_pages.proofs.GameParts.{entries_lines}
 use Rattle.oct_pages.proofs.Pagers.{Showing}

@@ -3,19 +3,8 @@ use Rattle.std.proofs.lemmas.Result.{on_ok_weaker}
 use Rattle.oct_pages.specs.Catalogue.{game_text, values_lines}
 use Rattle.oct_pages.specs.Sheet.{block_row_text, period_row_text}
 use Rattle.oct_pages.specs.Pager.{AreShown}
-use Rattle.oct_pages.proofs.Growing.{extends_trans}
 use Rattle.oct_pages.proofs.Pagers.{shown_then}
 use Rattle.oct_pages.proofs.games.append_sheet.Goals as goal
-
-pub returns-in_err-show-clause-grown : goal.returns-in_err-show-clause-grown
-returns-in_err-show-clause-grown g c = c.show.ensures.grown
-
-pub returns-in_err-append_values-clause-grown : goal.returns-in_err-append_values-clause-grown
-returns-in_err-append_values-clause-grown g c = extends_trans _ _ _ c.show.ensures.grown c.append_values.ensures.grown
-
-pub returns-in_err-show_each-clause-grown : goal.returns-in_err-show_each-clause-grown
-returns-in_err-show_each-clause-grown g c =
-    extends_trans _ _ _ c.show.ensures.grown (extends_trans _ _ _ c.append_values.ensures.grown c.show_each.ensures.grown)
 
 pub returns-clause-ok : goal.returns-clause-ok
 returns-clause-ok g c =
@@ -31,7 +20,3 @@ returns-clause-ok g c =
     (shown_then _ _ _ _ _ _ (head ∷ values) blocks
     (shown_then _ _ _ _ _ _ (head ∷ []) values c.in_ok-show.ensures.ok c.in_ok-append_values.ensures.ok)
     c.in_ok-show_each.ensures.ok) last)) c.show_each-2.ensures.ok
-
-pub returns-clause-grown : goal.returns-clause-grown
-returns-clause-grown g c =
-    extends_trans _ _ _ c.show.ensures.grown (extends_trans _ _ _ c.append_values.ensures.grown (extends_trans _ _ _ c.show_each.ensures.grown c.show_each-2.ensures.grown))

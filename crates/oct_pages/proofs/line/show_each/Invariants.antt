@@ -1,5 +1,5 @@
 use Rattle.std.proofs.Common.{map, drop}
-use Rattle.oct_pages.specs.Growth.{Extends}
+use Rattle.oct_ops.specs.Growth.{Extends}
 use Rattle.oct_pages.proofs.Pagers.{Showing}
 use Rattle.oct_pages.proofs.line.show_each.Given as goal
 

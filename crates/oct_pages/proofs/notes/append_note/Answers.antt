@@ -2,18 +2,8 @@ use Rattle.std.proofs.Common.{◌++◌, ◌∙◌}
 use Rattle.std.specs.Prelude.{codes}
 use Rattle.std.proofs.lemmas.Result.{on_ok_weaker}
 use Rattle.oct_pages.specs.Catalogue.{dot_text}
-use Rattle.oct_pages.proofs.Growing.{extends_trans, grown_four_times, regrouped}
+use Rattle.oct_ops.proofs.Growing.{grown_four_times, regrouped}
 use Rattle.oct_pages.proofs.notes.append_note.Goals as goal
-
-pub returns-in_err-append_labelled_text-clause-grown : goal.returns-in_err-append_labelled_text-clause-grown
-returns-in_err-append_labelled_text-clause-grown g c = c.append_labelled_text.ensures.grown
-
-pub returns-in_err-append_labelled_dot-clause-grown : goal.returns-in_err-append_labelled_dot-clause-grown
-returns-in_err-append_labelled_dot-clause-grown g c = extends_trans _ _ _ c.append_labelled_text.ensures.grown c.append_labelled_dot.ensures.grown
-
-pub returns-in_err-append_labelled_text-2-clause-grown : goal.returns-in_err-append_labelled_text-2-clause-grown
-returns-in_err-append_labelled_text-2-clause-grown g c =
-    extends_trans _ _ _ c.append_labelled_text.ensures.grown (extends_trans _ _ _ c.append_labelled_dot.ensures.grown c.append_labelled_text-2.ensures.grown)
 
 pub returns-clause-ok : goal.returns-clause-ok
 returns-clause-ok g c =
@@ -22,7 +12,3 @@ returns-clause-ok g c =
     grown_four_times c.args.out.now.items _ _ _ _ _ _ _ _ c.in_ok-append_labelled_text.ensures.ok c.in_ok-append_labelled_dot.ensures.ok c.in_ok-append_labelled_text-2.ensures.ok last
     ∙ (λ i. c.args.out.now.items ++ (codes "note " ++ c.name.ensures.value i ++ (codes " " ++ dot) ++ (codes " " ++ c.text.ensures.value i) ++ codes "\n"))
     ∙ (λ i. c.args.out.now.items ++ (regrouped (codes "note " ++ c.args.note.now.name) (codes " ") dot (codes " ") c.args.note.now.text i ++ codes "\n"))) c.append_text.ensures.ok
-
-pub returns-clause-grown : goal.returns-clause-grown
-returns-clause-grown g c =
-    extends_trans _ _ _ c.append_labelled_text.ensures.grown (extends_trans _ _ _ c.append_labelled_dot.ensures.grown (extends_trans _ _ _ c.append_labelled_text-2.ensures.grown c.append_text.ensures.grown))

@@ -2,7 +2,7 @@ use Rattle.std.proofs.Common.{arith, ◌≡◌, suc, ◌+◌, ◌-◌, [], ◌�
 use Rattle.std.specs.Int.{div_ceil}
 use Rattle.std.specs.List.{range_with_len}
 use Rattle.oct_pages.specs.Catalogue.{values_line, values_lines, values_per_line}
-use Rattle.oct_pages.proofs.Growing.{extends_same, extends_trans}
+use Rattle.oct_ops.proofs.Growing.{extends_same, extends_trans}
 use Rattle.oct_pages.proofs.Pagers.{all_shown, showing, showing_next}
 use Rattle.oct_pages.proofs.values.append_values.Goals as goal
 
@@ -26,14 +26,8 @@ loop-line-preserved g c =
       grown = extends_trans _ _ _ c.loop-line.invariant.grown c.in_ok-show_values.ensures.grown;
     }
 
-pub returns-in_err-show_values-clause-grown : goal.returns-in_err-show_values-clause-grown
-returns-in_err-show_values-clause-grown g c = extends_trans _ _ _ c.loop-line.invariant.grown c.show_values.ensures.grown
-
 pub returns-clause-ok : goal.returns-clause-ok
 returns-clause-ok g c =
     let count = div_ceil (length c.args.values.now) values_per_line in
     let none : count - c.loop-line.line ≡ 0 = omega (arith, c.loop-line-test.false) in
     all_shown _ _ _ _ _ _ (ap (λ n. map (values_line c.args.values.now) (range_with_len c.loop-line.line n)) none) c.loop-line.invariant.shown
-
-pub returns-clause-grown : goal.returns-clause-grown
-returns-clause-grown g c = c.loop-line.invariant.grown

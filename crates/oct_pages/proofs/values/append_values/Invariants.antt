@@ -2,7 +2,7 @@ use Rattle.std.proofs.Common.{◌-◌, map, length}
 use Rattle.std.specs.Int.{div_ceil}
 use Rattle.std.specs.List.{range_with_len}
 use Rattle.oct_pages.specs.Catalogue.{values_line, values_lines, values_per_line}
-use Rattle.oct_pages.specs.Growth.{Extends}
+use Rattle.oct_ops.specs.Growth.{Extends}
 use Rattle.oct_pages.proofs.Pagers.{Showing}
 use Rattle.oct_pages.proofs.values.append_values.Given as goal
 

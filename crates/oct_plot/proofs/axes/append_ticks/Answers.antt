@@ -1,5 +1,5 @@
 use Rattle.std.proofs.Common.{ℕ, ◌*◌, ◌++◌, List, sym, ap, ◌∙◌}
-use Rattle.oct_text.proofs.Growing.{grown_twice}
+use Rattle.oct_ops.proofs.Growing.{grown_twice}
 use Rattle.oct_plot.proofs.Ranges.{range_next}
 use Rattle.oct_plot.specs.Axes.{tick}
 use Rattle.oct_plot.proofs.axes.append_ticks.Goals as goal

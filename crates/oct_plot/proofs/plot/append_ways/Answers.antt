@@ -1,7 +1,7 @@
 use Rattle.std.proofs.Common.{◌≡◌, ◌++◌, sym, ap, ◌∙◌, append_assoc}
 use Rattle.std.specs.Prelude.{None, Some}
 use Rattle.std.proofs.lemmas.List.{append-nil}
-use Rattle.oct_text.proofs.Growing.{extends_same, extends_trans}
+use Rattle.oct_ops.proofs.Growing.{extends_same, extends_trans}
 use Rattle.oct_plot.specs.Plot.{way_text, ways_text}
 use Rattle.oct_plot.proofs.plot.append_ways.Goals as goal
 
@@ -22,12 +22,6 @@ loop-point-preserved g c = record {
   grown = extends_trans _ _ _ c.loop-point.invariant.grown c.in_ok-append_way.ensures.grown;
 }
 
-pub returns-in_err-append_way-clause-grown : goal.returns-in_err-append_way-clause-grown
-returns-in_err-append_way-clause-grown g c = extends_trans _ _ _ c.loop-point.invariant.grown c.append_way.ensures.grown
-
 pub returns-clause-ok : goal.returns-clause-ok
 returns-clause-ok g c =
     sym (append-nil c.loop-point.out.items) ∙ ap (λ ps. c.loop-point.out.items ++ ways_text c.loop-point.before ps) (sym c.in-None.ensures.steps.0) ∙ c.loop-point.invariant.rest
-
-pub returns-clause-grown : goal.returns-clause-grown
-returns-clause-grown g c = c.loop-point.invariant.grown

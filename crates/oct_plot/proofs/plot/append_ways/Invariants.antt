@@ -1,6 +1,6 @@
 use Rattle.std.proofs.Common.{◌≡◌, ◌++◌}
 use Rattle.std.specs.Prelude.{None}
-use Rattle.oct_text.specs.Growth.{Extends}
+use Rattle.oct_ops.specs.Growth.{Extends}
 use Rattle.oct_plot.specs.Plot.{ways_text}
 use Rattle.oct_plot.proofs.plot.append_ways.Given as goal
 

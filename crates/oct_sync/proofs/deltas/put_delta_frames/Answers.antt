@@ -2,7 +2,7 @@ use Rattle.std.proofs.Common.{◌≡◌, ◌≤◌, suc, length, sym, ap, ◌∙
 use Rattle.std.proofs.lemmas.List.{nil_from_length}
 use Rattle.std.specs.Vec.Iter.{into_iter_items}
 use Rattle.oct_delta.specs.Text.{op_bytes}
-use Rattle.oct_delta.proofs.Written.{keeps_then}
+use Rattle.oct_ops.proofs.Growing.{extends_trans}
 use Rattle.oct_sync.specs.Frames.{pack_room}
 use Rattle.oct_sync.specs.Packs.{may_follow}
 use Rattle.oct_sync.proofs.Gathering.{Ready, size_of, begin, gathered, all_sent, pack_rises, ready_after, ready_still, size_of-end}
@@ -20,9 +20,6 @@ loop-op-init g c = record {
 
 pub put_pack-requires-clause-rises : goal.put_pack-requires-clause-rises
 put_pack-requires-clause-rises g c = pack_rises _ _ _ _ _ c.loop-op.invariant.gathering
-
-pub returns-in_err-put_pack-clause-kept : goal.returns-in_err-put_pack-clause-kept
-returns-in_err-put_pack-clause-kept g c = keeps_then _ _ _ c.loop-op.invariant.gathering.kept c.put_pack.ensures.kept
 
 pub overflow_add-size : goal.overflow_add-size
 overflow_add-size g c =
@@ -63,8 +60,8 @@ loop-op-preserved g c =
 pub returns-in_err-push-clause-kept : goal.returns-in_err-push-clause-kept
 returns-in_err-push-clause-kept g c =
     elim c.if-not-may_follow.branch [
-      | then-not-may_follow+in_ok-put_pack w ↦ subst (λ v. Rattle.oct_delta.specs.Writing.Keeps c.args.out.now.items v.items) (sym w.out-is) (keeps_then _ _ _ c.loop-op.invariant.gathering.kept w.put_pack.ensures.kept)
-      | else-not-may_follow w ↦ subst (λ v. Rattle.oct_delta.specs.Writing.Keeps c.args.out.now.items v.items) (sym w.out-is) c.loop-op.invariant.gathering.kept
+      | then-not-may_follow+in_ok-put_pack w ↦ subst (λ v. Rattle.oct_ops.specs.Growth.Extends c.args.out.now.items v.items) (sym w.out-is) (extends_trans _ _ _ c.loop-op.invariant.gathering.kept w.put_pack.ensures.kept)
+      | else-not-may_follow w ↦ subst (λ v. Rattle.oct_ops.specs.Growth.Extends c.args.out.now.items v.items) (sym w.out-is) c.loop-op.invariant.gathering.kept
     ]
 
 pub put_pack-requires-2-clause-rises : goal.put_pack-requires-2-clause-rises
@@ -73,9 +70,6 @@ put_pack-requires-2-clause-rises g c = pack_rises _ _ _ _ _ c.loop-op.invariant.
 pub returns-clause-ok : goal.returns-clause-ok
 returns-clause-ok g c =
     all_sent _ _ _ _ _ _ (nil_from_length _ (sym c.loop-op.invariant.len ∙ c.in-None.ensures.steps.0)) c.in_ok-put_pack-2.ensures.ok c.loop-op.invariant.gathering
-
-pub returns-clause-kept : goal.returns-clause-kept
-returns-clause-kept g c = keeps_then _ _ _ c.loop-op.invariant.gathering.kept c.put_pack-2.ensures.kept
 
 pub put_pack-requires-clause-is : goal.put_pack-requires-clause-is
 put_pack-requires-clause-is g c = c.loop-op.invariant.size
@@ -88,6 +82,3 @@ put_pack-requires-2-clause-is g c = c.loop-op.invariant.size
 
 pub put_pack-requires-2-clause-fits : goal.put_pack-requires-2-clause-fits
 put_pack-requires-2-clause-fits g c = let fits = c.loop-op.invariant.gathering.is.fits in omega (arith, fits, c.loop-op.invariant.size)
-
-pub returns-in_err-put_pack-2-clause-kept : goal.returns-in_err-put_pack-2-clause-kept
-returns-in_err-put_pack-2-clause-kept g c = keeps_then _ _ _ c.loop-op.invariant.gathering.kept c.put_pack-2.ensures.kept

@@ -1,9 +1,9 @@
-use Rattle.std.proofs.Common.{◌≡◌, ◌+◌, ◌++◌, List, ℕ, Err, length, refl, sym, ap, ◌∙◌, eqb, arith}
+use Rattle.std.proofs.Common.{◌≡◌, ◌+◌, ◌++◌, List, ℕ, Err, length, sym, ap, ◌∙◌, eqb, arith}
 use Rattle.std.proofs.lemmas.List.{append-nil}
 use Rattle.oct_delta.specs.Delta.{encoded}
+use Rattle.oct_ops.proofs.Growing.{extends_by, extends_trans}
 use Rattle.oct_sync.proofs.Packed.{fewer_than_bytes}
 use Rattle.oct_sync.proofs.Written.{framed_after, length-encoded, pack_frame-none, pack_frame-some}
-use Rattle.oct_delta.proofs.Written.{keeps_more, keeps_same, keeps_then}
 use Rattle.oct_sync.proofs.deltas.put_pack.Goals as goal
 
 pub returns-in-Ok-clause-ok : goal.returns-in-Ok-clause-ok
@@ -23,19 +23,10 @@ unreachable-requires g c =
     omega (arith, many, listed, few, c.requires.is, c.requires.fits)
 
 pub returns-in-Ok-clause-kept : goal.returns-in-Ok-clause-kept
-returns-in-Ok-clause-kept g c = keeps_then _ _ _ c.put_head.ensures.kept (keeps_more _ _ _ c.in-Ok.ensures.ok)
-
-pub returns-in-Err-OutOfMemory-clause-kept : goal.returns-in-Err-OutOfMemory-clause-kept
-returns-in-Err-OutOfMemory-clause-kept g c = keeps_then _ _ _ c.put_head.ensures.kept (keeps_same _ _ c.in-Err-OutOfMemory.ensures.err)
+returns-in-Ok-clause-kept g c = extends_trans _ _ _ c.put_head.ensures.kept (extends_by _ _ _ c.in-Ok.ensures.ok)
 
 pub returns-then-is_empty-clause-ok : goal.returns-then-is_empty-clause-ok
 returns-then-is_empty-clause-ok g c =
     let len : length c.args.pack.items ≡ c.args.pack.len = omega (arith, c.args.pack.ok) in
     let none = pack_frame-none c.args.pack.items (ap (λ n. eqb n 0) len ∙ sym c.is_empty.ensures ∙ c.if-is_empty.true) in
     sym (ap (λ (z : List ℕ). c.args.out.now.items ++ z) none ∙ append-nil c.args.out.now.items)
-
-pub returns-then-is_empty-clause-kept : goal.returns-then-is_empty-clause-kept
-returns-then-is_empty-clause-kept g c = keeps_same _ _ refl
-
-pub returns-in_err-put_head-clause-kept : goal.returns-in_err-put_head-clause-kept
-returns-in_err-put_head-clause-kept g c = c.put_head.ensures.kept

@@ -2,7 +2,7 @@ use Rattle.std.proofs.Common.{sym, ap, ◌++◌, ◌∙◌, refl}
 use Rattle.std.specs.List.{flat_map}
 use Rattle.std.proofs.lemmas.List.{take_all}
 use Rattle.std.proofs.lemmas.List.Folds.{flat_map-map}
-use Rattle.oct_text.proofs.Growing.{extends_by, extends_trans, grown_each}
+use Rattle.oct_ops.proofs.Growing.{grown_each}
 use Rattle.oct_tables.specs.Tables.{column}
 use Rattle.oct_tables.proofs.tables.append_columns.Goals as goal
 
@@ -11,13 +11,7 @@ loop-name-preserved g c =
     grown_each (λ name. column name.now) c.args.columns.now c.loop-name.name-index _ _ c.args.out.now.items c.loop-name.out.items c.append_column.new.out.items
     c.loop-name-test.true refl c.loop-name.invariant c.in_ok-append_column.ensures.ok
 
-pub returns-in_err-append_column-clause-grown : goal.returns-in_err-append_column-clause-grown
-returns-in_err-append_column-clause-grown g c = extends_trans _ _ _ (extends_by _ _ _ c.loop-name.invariant) c.append_column.ensures.grown
-
 pub returns-clause-ok : goal.returns-clause-ok
 returns-clause-ok g c =
     c.loop-name.invariant ∙ ap (λ names. c.args.out.now.items ++ flat_map (λ name. column name.now) names) (take_all c.loop-name.name-index c.args.columns.now c.loop-name-test.false)
     ∙ ap (λ t. c.args.out.now.items ++ t) (sym (flat_map-map column (λ name. name.now) c.args.columns.now))
-
-pub returns-clause-grown : goal.returns-clause-grown
-returns-clause-grown g c = extends_by _ _ _ c.loop-name.invariant

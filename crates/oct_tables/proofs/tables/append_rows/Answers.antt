@@ -1,13 +1,7 @@
-use Rattle.oct_text.proofs.Growing.{extends_by, extends_trans, grown_each}
+use Rattle.oct_ops.proofs.Growing.{grown_each}
 use Rattle.oct_tables.proofs.tables.append_rows.Goals as goal
 
 pub loop-row-preserved : goal.loop-row-preserved
 loop-row-preserved g c =
     grown_each (g.S.Rows.text c.args.way.now) c.args.rows.now c.loop-row.row-index _ c.row-item.result c.args.out.now.items c.loop-row.out.items c.append_row.new.out.items
     c.loop-row-test.true c.row-item.is c.loop-row.invariant c.in_ok-append_row.ensures.ok
-
-pub returns-in_err-append_row-clause-grown : goal.returns-in_err-append_row-clause-grown
-returns-in_err-append_row-clause-grown g c = extends_trans _ _ _ (extends_by _ _ _ c.loop-row.invariant) c.append_row.ensures.grown
-
-pub returns-clause-grown : goal.returns-clause-grown
-returns-clause-grown g c = extends_by _ _ _ c.loop-row.invariant

@@ -1,7 +1,7 @@
 use Rattle.std.proofs.Common.{◌≡◌, ◌++◌, sym, ap, ◌∙◌, append_assoc}
 use Rattle.std.specs.List.{flat_map}
 use Rattle.std.proofs.lemmas.List.{append-nil}
-use Rattle.oct_text.proofs.Growing.{extends_same, extends_trans}
+use Rattle.oct_ops.proofs.Growing.{extends_same, extends_trans}
 use Rattle.oct_tables.proofs.tables.append_set.Goals as goal
 
 pub loop-row-init : goal.loop-row-init
@@ -21,12 +21,6 @@ loop-row-preserved g c = record {
   grown = extends_trans _ _ _ c.loop-row.invariant.grown c.in_ok-append_row.ensures.grown;
 }
 
-pub returns-in_err-append_row-clause-grown : goal.returns-in_err-append_row-clause-grown
-returns-in_err-append_row-clause-grown g c = extends_trans _ _ _ c.loop-row.invariant.grown c.append_row.ensures.grown
-
 pub returns-clause-ok : goal.returns-clause-ok
 returns-clause-ok g c =
     sym (append-nil c.loop-row.out.items) ∙ ap (λ ps. c.loop-row.out.items ++ flat_map (g.S.Rows.text c.args.way.now) ps) (sym c.in-None.ensures.steps.0) ∙ c.loop-row.invariant.rest
-
-pub returns-clause-grown : goal.returns-clause-grown
-returns-clause-grown g c = c.loop-row.invariant.grown

@@ -1,6 +1,6 @@
 use Rattle.std.proofs.Common.{◌≡◌, ◌++◌}
 use Rattle.std.specs.List.{flat_map}
-use Rattle.oct_text.specs.Growth.{Extends}
+use Rattle.oct_ops.specs.Growth.{Extends}
 use Rattle.oct_tables.proofs.tables.append_set.Given as goal
 
 abbrev pub invariant-loop-row : goal.invariant-loop-row

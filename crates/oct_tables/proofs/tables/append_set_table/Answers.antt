@@ -2,17 +2,9 @@ use Rattle.std.proofs.Common.{arith, ◌≡◌, ◌<◌, ◌+◌, ◌++◌, map,
 use Rattle.std.specs.List.{flat_map}
 use Rattle.std.specs.Prelude.{codes}
 use Rattle.std.proofs.lemmas.Result.{on_ok_weaker}
-use Rattle.oct_text.proofs.Growing.{extends_equal, extends_trans}
 use Rattle.oct_text.proofs.Joined.{joined_three}
 use Rattle.oct_tables.proofs.TableLaws.{table-some}
-use Rattle.oct_text.proofs.Truncated.{cut_back}
 use Rattle.oct_tables.proofs.tables.append_set_table.Goals as goal
-
-pub returns-then-len-first-clause-grown : goal.returns-then-len-first-clause-grown
-returns-then-len-first-clause-grown g c =
-    let before : c.len-before.result ≡ length c.args.out.now.items = omega (arith, c.len-before.ensures) in
-    extends_equal _ _ (cut_back c.len-before.result c.args.out.now.items _ _ before
-    (extends_trans _ _ _ c.in_ok-append_head.ensures.grown c.in_ok-append_set.ensures.grown) c.truncate.ensures.items)
 
 pub returns-clause-ok : goal.returns-clause-ok
 returns-clause-ok g c =

@@ -2,7 +2,7 @@ use Rattle.std.proofs.Common.{arith, ◌≡◌, ◌<◌, ◌+◌, ◌++◌, leng
 use Rattle.std.specs.List.{enumerate_from, flat_map}
 use Rattle.std.proofs.lemmas.List.{take_all}
 use Rattle.std.proofs.lemmas.List.FromFn.{get_or-enumerate_from, length-enumerate_from}
-use Rattle.oct_text.proofs.Growing.{extends_by, extends_trans, grown_each}
+use Rattle.oct_ops.proofs.Growing.{grown_each}
 use Rattle.oct_tables.specs.Values.{value_text}
 use Rattle.oct_tables.proofs.values_table.append_values.Goals as goal
 
@@ -18,15 +18,9 @@ loop-place-preserved g c =
     grown_each (value_text c.args.layout c.args.greatest) heaps place (first + place, value) (0, 0) c.args.out.now.items c.loop-place.out.items c.append_value.new.out.items
     within (sym is) c.loop-place.invariant c.in_ok-append_value.ensures.ok
 
-pub returns-in_err-append_value-clause-grown : goal.returns-in_err-append_value-clause-grown
-returns-in_err-append_value-clause-grown g c = extends_trans _ _ _ (extends_by _ _ _ c.loop-place.invariant) c.append_value.ensures.grown
-
 pub returns-clause-ok : goal.returns-clause-ok
 returns-clause-ok g c =
     let heaps = enumerate_from c.args.layout.first c.args.values.now in
     c.loop-place.invariant
     ∙ ap (λ hs. c.args.out.now.items ++ flat_map (value_text c.args.layout c.args.greatest) hs)
     (take_all c.loop-place.place heaps (omega (arith, length-enumerate_from c.args.layout.first c.args.values.now, c.loop-place-test.false)))
-
-pub returns-clause-grown : goal.returns-clause-grown
-returns-clause-grown g c = extends_by _ _ _ c.loop-place.invariant

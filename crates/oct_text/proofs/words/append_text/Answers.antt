@@ -1,4 +1,4 @@
-use Rattle.oct_text.proofs.Growing.{extended, extended_grown}
+use Rattle.oct_ops.proofs.Growing.{extended, extended_grown}
 use Rattle.oct_text.proofs.words.append_text.Goals as goal
 
 pub returns-clause-ok : goal.returns-clause-ok

@@ -1,4 +1,4 @@
-use Rattle.oct_text.proofs.Growing.{extends_trans}
+use Rattle.oct_ops.proofs.Growing.{extends_trans}
 use Rattle.oct_text.proofs.Joined.{joined_four}
 use Rattle.oct_views.proofs.site.append_game_html.Goals as goal
 

@@ -1,7 +1,0 @@
-use Rattle.std.proofs.Common.{◌≡◌, drop}
-use Rattle.oct_ops.specs.Operations.{union}
-use Rattle.census_tell.specs.Overview.{only_of}
-use Rattle.census_tell.proofs.overview.part_of.Given as goal
-
-abbrev pub invariant-loop-code : goal.invariant-loop-code
-invariant-loop-code l = union l.part.ops (only_of (drop l.code-index l.named) l.held.ops) ≡ only_of l.named l.held.ops
