@@ -9,7 +9,7 @@ use Rattle.oct_ops.specs.Operations.{Operations}
 use Rattle.oct_sync.specs.Frames.{clock_tag, delta_tag, end_frame, end_tag, frame_bytes, max_frame}
 use Rattle.oct_sync.specs.Session.{AwaitsClock, AwaitsDeltas, AwaitsEnd, IsDone, Phase, Session, on_clock, on_delta, on_end, on_frame, on_split, received}
 use Rattle.oct_sync.specs.declared.role.Role.{Role}
-use Rattle.oct_sync.specs.declared.role.Role.TheVariants.{Client, ClientOfAll, Server}
+use Rattle.oct_sync.specs.declared.role.Role.TheVariants.{Client, ClientOfAll, Giver, Server}
 use Rattle.oct_sync.proofs.Framing.{framed, split_frame}
 
 abbrev pub session : Phase → Operations → Bytes → Session
@@ -25,9 +25,9 @@ clock_arrives role held sent payload rest t short read =
     arrives role (session AwaitsClock held sent) clock_tag payload rest short ∙ ap (λ (o : Option Clock). received role (on_clock role (session AwaitsClock held sent) o) rest) read
 
 pub delta_arrives : (role : Role) (t : Clock) (held : Operations) (sent payload rest : Bytes) (ops : List Operation) → 1 + length payload ≤ max_frame → read_delta payload ≡ Some ops →
-    received role (session (AwaitsDeltas t) held sent) (frame_bytes delta_tag payload ++ rest) ≡ received role (on_delta (session (AwaitsDeltas t) held sent) (Some ops)) rest
+    received role (session (AwaitsDeltas t) held sent) (frame_bytes delta_tag payload ++ rest) ≡ received role (on_delta role (session (AwaitsDeltas t) held sent) (Some ops)) rest
 delta_arrives role t held sent payload rest ops short read =
-    arrives role (session (AwaitsDeltas t) held sent) delta_tag payload rest short ∙ ap (λ (o : Option (List Operation)). received role (on_delta (session (AwaitsDeltas t) held sent) o) rest) read
+    arrives role (session (AwaitsDeltas t) held sent) delta_tag payload rest short ∙ ap (λ (o : Option (List Operation)). received role (on_delta role (session (AwaitsDeltas t) held sent) o) rest) read
 
 pub end_arrives : (role : Role) (t : Clock) (held : Operations) (sent rest : Bytes) →
     received role (session (AwaitsDeltas t) held sent) (end_frame ++ rest) ≡ received role (on_end role (session (AwaitsDeltas t) held sent) (AwaitsDeltas t)) rest
@@ -37,4 +37,5 @@ end_arrives role t held sent rest = arrives role (session (AwaitsDeltas t) held 
 pub last_arrives : (role : Role) (held : Operations) (sent : Bytes) → received role (session AwaitsEnd held sent) end_frame ≡ session IsDone held sent
 last_arrives Client held sent = refl
 last_arrives ClientOfAll held sent = refl
+last_arrives Giver held sent = refl
 last_arrives Server held sent = refl

@@ -1,13 +1,12 @@
 -- What the two sides of a session come to.
-use Rattle.std.proofs.Common.{◌≡◌, ◌⊎◌, inl, inr, ℕ, zero, suc, ◌+◌, ◌-◌, ◌≤◌, Bool, true, false, ◌||◌, List, [], ◌∷◌, ◌++◌, length, take, drop, Option, Some, None, eqb, refl, sym, ap, ◌∙◌, subst, append_assoc, arith}
+use Rattle.std.proofs.Common.{◌≡◌, ◌⊎◌, inl, inr, ℕ, zero, suc, ◌+◌, ◌-◌, ◌≤◌, Bool, true, false, List, [], ◌∷◌, ◌++◌, length, take, drop, Option, Some, None, eqb, refl, sym, ap, ◌∙◌, subst, append_assoc, arith}
 use Rattle.std.proofs.lemmas.Bool.{cases_Bool, eqb-true, leb-true, not_from_false, or_cases}
 use Rattle.std.proofs.lemmas.List.{append-nil, length-drop, take-append-drop}
 use Rattle.std.proofs.lemmas.List.Elements.{All-from_recursion, All-head, All-drop, All-take}
-use Rattle.std.proofs.lemmas.List.Folds.{list_any-append}
 use Rattle.std.specs.Prelude.{unwrap_or}
 use Rattle.std.specs.FinMap as finmap
 use Rattle.std.specs.List.{All, fold}
-use Rattle.std.specs.Ordering.{eq_by_cmp, nat_cmp}
+use Rattle.std.specs.Ordering.{nat_cmp}
 use Rattle.oct_delta.specs.Clocks.{entries_bytes}
 use Rattle.oct_delta.specs.Delta.{encoded}
 use Rattle.oct_delta.specs.Text.{Bytes}
@@ -24,19 +23,20 @@ use Rattle.oct_record.specs.Valid.{AreValid}
 use Rattle.oct_store.proofs.Authors.{clock-has}
 use Rattle.oct_ops.proofs.Members.{Has, Has-empty, Has-keep, Has-listed, In, In-listed, keep-has, same_set, In-filter_source, all_in}
 use Rattle.oct_sync.specs.Driven.{after, begun}
-use Rattle.oct_sync.specs.Exchange.{AllIsExchanged, BothEndWithAll, EachHoldsAll, EachIsAnswered, EachTakesMissing, HasNoForks, sent_clock}
+use Rattle.oct_sync.specs.Exchange.{AllIsExchanged, BothEndWithAll, EachHoldsAll, EachIsAnswered, EachTakesMissing, GiftIsExchanged, HasNoForks, ServerEndsWithAll, ServerTakesMissing, sent_clock}
 use Rattle.oct_sync.specs.Frames.{Frame, Split, delta_tag, end_frame, frame_bytes, pack_length, split_frames}
-use Rattle.oct_sync.specs.Session.{AwaitsClock, AwaitsDeltas, AwaitsEnd, HasFailed, IsDone, Phase, Point, Session, clock_frame, failed_if, is_head, missing_frames, on_clock, on_due, on_end, on_frame, on_head, on_rest_in, received, rest_fault, said}
+use Rattle.oct_sync.specs.Session.{AwaitsClock, AwaitsDeltas, AwaitsEnd, HasFailed, IsDone, Phase, Point, Session, clock_frame, failed_if, is_head, missing_frames, on_clock, on_due, on_end, on_frame, on_head, on_rest_in, received, rest_fault, said, taken_in}
 use Rattle.oct_sync.specs.declared.error.SyncError.{SyncError}
 use Rattle.oct_sync.specs.declared.error.SyncError.TheVariants as fault
 use Rattle.oct_sync.specs.declared.role.Role.{Role}
-use Rattle.oct_sync.specs.declared.role.Role.TheVariants.{Client, ClientOfAll, Server}
+use Rattle.oct_sync.specs.declared.role.Role.TheVariants.{Client, ClientOfAll, Giver, Server}
 use Rattle.oct_sync.proofs.Arriving.{clock_arrives, delta_arrives, end_arrives, last_arrives, session}
 use Rattle.oct_sync.proofs.Gathering.{frames_of, rises_first, rises_second}
 use Rattle.oct_sync.proofs.Greeting.{clock_read, clock_short, first_entries, none_said, sent_covers}
 use Rattle.oct_sync.proofs.Owing.{fed_past}
 use Rattle.oct_sync.proofs.Packed.{fits_alone, frame_short, pack_fits, pack_is_read}
 use Rattle.oct_sync.proofs.Packing.{some_packed}
+use Rattle.oct_sync.proofs.Taking.{taken_none, taken_parts}
 
 -- ---- sets
 
@@ -48,13 +48,6 @@ left s t o h = laws.union_left op_cmp_total op_cmp_exact s t o h
 
 right : (s t : Operations) (o : Operation) → Has t o → Has (union s t) o
 right s t o h = laws.union_right op_cmp_total op_cmp_exact s t o h
-
--- one delta after another
-union_parts : (held : Operations) (xs ys : List Operation) → union (union held (set_of xs)) (set_of ys) ≡ union held (set_of (xs ++ ys))
-union_parts held xs ys = laws.union_assoc op_cmp_total op_cmp_exact held (set_of xs) (set_of ys) ∙ ap (union held) (laws.same_set op_cmp_total op_cmp_exact _ _ (λ o.
-    laws.contains-union op_cmp_total op_cmp_exact (set_of xs) (set_of ys) o
-    ∙ (λ i. laws.contains-set_of op_cmp_total op_cmp_exact xs o i || laws.contains-set_of op_cmp_total op_cmp_exact ys o i)
-    ∙ sym (laws.contains-set_of op_cmp_total op_cmp_exact (xs ++ ys) o ∙ list_any-append (eq_by_cmp op_cmp o) xs ys)))
 
 in_beyond : (s : Operations) (t : Clock) (o : Operation) → Has (beyond s t) o → Has s o
 in_beyond s t o h = Has-keep (not_covered t) s o h
@@ -116,11 +109,11 @@ each_valid : (s : Operations) → AreValid s → All IsOp (listed s)
 each_valid s valid = All-from_recursion IsOp (listed s) (all_in IsOp (listed s) (λ o is. valid o (Has-listed s o is)))
 
 deltas_arrive : (role : Role) (t : Clock) (fuel : ℕ) (ops : List Operation) (held : Operations) (sent rest : Bytes) → length ops ≤ fuel → All IsOp ops → IsRising ops →
-    received role (session (AwaitsDeltas t) held sent) (frames_of fuel ops ++ rest) ≡ received role (session (AwaitsDeltas t) (union held (set_of ops)) sent) rest
+    received role (session (AwaitsDeltas t) held sent) (frames_of fuel ops ++ rest) ≡ received role (session (AwaitsDeltas t) (taken_in role held (set_of ops)) sent) rest
 unfolding frames_of
-deltas_arrive role t zero [] held sent rest few valid rising = ap (λ h. received role (session (AwaitsDeltas t) h sent) rest) (sym (laws.union-empty op_cmp_total op_cmp_exact held))
+deltas_arrive role t zero [] held sent rest few valid rising = ap (λ h. received role (session (AwaitsDeltas t) h sent) rest) (sym (taken_none role held))
 deltas_arrive role t zero (o ∷ ops) held sent rest few valid rising = absurd (omega (arith, few))
-deltas_arrive role t (suc fuel) [] held sent rest few valid rising = ap (λ h. received role (session (AwaitsDeltas t) h sent) rest) (sym (laws.union-empty op_cmp_total op_cmp_exact held))
+deltas_arrive role t (suc fuel) [] held sent rest few valid rising = ap (λ h. received role (session (AwaitsDeltas t) h sent) rest) (sym (taken_none role held))
 deltas_arrive role t (suc fuel) (o ∷ ops) held sent rest few valid rising =
     let n : ℕ = pack_length (o ∷ ops) in
     let pack : List Operation = take (pack_length (o ∷ ops)) (o ∷ ops) in
@@ -131,18 +124,18 @@ deltas_arrive role t (suc fuel) (o ∷ ops) held sent rest few valid rising =
     ap (received role (session (AwaitsDeltas t) held sent)) (append_assoc (frame_bytes delta_tag (encoded pack)) (frames_of fuel later) rest)
     ∙ delta_arrives role t held sent (encoded pack) (frames_of fuel later ++ rest) pack (frame_short pack (pack_fits (o ∷ ops)))
     (pack_is_read pack (All-take IsOp n (o ∷ ops) valid) (rises_first pack later (subst IsRising (sym whole) rising)) (pack_fits (o ∷ ops)))
-    ∙ deltas_arrive role t fuel later (union held (set_of pack)) sent rest (omega (arith, left, some, few)) (All-drop IsOp n (o ∷ ops) valid) (rises_second pack later (subst IsRising (sym whole) rising))
-    ∙ ap (λ h. received role (session (AwaitsDeltas t) h sent) rest) (union_parts held pack later ∙ ap (λ xs. union held (set_of xs)) whole)
+    ∙ deltas_arrive role t fuel later (taken_in role held (set_of pack)) sent rest (omega (arith, left, some, few)) (All-drop IsOp n (o ∷ ops) valid) (rises_second pack later (subst IsRising (sym whole) rising))
+    ∙ ap (λ h. received role (session (AwaitsDeltas t) h sent) rest) (taken_parts role held pack later ∙ ap (λ xs. taken_in role held (set_of xs)) whole)
 
 -- the deltas that a set has beyond a clock, and an end
 missing_arrive : (role : Role) (t u : Clock) (others held : Operations) (sent rest : Bytes) → AreValid others →
-    received role (session (AwaitsDeltas t) held sent) (missing_frames others u ++ rest) ≡ received role (session (AwaitsDeltas t) (union held (beyond others u)) sent) (end_frame ++ rest)
+    received role (session (AwaitsDeltas t) held sent) (missing_frames others u ++ rest) ≡ received role (session (AwaitsDeltas t) (taken_in role held (beyond others u)) sent) (end_frame ++ rest)
 unfolding frames_of
 missing_arrive role t u others held sent rest valid =
     let ops : List Operation = listed (beyond others u) in
     ap (received role (session (AwaitsDeltas t) held sent)) (append_assoc (frames_of (length ops) ops) end_frame rest)
     ∙ deltas_arrive role t (length ops) ops held sent (end_frame ++ rest) (omega arith) (each_valid (beyond others u) (beyond_valid others u valid)) (laws.listed-rises op_cmp (beyond others u))
-    ∙ ap (λ s. received role (session (AwaitsDeltas t) (union held s) sent) (end_frame ++ rest)) (laws.set_of-listed op_cmp_total op_cmp_exact (beyond others u))
+    ∙ ap (λ s. received role (session (AwaitsDeltas t) (taken_in role held s) sent) (end_frame ++ rest)) (laws.set_of-listed op_cmp_total op_cmp_exact (beyond others u))
 
 -- ---- a client that awaits the last frame sends nothing
 
@@ -160,6 +153,7 @@ record IsQuiet (sent : Bytes) (s : Session) : Type 0 where
 on_end_late : (role : Role) (s : Session) → on_end role s AwaitsEnd ≡ record s { phase = IsDone }
 on_end_late Client s = refl
 on_end_late ClientOfAll s = refl
+on_end_late Giver s = refl
 on_end_late Server s = refl
 
 on_last : (role : Role) (s : Session) (f : Frame) → s.phase ≡ AwaitsEnd → eqb f.tag 3 ≡ true → on_due role s f ≡ record s { phase = IsDone }
@@ -234,33 +228,48 @@ none_covers d some h = let p = clock-has (listed empty) d some (sent_covers empt
 abbrev SpeaksFirst : Role → Type 0
 SpeaksFirst Client = Unit {0}
 SpeaksFirst ClientOfAll = Unit {0}
+SpeaksFirst Giver = Unit {0}
 SpeaksFirst Server = ⊥
 
 -- the clock by which it answers the other side's
 abbrev answered : Role → Clock → Clock
 answered Client t = t
 answered ClientOfAll t = empty_clock
+answered Giver t = t
 answered Server t = t
 
 begins : (role : Role) (held : Operations) → SpeaksFirst role → begun role held ≡ session AwaitsClock held (clock_frame (said role held))
 begins Client held first = refl
 begins ClientOfAll held first = ap (session AwaitsClock held) (sym none_said)
+begins Giver held first = refl
 begins Server held first = absurd first
 
 hears : (role : Role) (held : Operations) (sent : Bytes) (t : Clock) → SpeaksFirst role → on_clock role (session AwaitsClock held sent) (Some t) ≡ session (AwaitsDeltas (answered role t)) held sent
 hears Client held sent t first = refl
 hears ClientOfAll held sent t first = refl
+hears Giver held sent t first = refl
 hears Server held sent t first = absurd first
 
 answers_end : (role : Role) (held : Operations) (sent : Bytes) (t : Clock) → SpeaksFirst role → on_end role (session (AwaitsDeltas t) held sent) (AwaitsDeltas t) ≡ session AwaitsEnd held (sent ++ missing_frames held t)
 answers_end Client held sent t first = refl
 answers_end ClientOfAll held sent t first = refl
+answers_end Giver held sent t first = refl
 answers_end Server held sent t first = absurd first
 
 said_valid : (role : Role) (held : Operations) → AreValid held → AreValid (said role held)
 said_valid Client held valid = valid
 said_valid ClientOfAll held valid = λ o h. absurd (Has-empty o h)
+said_valid Giver held valid = valid
 said_valid Server held valid = valid
+
+union_valid : (s t : Operations) → AreValid s → AreValid t → AreValid (union s t)
+union_valid s t sv tv o h = elim (Has-union s t o h) [ inl mine ↦ sv o mine | inr new ↦ tv o new ]
+
+taken_valid : (role : Role) (held new : Operations) → AreValid held → AreValid new → AreValid (taken_in role held new)
+taken_valid Client held new hv nv = union_valid held new hv nv
+taken_valid ClientOfAll held new hv nv = union_valid held new hv nv
+taken_valid Giver held new hv nv = hv
+taken_valid Server held new hv nv = union_valid held new hv nv
 
 -- ---- both sides
 
@@ -275,7 +284,7 @@ module _ (role : Role) (first : SpeaksFirst role) (client server : Operations) (
 
   -- what the client holds in the end
   abbrev both : Operations
-  both = union client (beyond server (sent_clock shown))
+  both = taken_in role client (beyond server (sent_clock shown))
 
   abbrev to_server : Bytes
   to_server = clock_frame shown ++ missing_frames both asked
@@ -285,7 +294,7 @@ module _ (role : Role) (first : SpeaksFirst role) (client server : Operations) (
   to_client = clock_frame server ++ missing_frames server (sent_clock shown)
 
   both_valid : AreValid both
-  both_valid o h = elim (Has-union client (beyond server (sent_clock shown)) o h) [ inl mine ↦ client_valid o mine | inr new ↦ server_valid o (in_beyond server (sent_clock shown) o new) ]
+  both_valid = taken_valid role client (beyond server (sent_clock shown)) client_valid (beyond_valid server (sent_clock shown) server_valid)
 
   server_greeted : (more : Bytes) → after Server server (clock_frame shown ++ more) ≡ received Server (session (AwaitsDeltas (sent_clock shown)) server to_client) more
   server_greeted more = clock_arrives Server server [] (entries_bytes (first_entries shown)) more (sent_clock shown) (clock_short shown) (clock_read shown (said_valid role client client_valid))
@@ -344,23 +353,26 @@ module _ (role : Role) (first : SpeaksFirst role) (client server : Operations) (
 -- ---- the laws
 
 pub each_takes_missing : EachTakesMissing
-each_takes_missing server Client client bytes sv cv is = let t = client_takes Client tt client server cv sv bytes is in record { done = t.0; held_is = t.1 }
-each_takes_missing server ClientOfAll client bytes sv cv is = let t = client_takes ClientOfAll tt client server cv sv bytes is in record { done = t.0; held_is = t.1 }
-each_takes_missing client Server server bytes cv sv is =
+each_takes_missing server Client client bytes takes sv cv is = let t = client_takes Client tt client server cv sv bytes is in record { done = t.0; held_is = t.1 }
+each_takes_missing server ClientOfAll client bytes takes sv cv is = let t = client_takes ClientOfAll tt client server cv sv bytes is in record { done = t.0; held_is = t.1 }
+each_takes_missing server Giver client bytes takes sv cv is = absurd takes
+each_takes_missing client Server server bytes takes cv sv is =
     let s = server_ends Client tt client server cv sv bytes is in
     record { done = ap (λ (t : Session). t.phase) s; held_is = ap (λ (t : Session). t.held) s ∙ sent_back server client (sent_clock server) (sent_clock client) }
 
 pub each_holds_all : EachHoldsAll
-each_holds_all others role held bytes ov hv single is = (each_takes_missing others role held bytes ov hv is).held_is ∙ all_said role held others ov single
+each_holds_all others role held bytes takes ov hv single is = (each_takes_missing others role held bytes takes ov hv is).held_is ∙ all_said role held others ov single
   where
     all_said : (role : Role) (held others : Operations) → AreValid others → HasNoForks (union held others) → union held (beyond others (sent_clock (said role held))) ≡ union held others
     all_said Client held others ov single = all_held held others ov single
     all_said ClientOfAll held others ov single = ap (union held) (beyond_all others (sent_clock empty) ov none_covers)
+    all_said Giver held others ov single = all_held held others ov single
     all_said Server held others ov single = all_held held others ov single
 
 pub each_is_answered : EachIsAnswered
 each_is_answered server Client client sv cv = (_, client_answers Client tt client server cv sv)
 each_is_answered server ClientOfAll client sv cv = (_, client_answers ClientOfAll tt client server cv sv)
+each_is_answered server Giver client sv cv = (_, client_answers Giver tt client server cv sv)
 each_is_answered client Server server cv sv = (_, server_answers Client tt client server cv sv)
 
 -- ---- where the client sends all
@@ -390,5 +402,32 @@ all_is_exchanged client server cv sv = (
   record {
     to_client_is = sym (ap (λ (s : Session). s.sent) (server_done ClientOfAll tt client server cv sv));
     to_server_is = sym (ap (λ (s : Session). s.sent) (client_done ClientOfAll tt client server cv sv));
+  },
+)
+
+-- ---- where a side gives
+
+pub server_takes_missing : ServerTakesMissing
+server_takes_missing giver server x y gv sv is =
+    let bytes = settled Giver tt giver server gv sv x y is.to_giver_is is.to_server_is in
+    let g : after Giver giver x ≡ session IsDone giver (to_server Giver tt giver server gv sv) = ap (after Giver giver) bytes.0 ∙ client_done Giver tt giver server gv sv in
+    let s = ap (after Server server) bytes.1 ∙ server_done Giver tt giver server gv sv in (
+      record { done = ap (λ (t : Session). t.phase) g; held_is = ap (λ (t : Session). t.held) g },
+      record { done = ap (λ (t : Session). t.phase) s; held_is = ap (λ (t : Session). t.held) s },
+    )
+
+pub server_ends_with_all : ServerEndsWithAll
+server_ends_with_all giver server x y gv sv single is =
+    let ends = (server_takes_missing giver server x y gv sv is).1 in
+    let turned : union giver server ≡ union server giver = laws.union_comm op_cmp_total op_cmp_exact giver server in
+    record { done = ends.done; held_is = ends.held_is ∙ all_held server giver gv (subst HasNoForks turned single) ∙ sym turned }
+
+pub gift_is_exchanged : GiftIsExchanged
+gift_is_exchanged giver server gv sv = (
+  to_client Giver tt giver server gv sv ++ end_frame,
+  to_server Giver tt giver server gv sv,
+  record {
+    to_giver_is = sym (ap (λ (s : Session). s.sent) (server_done Giver tt giver server gv sv));
+    to_server_is = sym (ap (λ (s : Session). s.sent) (client_done Giver tt giver server gv sv));
   },
 )

@@ -4,6 +4,7 @@ pub mod Cutting
 pub mod Exchange
 pub mod Framing
 pub mod Gathering
+pub mod Giving
 pub mod Greeting
 pub mod Owing
 pub mod Packed
@@ -13,6 +14,7 @@ mod Rows
 pub mod Running
 pub mod Splitting
 pub mod Stepping
+pub mod Taking
 pub mod Wanting
 pub mod Written
 mod Feeding

@@ -10,7 +10,7 @@ use Rattle.oct_sync.specs.Frames.{Frame, Split, clock_tag, delta_tag, end_frame,
 use Rattle.oct_sync.specs.Session.{Phase, AwaitsClock, AwaitsDeltas, AwaitsEnd, IsDone, HasFailed, Session, clock_frame, missing_frames, failed_if, fed, head_fault, on_clock, on_delta, on_due, on_end, on_frame, on_frame_in, on_head, on_rest_in, on_split, rest_fault}
 use Rattle.oct_sync.specs.declared.error.SyncError.{SyncError}
 use Rattle.oct_sync.specs.declared.role.Role.{Role}
-use Rattle.oct_sync.specs.declared.role.Role.TheVariants.{Client, ClientOfAll, Server}
+use Rattle.oct_sync.specs.declared.role.Role.TheVariants.{Client, ClientOfAll, Giver, Server}
 
 -- the session with something sent before all that it sent
 abbrev pub past : Bytes → Session → Session
@@ -20,15 +20,17 @@ module _ (front : Bytes) where
   clock_past : (role : Role) (s : Session) (o : Option Clock) → on_clock role (past front s) o ≡ past front (on_clock role s o)
   clock_past Client s None = refl
   clock_past ClientOfAll s None = refl
+  clock_past Giver s None = refl
   clock_past Server s None = refl
   clock_past Client s (Some t) = refl
   clock_past ClientOfAll s (Some t) = refl
+  clock_past Giver s (Some t) = refl
   clock_past Server s (Some t) = ap (λ sent. record s { phase = AwaitsDeltas t; sent = sent })
       (ap (λ z. z ++ missing_frames s.held t) (append_assoc front s.sent (clock_frame s.held)) ∙ append_assoc front (s.sent ++ clock_frame s.held) (missing_frames s.held t))
 
-  delta_past : (s : Session) (o : Option (List Operation)) → on_delta (past front s) o ≡ past front (on_delta s o)
-  delta_past s None = refl
-  delta_past s (Some ops) = refl
+  delta_past : (role : Role) (s : Session) (o : Option (List Operation)) → on_delta role (past front s) o ≡ past front (on_delta role s o)
+  delta_past role s None = refl
+  delta_past role s (Some ops) = refl
 
   end_past : (role : Role) (s : Session) (phase : Phase) → on_end role (past front s) phase ≡ past front (on_end role s phase)
   end_past Client s AwaitsClock = refl
@@ -41,6 +43,11 @@ module _ (front : Bytes) where
   end_past ClientOfAll s AwaitsEnd = refl
   end_past ClientOfAll s IsDone = refl
   end_past ClientOfAll s (HasFailed f) = refl
+  end_past Giver s AwaitsClock = refl
+  end_past Giver s (AwaitsDeltas t) = ap (λ sent. record s { phase = AwaitsEnd; sent = sent }) (append_assoc front s.sent (missing_frames s.held t))
+  end_past Giver s AwaitsEnd = refl
+  end_past Giver s IsDone = refl
+  end_past Giver s (HasFailed f) = refl
   end_past Server s AwaitsClock = refl
   end_past Server s (AwaitsDeltas t) = ap (λ sent. record s { phase = IsDone; sent = sent }) (append_assoc front s.sent end_frame)
   end_past Server s AwaitsEnd = refl
@@ -54,8 +61,8 @@ module _ (front : Bytes) where
 
   due_past : (role : Role) (s : Session) (f : Frame) → on_due role (past front s) f ≡ past front (on_due role s f)
   due_past role s f =
-      (λ i. elim (eqb f.tag clock_tag) [ true ↦ clock_past role s (read_clock f.payload) i | false ↦ elim (eqb f.tag delta_tag) [ true ↦ delta_past s (read_delta f.payload) i | false ↦ end_past role s s.phase i ] ])
-      ∙ by_tag (eqb f.tag clock_tag) (eqb f.tag delta_tag) (on_clock role s (read_clock f.payload)) (on_delta s (read_delta f.payload)) (on_end role s s.phase)
+      (λ i. elim (eqb f.tag clock_tag) [ true ↦ clock_past role s (read_clock f.payload) i | false ↦ elim (eqb f.tag delta_tag) [ true ↦ delta_past role s (read_delta f.payload) i | false ↦ end_past role s s.phase i ] ])
+      ∙ by_tag (eqb f.tag clock_tag) (eqb f.tag delta_tag) (on_clock role s (read_clock f.payload)) (on_delta role s (read_delta f.payload)) (on_end role s s.phase)
 
   head_past : (role : Role) (s : Session) (f : Frame) (o : Option SyncError) → on_head role (past front s) f o ≡ past front (on_head role s f o)
   head_past role s f (Some shown) = refl

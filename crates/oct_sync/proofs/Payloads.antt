@@ -13,8 +13,8 @@ use Rattle.oct_delta.specs.declared.error.DeltaError.{DeltaError}
 use Rattle.oct_delta.specs.declared.error.DeltaError.TheVariants as errors
 use Rattle.oct_delta.proofs.Deltas.{Law, read_none}
 use Rattle.oct_ops.specs.Body.{Operation}
-use Rattle.oct_ops.specs.Operations.{Operations, set_of, union}
-use Rattle.oct_sync.specs.Session.{Phase, Session, Point, fed, on_due, on_delta}
+use Rattle.oct_ops.specs.Operations.{Operations, set_of}
+use Rattle.oct_sync.specs.Session.{Phase, Session, Point, fed, on_due, on_delta, taken_in}
 use Rattle.oct_sync.specs.SessionState.{IsCounted, IsDeltaFront, IsOpenPhase, kept_by, point}
 use Rattle.oct_sync.specs.Standing.{EndsDelta, IsLost, IsRest, ended}
 use Rattle.oct_sync.specs.declared.error.SyncError.TheVariants as fault
@@ -112,14 +112,14 @@ module _ (law : Law) (role : Role) (phase : Phase) (held : Operations) (sent r y
   abbrev before : Session
   before = record { phase = phase; held = held; sent = sent }
 
-  ends : (has : HasPayload head (r ++ y) missing) (o : Option (List Operation)) → read_delta has.payload ≡ o → fed role (point phase held sent r) y ≡ record { session = on_delta before o; rest = [] }
+  ends : (has : HasPayload head (r ++ y) missing) (o : Option (List Operation)) → read_delta has.payload ≡ o → fed role (point phase held sent r) y ≡ record { session = on_delta role before o; rest = [] }
   ends has o reads =
-      fed_whole role phase held sent r y (r ++ y) is_open refl (on_delta before o) (delta_whole phase head (r ++ y) missing known front has none)
-      ((λ i. on_due role before (record { tag = delta_tagged phase head (r ++ y) missing known front has i; payload = payload_is phase head (r ++ y) missing known front has i })) ∙ ap (on_delta before) reads)
+      fed_whole role phase held sent r y (r ++ y) is_open refl (on_delta role before o) (delta_whole phase head (r ++ y) missing known front has none)
+      ((λ i. on_due role before (record { tag = delta_tagged phase head (r ++ y) missing known front has i; payload = payload_is phase head (r ++ y) missing known front has i })) ∙ ap (on_delta role before) reads)
 
 pub end_ok : (law : Law) (role : Role) (phase : Phase) (held : Operations) (sent r y head : Bytes) (missing : ℕ) (known : Option Bytes) (ops : List Operation) → IsOpenPhase phase → IsDeltaFront phase head missing known → missing ≡ 0
     → IsRest (kept_by head missing known) (r ++ y) → IfSome known (λ bytes. IsDeltaText bytes ops) → (known ≡ None → ⊥)
-    → fed role (point phase held sent r) y ≡ record { session = record { phase = phase; held = union held (set_of ops); sent = sent }; rest = [] }
+    → fed role (point phase held sent r) y ≡ record { session = record { phase = phase; held = taken_in role held (set_of ops); sent = sent }; rest = [] }
 end_ok law role phase held sent r y head missing (Some bytes) ops is_open front none rest text some =
     ends law role phase held sent r y head missing (Some bytes) is_open front none (has_payload phase head (r ++ y) missing (Some bytes) front rest) (Some ops) ((law bytes ops front.counted.1).1 text)
 end_ok law role phase held sent r y head missing None ops is_open front none rest text some = absurd (some refl)

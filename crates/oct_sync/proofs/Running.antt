@@ -15,7 +15,7 @@ use Rattle.oct_sync.specs.declared.error.SyncError.{SyncError}
 use Rattle.oct_sync.specs.declared.error.SyncError.TheVariants as fault
 use Rattle.oct_sync.specs.declared.progress.Progress.TheVariants.{Done}
 use Rattle.oct_sync.specs.declared.role.Role.{Role}
-use Rattle.oct_sync.specs.declared.role.Role.TheVariants.{Client, ClientOfAll, Server}
+use Rattle.oct_sync.specs.declared.role.Role.TheVariants.{Client, ClientOfAll, Giver, Server}
 use Rattle.oct_sync.proofs.Cutting.{any_cutting}
 use Rattle.oct_sync.proofs.Owing.{past, fed_past}
 
@@ -33,6 +33,7 @@ pub record IsRunning (role : Role) (reader reader' writer writer' : Option Bytes
 started : (role : Role) (held : Operations) (owed : Bytes) → owed ≡ (begun role held).sent → IsAt role (at_start role) held owed (fed role (record { session = begun role held; rest = [] }) [])
 started Client held owed e = record { role_is = refl; session = ap (λ sent. record { phase = AwaitsClock; held = held; sent = sent }) (sym e); rest = refl }
 started ClientOfAll held owed e = record { role_is = refl; session = ap (λ sent. record { phase = AwaitsClock; held = held; sent = sent }) (sym e); rest = refl }
+started Giver held owed e = record { role_is = refl; session = ap (λ sent. record { phase = AwaitsClock; held = held; sent = sent }) (sym e); rest = refl }
 started Server held owed e = record { role_is = refl; session = ap (λ sent. record { phase = AwaitsClock; held = held; sent = sent }) (sym e); rest = refl }
 
 pub IsRunning-begun : (role : Role) (reader writer : Option Bytes) (held : Operations) (s : Option Standing) (none owed : Bytes) → s ≡ Some (at_start role) → none ≡ [] → owed ≡ none ++ (begun role held).sent → IsRunning role reader reader writer writer held s held owed

@@ -6,8 +6,6 @@ use Rattle.std.proofs.Math.Seq.{drop-append_seam}
 use Rattle.oct_delta.specs.Bytes.{IsBytes}
 use Rattle.oct_delta.specs.Text.{Bytes}
 use Rattle.oct_ops.specs.Operations.{Operations}
-use Rattle.oct_ops.specs.OrderLaws.{op_cmp_exact, op_cmp_total}
-use Rattle.oct_ops.specs.SetLaws.{union-empty}
 use Rattle.oct_sync.specs.Frames.{Frame, Split, delta_tag, length_field, tag_field, is_length, begins_whole, split_within, split_frames}
 use Rattle.oct_sync.specs.Session.{wanted_in as phase_wants}
 use Rattle.oct_sync.specs.Session.{wanted, Phase, AwaitsClock, AwaitsDeltas, AwaitsEnd, IsDone, HasFailed, Session, Point, failed_if, fed, head_fault, is_due, is_head, missing_bytes, on_due, on_frame, on_head, on_rest_in, on_split, rest_fault}
@@ -22,6 +20,7 @@ use Rattle.oct_sync.specs.declared.error.SyncError.{SyncError}
 use Rattle.oct_sync.specs.declared.error.SyncError.TheVariants as fault
 use Rattle.oct_sync.specs.declared.role.Role.{Role}
 use Rattle.oct_sync.proofs.Cutting.{IsOpen, open_fails, shown}
+use Rattle.oct_sync.proofs.Taking.{taken_none}
 use Rattle.oct_sync.proofs.Splitting.{whole_parts, parts_whole, step, with_first, split_is, field-append, tag-append}
 
 -- ---- open phases
@@ -256,7 +255,7 @@ front_short phase b front long =
 
 -- memory was refused before anything was done
 pub stops_here : (role : Role) (p : Point) (y : Bytes) (held : Operations) (sent : Bytes) → held ≡ p.session.held → sent ≡ p.session.sent → Stops role p y held sent
-stops_here role p y held sent same quiet = record { held_is = record { ops = []; count = 0; is = same ∙ sym (union-empty op_cmp_total op_cmp_exact p.session.held); whole = inl refl }; sent_is = quiet }
+stops_here role p y held sent same quiet = record { held_is = record { ops = []; count = 0; is = same ∙ sym (taken_none role p.session.held); whole = inl refl }; sent_is = quiet }
 
 pub known_point : (role : Role) (phase : Phase) (kept : Kept) (held : Operations) (sent : Bytes) (p : Point) → IsAt role (record { role = role; phase = phase; kept = kept }) held sent p → p ≡ point phase held sent p.rest
 known_point role phase kept held sent p at = λ i. record { session = at.session i; rest = p.rest }

@@ -4,18 +4,19 @@ use Rattle.std.specs.Io.KnownBytes.{Appends, Consumes, Keeps}
 use Rattle.oct_delta.specs.Text.{Bytes}
 use Rattle.oct_ops.specs.Operations.{Operations}
 use Rattle.written.specs.Output.{AppendsPrefix}
-use Rattle.oct_sync.specs.Session.{Phase, Session, HasFailed, IsDone, fed, new_client, new_client_of_all, new_server}
+use Rattle.oct_sync.specs.Session.{Phase, Session, HasFailed, IsDone, fed, new_client, new_client_of_all, new_giver, new_server}
 use Rattle.oct_sync.specs.SessionState.{IsOpenPhase}
 use Rattle.oct_sync.specs.Standing.{HasNotFailed, StopsShort}
 use Rattle.oct_sync.specs.declared.error.SyncError.{SyncError}
 use Rattle.oct_sync.specs.declared.error.SyncError.TheVariants as fault
 use Rattle.oct_sync.specs.declared.role.Role.{Role}
-use Rattle.oct_sync.specs.declared.role.Role.TheVariants.{Client, ClientOfAll, Server}
+use Rattle.oct_sync.specs.declared.role.Role.TheVariants.{Client, ClientOfAll, Giver, Server}
 
 -- a session of this role at its start
 abbrev pub begun : Role → Operations → Session
 begun Client held = new_client held
 begun ClientOfAll held = new_client_of_all held
+begun Giver held = new_giver held
 begun Server held = new_server held
 
 -- what it is once these bytes came
@@ -81,7 +82,7 @@ pub record IsUnbegun (reader reader' writer writer' : Option Bytes) (held held' 
   pub written : Keeps writer writer'
   pub held_is : held' ≡ held
 
--- These bytes were read, and memory was refused at one of them. What is held is what the frames before it make of it, with the first so many operations of its own, and a prefix of what they send was written.
+-- These bytes were read, and memory was refused at one of them. What is held is what the frames before it make of it, with the first so many operations of its own, where the role takes any in, and a prefix of what they send was written.
 pub record RunsOut (role : Role) (reader reader' writer writer' : Option Bytes) (held held' : Operations) : Type 0 where
   pub bytes : Bytes
   pub sent : Bytes

@@ -10,11 +10,12 @@ use Rattle.oct_record.specs.Valid.{AreValid}
 use Rattle.oct_sync.specs.Driven.{after}
 use Rattle.oct_sync.specs.Session.{IsDone, max_authors, said}
 use Rattle.oct_sync.specs.declared.role.Role.{Role}
-use Rattle.oct_sync.specs.declared.role.Role.TheVariants.{Client, ClientOfAll, Server}
+use Rattle.oct_sync.specs.declared.role.Role.TheVariants.{Client, ClientOfAll, Giver, Server}
 
 abbrev pub other_role : Role → Role
 other_role Client = Server
 other_role ClientOfAll = Server
+other_role Giver = Server
 other_role Server = Client
 
 -- the clock that is sent of a set: its first authors
@@ -25,21 +26,28 @@ sent_clock held = finmap.from_entries (take max_authors (entries (clock_of (list
 abbrev pub IsAnsweredBy : Operations → Role → Operations → Bytes → Type 0
 IsAnsweredBy others role held bytes = bytes ≡ (after (other_role role) others (after role held bytes).sent).sent
 
+-- a side that takes in what comes
+abbrev pub TakesIn : Role → Type 0
+TakesIn Client = Unit {0}
+TakesIn ClientOfAll = Unit {0}
+TakesIn Giver = ⊥
+TakesIn Server = Unit {0}
+
 -- the session is done, and what the clock that was sent does not cover came from the other side
 pub record TakesMissing (others : Operations) (role : Role) (held : Operations) (bytes : Bytes) : Type 0 where
   pub done : (after role held bytes).phase ≡ IsDone
   pub held_is : (after role held bytes).held ≡ union held (beyond others (sent_clock (said role held)))
 
 abbrev pub EachTakesMissing : Type 0
-EachTakesMissing = (others : Operations) (role : Role) (held : Operations) (bytes : Bytes) → AreValid others → AreValid held → IsAnsweredBy others role held bytes → TakesMissing others role held bytes
+EachTakesMissing = (others : Operations) (role : Role) (held : Operations) (bytes : Bytes) → TakesIn role → AreValid others → AreValid held → IsAnsweredBy others role held bytes → TakesMissing others role held bytes
 
 -- no dot has two contents
 abbrev pub HasNoForks : Operations → Type 0
 HasNoForks ops = (o p : Operation) → contains ops o ≡ true → contains ops p ≡ true → o.dot ≡ p.dot → o ≡ p
 
--- each side ends with all that both held
+-- each side that takes in what comes ends with all that both held
 abbrev pub EachHoldsAll : Type 0
-EachHoldsAll = (others : Operations) (role : Role) (held : Operations) (bytes : Bytes) → AreValid others → AreValid held → HasNoForks (union held others) →
+EachHoldsAll = (others : Operations) (role : Role) (held : Operations) (bytes : Bytes) → TakesIn role → AreValid others → AreValid held → HasNoForks (union held others) →
     IsAnsweredBy others role held bytes → (after role held bytes).held ≡ union held others
 
 -- whatever the two sides hold, there is such a session
@@ -66,3 +74,24 @@ BothEndWithAll = (client server : Operations) (to_client to_server : Bytes) → 
 -- whatever the two sides hold, there is such an exchange
 abbrev pub AllIsExchanged : Type 0
 AllIsExchanged = (client server : Operations) → AreValid client → AreValid server → (to_client : Bytes) × (to_server : Bytes) × IsExchangeOfAll client server to_client to_server
+
+-- ---- a side that gives
+
+-- the bytes that came to a giver and to its server: to each came what the other one sends, by what it held and what came to it
+pub record IsGift (giver server : Operations) (to_giver to_server : Bytes) : Type 0 where
+  pub to_giver_is : to_giver ≡ (after Server server to_server).sent
+  pub to_server_is : to_server ≡ (after Giver giver to_giver).sent
+
+-- the giver ends with what it held, and the server with that too which its clock did not cover
+abbrev pub ServerTakesMissing : Type 0
+ServerTakesMissing = (giver server : Operations) (to_giver to_server : Bytes) → AreValid giver → AreValid server → IsGift giver server to_giver to_server →
+    EndsWith giver Giver giver to_giver × EndsWith (union server (beyond giver (sent_clock server))) Server server to_server
+
+-- the server ends with all that either held
+abbrev pub ServerEndsWithAll : Type 0
+ServerEndsWithAll = (giver server : Operations) (to_giver to_server : Bytes) → AreValid giver → AreValid server → HasNoForks (union giver server) → IsGift giver server to_giver to_server →
+    EndsWith (union giver server) Server server to_server
+
+-- whatever the two sides hold, there is such an exchange
+abbrev pub GiftIsExchanged : Type 0
+GiftIsExchanged = (giver server : Operations) → AreValid giver → AreValid server → (to_giver : Bytes) × (to_server : Bytes) × IsGift giver server to_giver to_server

@@ -12,7 +12,7 @@ use Rattle.oct_sync.specs.Frames.{Frame, Split, frame_bytes, end_frame, delta_fr
 use Rattle.oct_sync.specs.declared.error.SyncError.{SyncError}
 use Rattle.oct_sync.specs.declared.error.SyncError.TheVariants as fault
 use Rattle.oct_sync.specs.declared.role.Role.{Role}
-use Rattle.oct_sync.specs.declared.role.Role.TheVariants.{Client, ClientOfAll, Server}
+use Rattle.oct_sync.specs.declared.role.Role.TheVariants.{Client, ClientOfAll, Giver, Server}
 
 -- which frames are due: a clock; deltas and an end, where the other side is answered as one with this clock; an end; or none
 pub data Phase : Type 0 where
@@ -45,6 +45,7 @@ empty_clock_frame = frame_bytes clock_tag (entries_bytes [])
 abbrev pub said : Role → Operations → Operations
 said Client held = held
 said ClientOfAll held = empty
+said Giver held = held
 said Server held = held
 
 -- the operations that a clock does not cover, and an end
@@ -71,15 +72,24 @@ abbrev pub on_clock : Role → Session → Option Clock → Session
 on_clock role s None = failed s fault.Clock
 on_clock Client s (Some t) = record s { phase = AwaitsDeltas t }
 on_clock ClientOfAll s (Some t) = record s { phase = AwaitsDeltas empty_clock }
+on_clock Giver s (Some t) = record s { phase = AwaitsDeltas t }
 on_clock Server s (Some t) = record s { phase = AwaitsDeltas t; sent = s.sent ++ clock_frame s.held ++ missing_frames s.held t }
 
-abbrev pub on_delta : Session → Option (List Operation) → Session
-on_delta s None = failed s fault.Delta
-on_delta s (Some ops) = record s { held = union s.held (set_of ops) }
+-- what a side holds once these came: a giver takes nothing in
+abbrev pub taken_in : Role → Operations → Operations → Operations
+taken_in Client held new = union held new
+taken_in ClientOfAll held new = union held new
+taken_in Giver held new = held
+taken_in Server held new = union held new
+
+abbrev pub on_delta : Role → Session → Option (List Operation) → Session
+on_delta role s None = failed s fault.Delta
+on_delta role s (Some ops) = record s { held = taken_in role s.held (set_of ops) }
 
 abbrev pub on_end : Role → Session → Phase → Session
 on_end Client s (AwaitsDeltas t) = record s { phase = AwaitsEnd; sent = s.sent ++ missing_frames s.held t }
 on_end ClientOfAll s (AwaitsDeltas t) = record s { phase = AwaitsEnd; sent = s.sent ++ missing_frames s.held t }
+on_end Giver s (AwaitsDeltas t) = record s { phase = AwaitsEnd; sent = s.sent ++ missing_frames s.held t }
 on_end Server s (AwaitsDeltas t) = record s { phase = IsDone; sent = s.sent ++ end_frame }
 on_end role s phase = record s { phase = IsDone }
 
@@ -87,7 +97,7 @@ abbrev pub on_due : Role → Session → Frame → Session
 on_due role s f =
     elim (f.tag == clock_tag) [
       | true ↦ on_clock role s (read_clock f.payload)
-      | false ↦ elim (f.tag == delta_tag) [ true ↦ on_delta s (read_delta f.payload) | false ↦ on_end role s s.phase ]
+      | false ↦ elim (f.tag == delta_tag) [ true ↦ on_delta role s (read_delta f.payload) | false ↦ on_end role s s.phase ]
     ]
 
 -- the fault that a frame's length and tag show
@@ -148,6 +158,9 @@ new_client held = record { phase = AwaitsClock; held = held; sent = clock_frame 
 
 abbrev pub new_client_of_all : Operations → Session
 new_client_of_all held = record { phase = AwaitsClock; held = held; sent = empty_clock_frame }
+
+abbrev pub new_giver : Operations → Session
+new_giver held = record { phase = AwaitsClock; held = held; sent = clock_frame held }
 
 abbrev pub new_server : Operations → Session
 new_server held = record { phase = AwaitsClock; held = held; sent = [] }

@@ -108,7 +108,7 @@ point phase held sent rest = record { session = record { phase = phase; held = h
 
 -- ---- what a step made of a point
 
--- memory was refused: nothing was sent, and of a delta the first so many operations are in
+-- memory was refused: nothing was sent, and of a delta the first so many operations are in, where the role takes any in
 pub record Stops (role : Role) (p : Point) (bytes : Bytes) (held : Operations) (sent : Bytes) : Type 0 where
   pub held_is : TakesFirst role p bytes held
   pub sent_is : sent ≡ p.session.sent

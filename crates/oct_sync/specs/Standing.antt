@@ -9,13 +9,13 @@ use Rattle.oct_delta.specs.ReaderState.{IsHopeless}
 use Rattle.oct_delta.specs.Text.{Bytes}
 use Rattle.oct_join.specs.Clock.{Clock, clock_code}
 use Rattle.oct_ops.specs.Body.{Operation}
-use Rattle.oct_ops.specs.Operations.{Operations, set_of, union}
+use Rattle.oct_ops.specs.Operations.{Operations, set_of}
 use Rattle.oct_sync.specs.Frames.{delta_tag, length_field, split_frames}
-use Rattle.oct_sync.specs.Session.{Phase, AwaitsClock, AwaitsDeltas, AwaitsEnd, IsDone, HasFailed, Session, Point, fed, wanted}
+use Rattle.oct_sync.specs.Session.{Phase, AwaitsClock, AwaitsDeltas, AwaitsEnd, IsDone, HasFailed, Session, Point, fed, taken_in, wanted}
 use Rattle.oct_sync.specs.declared.error.SyncError.{SyncError}
 use Rattle.oct_sync.specs.declared.error.SyncError.TheVariants as fault
 use Rattle.oct_sync.specs.declared.role.Role.{Role}
-use Rattle.oct_sync.specs.declared.role.Role.TheVariants.{Client, ClientOfAll, Server}
+use Rattle.oct_sync.specs.declared.role.Role.TheVariants.{Client, ClientOfAll, Giver, Server}
 use Rattle.oct_sync.specs.declared.progress.Progress.{Progress}
 use Rattle.oct_sync.specs.declared.progress.Progress.TheVariants.{More, Done}
 
@@ -88,21 +88,21 @@ StandsSound (Some s) = HasNotFailed s.phase
 abbrev pub ended : SyncError → Operations → Bytes → Session
 ended f held sent = record { phase = HasFailed f; held = held; sent = sent }
 
--- these bytes end a delta frame, and it takes in these operations, in the order of its payload
+-- these bytes end a delta frame of these operations, in the order of its payload, and what the role takes in of them is in
 pub record EndsDelta (role : Role) (p : Point) (bytes : Bytes) (ops : List Operation) : Type 0 where
   pub payload : Bytes
   pub frame : split_frames (p.rest ++ bytes) ≡ record { frames = record { tag = delta_tag; payload = payload } ∷ []; rest = [] }
   pub reads : read_delta payload ≡ Some ops
-  pub taken : (fed role p bytes).session.held ≡ union p.session.held (set_of ops)
+  pub taken : (fed role p bytes).session.held ≡ taken_in role p.session.held (set_of ops)
 
--- one set is the other with the first so many operations of a delta frame that these bytes end
+-- one set is the other with what the role takes in of the first so many operations of a delta frame that these bytes end: a giver's is as it was
 pub record TakesFirst (role : Role) (p : Point) (bytes : Bytes) (held : Operations) : Type 0 where
   pub ops : List Operation
   pub count : ℕ
-  pub is : held ≡ union p.session.held (set_of (take count ops))
+  pub is : held ≡ taken_in role p.session.held (set_of (take count ops))
   pub whole : (ops ≡ []) ⊎ EndsDelta role p bytes ops
 
--- Memory was refused at some of the bytes, which are of one frame that is due: the frames before it have done what they do. Its own frame sent nothing, and of its delta the first so many operations are in.
+-- Memory was refused at some of the bytes, which are of one frame that is due: the frames before it have done what they do. Its own frame sent nothing, and of its delta the first so many operations are in, where the role takes any in.
 pub record StopsShort (role : Role) (p : Point) (bytes : Bytes) (held : Operations) (sent : Bytes) : Type 0 where
   pub before : Bytes
   pub here : Bytes
@@ -128,14 +128,16 @@ Ends role p bytes e held sent = (fed role p bytes).session ≡ ended e held sent
 abbrev role_number : Role → ℕ
 role_number Client = 0
 role_number ClientOfAll = 1
-role_number Server = 2
+role_number Giver = 2
+role_number Server = 3
 
 abbrev number_role : ℕ → Role
-number_role n = if n == 0 then Client else if n == 1 then ClientOfAll else Server
+number_role n = if n == 0 then Client else if n == 1 then ClientOfAll else if n == 2 then Giver else Server
 
 pub number_role-number : (r : Role) → number_role (role_number r) ≡ r
 number_role-number Client = refl
 number_role-number ClientOfAll = refl
+number_role-number Giver = refl
 number_role-number Server = refl
 
 abbrev pub role_code : Coded Role

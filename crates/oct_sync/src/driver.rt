@@ -29,10 +29,12 @@ const MAX_READ: usize = 65_536;
 /// read failed, `Write` where a write or a flush failed or a write took no byte, and `Turns` where more than `MAX_READS`
 /// reads would be needed. None of these four is answered where the bytes that were read show a fault of a frame. What the
 /// peer holds then is what those bytes say, and what was written is a prefix of what the session sends. After `OutOfMemory`
-/// the same holds of the frames that were taken, with the first so many operations of the one that came. The peer's author stays.
+/// the same holds of the frames that were taken, with the first so many operations of the one that came, unless the peer
+/// gives. The peer's author stays.
 ///
 /// Where it is done and the bytes that were read are what the other side sends for those that were written, the peer holds
-/// what `laws::both_sides_hold_all` says.
+/// what `laws::both_sides_hold_all` says. A peer that gives stays as it was, whatever comes:
+/// `laws::giving_joins_the_server_alone`.
 pub fn drive<A: Allocator + Copy, P: Peer<A>, R: Read, W: Write>(
     alloc: A,
     role: Role,
@@ -128,6 +130,7 @@ fn begin<A: Allocator + Copy, P: Peer<A>>(
     match role {
         Role::Client => Session::client(alloc, peer, owed),
         Role::ClientOfAll => Session::client_of_all(alloc, owed),
+        Role::Giver => Session::giver(alloc, peer, owed),
         Role::Server => Ok(Session::server(alloc)),
     }
 }

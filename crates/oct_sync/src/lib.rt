@@ -12,6 +12,9 @@
 //! Clocks do not show where a number was used for two things. A client that sends all says by its clock that it has nothing,
 //! and sends back all that it holds then: so both sides come to one set there too.
 //!
+//! A giver speaks as a client does, and takes nothing in: what comes to it is read and dropped. So the server comes to what
+//! either held, and the giver stays as it was.
+//!
 //! Each frame is a length of four bytes, which counts what follows it, a tag of one byte and a payload. Bytes may come
 //! in pieces of any size: what a side holds and sends follows from the bytes alone, and not from how they were cut.
 //!
@@ -20,7 +23,7 @@
 //! - `drive` runs a session to its end over a reader and a writer; `converse` does so too, and leaves its last answer to the
 //!   caller.
 //! - `SyncError` says why a session ended early, and `laws` what holds of all sessions: bytes may be cut anywhere, and two
-//!   sides that answer each other both end with all that either held.
+//!   sides that answer each other both end with all that either held, or the server alone where the client gives.
 //!
 //! `specs/Frames` says what frames are and how operations are packed into them, `specs/Session` what each side does,
 //! `specs/Driven` what was read and written where a session was driven, and `specs/Exchange` what two sides come to.

@@ -1,11 +1,12 @@
 //! What the bytes of a frame do, as they come.
 
-ghost use Rattle.std.specs.Prelude.{◌≡◌, ◌≢◌, ◌⊎◌, ◌+◌, ◌≤◌, ◌<◌, ◌++◌, [], length, IfOk, IfErr, OnErr, IsErrOf};
+ghost use Rattle.std.specs.Prelude.{◌≡◌, ◌≢◌, ◌⊎◌, ◌+◌, ◌≤◌, ◌<◌, ◌++◌, ◌^◌, ℕ, [], length, take, IfOk, IfErr, OnOk, OnErr, IsErrOf};
 ghost use Rattle.oct_delta.specs.Clocks.{read_clock};
 ghost use Rattle.oct_delta.specs.Text.{Bytes};
+ghost use Rattle.oct_ops.specs.Operations.{IsRising, set_of};
 ghost use Rattle.oct_sync.specs.Frames.{clock_tag, end_tag, length_field, max_frame, tag_field};
 ghost use Rattle.oct_sync.specs.Session as session;
-ghost use Rattle.oct_sync.specs.Session.{Phase, Point, missing_bytes};
+ghost use Rattle.oct_sync.specs.Session.{Phase, Point, missing_bytes, taken_in};
 ghost use Rattle.oct_sync.specs.SessionState.{IsCounted, IsDeltaFront, IsOpenPhase, IsShort, IsSessionState, IsWholeFrame, Steps, kept_of, kept_of_delta, phase_of, point, standing_of, wanted_by};
 ghost use Rattle.oct_sync.specs.Standing.{Ends, IsAt, IsRest, Known, progress_in};
 
@@ -20,6 +21,7 @@ use crate::state::{Delta, Due, Incoming, SessionState};
 use oct_delta::laws::texts_are_read;
 use oct_delta::{ClockError, DeltaError, Reader, decode_clock};
 use oct_join::Clock;
+use oct_ops::Op;
 use std::alloc::{AllocError, Allocator};
 
 // Takes the other side's clock. A server answers it; a client that sends all does as if it covered nothing.
@@ -42,6 +44,7 @@ fn on_clock<A: Allocator + Copy, P: Peer<A>>(
     };
     match role {
         Role::Client => Ok(Due::Deltas(clock)),
+        Role::Giver => Ok(Due::Deltas(clock)),
         Role::ClientOfAll => Ok(Due::Deltas(Clock::new(alloc))),
         Role::Server => {
             send_answer(alloc, peer, &clock, out)?;
@@ -64,7 +67,7 @@ fn on_end<A: Allocator + Copy, P: Peer<A>>(
 {
     match due {
         Due::Deltas(clock) => match role {
-            Role::Client | Role::ClientOfAll => {
+            Role::Client | Role::ClientOfAll | Role::Giver => {
                 send_missing(alloc, peer, &clock, out)?;
                 Ok(Due::End)
             }
@@ -118,6 +121,24 @@ impl<A: Allocator + Copy> SessionState<A> {
     }
 }
 
+// Moves the operations into the peer, unless it gives. After a refusal the first so many are in, and no other.
+fn take_in<A: Allocator + Copy, P: Peer<A>>(
+    role: Role,
+    peer: &mut P,
+    ops: &mut Vec<Op<A>, A>,
+) -> Result<(), AllocError>
+    requires rises { IsRising ops.old.items }
+    requires few { length ops.old.items < 2 ^ 32 }
+    ensures ok { OnOk result (P.held peer.new ≡ taken_in role (P.held peer.old) (set_of ops.old.items)) }
+    ensures err { OnErr result ((count : ℕ) × (P.held peer.new ≡ taken_in role (P.held peer.old) (set_of (take count ops.old.items)))) }
+    ensures author { P.author peer.new ≡ P.author peer.old }
+{
+    match role {
+        Role::Client | Role::ClientOfAll | Role::Server => peer.take_ops(ops),
+        Role::Giver => Ok(()),
+    }
+}
+
 // Takes the delta in where its payload is whole.
 fn end_delta<A: Allocator + Copy, P: Peer<A>>(
     alloc: A,
@@ -144,7 +165,7 @@ fn end_delta<A: Allocator + Copy, P: Peer<A>>(
     match reader.finish() {
         Ok(list) => {
             let mut ops = list.into_vec();
-            match peer.take_ops(&mut ops) {
+            match take_in(role, peer, &mut ops) {
                 Ok(()) => Ok(SessionState::new(alloc, due)),
                 Err(_) => Err(SyncError::OutOfMemory),
             }

@@ -7,6 +7,8 @@ pub enum Role {
     Client,
     /// It speaks first, says that it has nothing, and sends all.
     ClientOfAll,
+    /// It speaks first, sends what the other side lacks, and takes nothing in.
+    Giver,
     /// It answers.
     Server,
 }

@@ -73,6 +73,22 @@ impl<A: Allocator + Copy> Session<A> {
         Ok(Session::begin(alloc, Role::ClientOfAll))
     }
 
+    /// The side that speaks first and gives: its clock frame is appended to `out`, which a refusal leaves as it was. It sends
+    /// what the other side's clock does not cover, and takes nothing in: the peer stays as it was. What comes is read all the
+    /// same, and is refused where another side would refuse it.
+    pub fn giver<P: Peer<A>>(
+        alloc: A,
+        peer: &P,
+        out: &mut Vec<u8, A>,
+    ) -> Result<Session<A>, AllocError>
+        ensures ok { IfOk result (λ session. session ≡ Some (at_start roles.Giver)) }
+        ensures sent { OnOk result (out.new.items ≡ out.old.items ++ clock_frame (P.held peer.now)) }
+        ensures err { OnErr result (out.new.items ≡ out.old.items) }
+    {
+        send_clock(peer, out)?;
+        Ok(Session::begin(alloc, Role::Giver))
+    }
+
     /// The side that answers. It takes no memory.
     pub fn server(alloc: A) -> Session<A>
         ensures { result ≡ Some (at_start roles.Server) }
@@ -91,10 +107,10 @@ impl<A: Allocator + Copy> Session<A> {
         }
     }
 
-    /// Takes the next bytes: takes the operations of whole delta frames into the peer, and appends what is to be sent to
-    /// `out`. The answer is the fault of the first frame that shows one, or of the first byte after the end. The frames
-    /// before it have done what they do; it appends nothing to `out`, and where its delta ran out of memory the first so many
-    /// of its operations are in the peer. From then on every call answers `Failed`.
+    /// Takes the next bytes: takes the operations of whole delta frames into the peer, unless the side gives, and appends what
+    /// is to be sent to `out`. The answer is the fault of the first frame that shows one, or of the first byte after the end.
+    /// The frames before it have done what they do; it appends nothing to `out`, and where its delta ran out of memory the
+    /// first so many of its operations are in the peer, unless the side gives. From then on every call answers `Failed`.
     pub fn feed<P: Peer<A>>(
         &mut self,
         peer: &mut P,

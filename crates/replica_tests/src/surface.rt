@@ -261,6 +261,13 @@ fn sessions(rt: HostRuntime) {
     let client: Result<Session<Global>, OutOfMemory> = Session::client(alloc, &replica, &mut out);
     let client = client.ok().expect(&rt, "a session");
     check_equal(&rt, client.wanted(), 5, "bytes that are wanted");
+    let mut greeting = Vec::new(alloc);
+    let giver: Result<Session<Global>, OutOfMemory> = Session::giver(
+        alloc,
+        &replica,
+        &mut greeting,
+    );
+    check(&rt, giver.is_ok(), "the session of a giver");
     let mut server: Session<Global> = Session::server(alloc);
     let mut answers = Vec::new(alloc);
     let fed: Result<Progress, SyncError> = server.feed(&mut replica, &out, &mut answers);

@@ -66,6 +66,15 @@ impl Side {
         side
     }
 
+    // The same client, which gives: to the server it is no other, and it takes nothing in.
+    fn giver(rt: &(impl Abort + AllocGlobal)) -> Side {
+        let mut side = Side::client(rt);
+        side.name = "the giver";
+        side.role = Role::Giver;
+        side.shows = NEXT_SHOWN;
+        side
+    }
+
     // The server with Kayles from heap 0 on, by author 1, to which comes what the client sends.
     fn server(rt: &(impl Abort + AllocGlobal)) -> Side {
         let client = Side::client(rt);
@@ -85,6 +94,7 @@ impl Side {
         match role {
             Role::Client => Side::client(rt),
             Role::ClientOfAll => Side::client_of_all(rt),
+            Role::Giver => Side::giver(rt),
             Role::Server => Side::server(rt),
         }
     }
@@ -119,6 +129,7 @@ fn empty_side(rt: &(impl Abort + AllocGlobal), role: Role) -> Side {
     let (name, frames) = match role {
         Role::Client => ("the empty client", [of_server, of_client]),
         Role::ClientOfAll => ("the empty client of all", [of_server, of_client]),
+        Role::Giver => ("the empty giver", [of_server, of_client]),
         Role::Server => ("the empty server", [of_client, of_server]),
     };
     Side::of(rt, role).with(name, bytes(rt, NOTHING), frames, NONE_SHOWN)
@@ -136,6 +147,24 @@ fn given_none(rt: &(impl Abort + AllocGlobal)) -> Side {
     let frames = [frame_bytes(rt, &comes), frame_bytes(rt, &sends)];
     Side::client(rt).with(
         "a client that gets none",
+        bytes(rt, NEXT),
+        frames,
+        NEXT_SHOWN,
+    )
+}
+
+// A giver to which comes what the clock before it does not cover. It sends none of it back.
+fn given_uncovered(rt: &(impl Abort + AllocGlobal)) -> Side {
+    let comes = [
+        Frame::Clock(&[]),
+        Frame::Delta(FIRST),
+        Frame::End,
+        Frame::End,
+    ];
+    let sends = [Frame::Clock(&[(2, 1)]), Frame::Delta(NEXT), Frame::End];
+    let frames = [frame_bytes(rt, &comes), frame_bytes(rt, &sends)];
+    Side::giver(rt).with(
+        "a giver that gets what no clock covers",
         bytes(rt, NEXT),
         frames,
         NEXT_SHOWN,
@@ -222,6 +251,7 @@ fn session_of<A: Allocator + Copy>(
     match role {
         Role::Client => Session::client(alloc, replica, out).ok(),
         Role::ClientOfAll => Session::client_of_all(alloc, out).ok(),
+        Role::Giver => Session::giver(alloc, replica, out).ok(),
         Role::Server => Some(Session::server(alloc)),
     }
 }
@@ -338,14 +368,19 @@ fn is_done<A: Allocator + Copy>(
 #[test]
 fn sides_exchange_what_they_lack(rt: HostRuntime) {
     let heap = Metered::new(rt.alloc());
-    for role in [Role::Client, Role::ClientOfAll, Role::Server] {
+    for role in [Role::Client, Role::ClientOfAll, Role::Giver, Role::Server] {
         for side in [Side::of(&rt, role), empty_side(&rt, role)] {
             for size in 1..=79usize {
                 is_done(&rt, &heap, &heap, &side, size);
             }
         }
     }
-    for side in [given_none(&rt), at_limit(&rt), forked(&rt)] {
+    for side in [
+        given_none(&rt),
+        given_uncovered(&rt),
+        at_limit(&rt),
+        forked(&rt),
+    ] {
         is_done(&rt, &heap, &heap, &side, usize::MAX);
     }
     for side in joined(&rt) {
@@ -409,6 +444,12 @@ const FAULTY: &[Faulty] = &[
         text: "00000005 01 00000000 00000009 02 4f474433 00000000",
         fault: SyncError::Delta,
     },
+    // A giver reads what it drops.
+    Faulty {
+        role: Role::Giver,
+        text: "00000005 01 00000000 00000009 02 4f474433 00000000",
+        fault: SyncError::Delta,
+    },
 ];
 
 // The side refuses the bytes so, and what comes then as `Failed`.
@@ -451,6 +492,14 @@ fn faulty_frames_are_refused(rt: HostRuntime) {
     }
 }
 
+// How many operations a side of the role holds in the end: its own, and what comes where it takes it in.
+fn held_by(role: Role) -> usize {
+    match role {
+        Role::Giver => 1,
+        Role::Client | Role::ClientOfAll | Role::Server => 2,
+    }
+}
+
 // Where memory was refused, the side sent all of some answers and nothing of the next, and holds what it held or what came
 // too.
 fn is_short_of_memory(
@@ -469,7 +518,7 @@ fn is_short_of_memory(
     );
     check(
         rt,
-        held <= 2,
+        held <= held_by(side.role),
         format_args!("{} holds {held} operations", side.name),
     );
 }
@@ -504,7 +553,7 @@ fn keeps_its_promise<A: Allocator + Copy>(
 #[test]
 fn each_request_for_memory_may_be_refused(rt: HostRuntime) {
     let heap = Metered::new(rt.alloc());
-    for role in [Role::Client, Role::ClientOfAll, Role::Server] {
+    for role in [Role::Client, Role::ClientOfAll, Role::Giver, Role::Server] {
         keeps_its_promise(&rt, &heap, &heap, &Side::of(&rt, role));
     }
 }

@@ -28,7 +28,7 @@ fn noted_side(rt: &(impl Abort + AllocGlobal), role: Role) -> Side {
     side.comes = frame_bytes(rt, &notes);
     side.shows = ALL_SHOWN;
     match role {
-        Role::Client | Role::ClientOfAll => {
+        Role::Client | Role::ClientOfAll | Role::Giver => {
             put(rt, &mut side.comes, "00000001 03");
             side.first = 9;
         }

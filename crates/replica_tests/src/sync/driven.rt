@@ -120,7 +120,7 @@ fn case_of(side: &Side, number: u32) -> Case<'_> {
     let mut source = source_of(side);
     let mut sink = sink_of(side);
     let reads = match side.role {
-        Role::Client | Role::ClientOfAll => 6,
+        Role::Client | Role::ClientOfAll | Role::Giver => 6,
         Role::Server => 5,
     };
     let answer = match number {
@@ -242,12 +242,13 @@ fn leaves_its_last_frame(rt: &(impl Abort + AllocGlobal), side: &Side, last: usi
 fn the_last_frame_is_left_to_the_caller(rt: HostRuntime) {
     leaves_its_last_frame(&rt, &Side::client(&rt), 0);
     leaves_its_last_frame(&rt, &Side::client_of_all(&rt), 0);
+    leaves_its_last_frame(&rt, &Side::giver(&rt), 0);
     leaves_its_last_frame(&rt, &Side::server(&rt), 5);
 }
 
 #[test]
 fn devices_may_be_slow_or_end_or_fail(rt: HostRuntime) {
-    for role in [Role::Client, Role::ClientOfAll, Role::Server] {
+    for role in [Role::Client, Role::ClientOfAll, Role::Giver, Role::Server] {
         let side = Side::of(&rt, role);
         for number in 0..92u32 {
             is_answered(&rt, &side, number);
@@ -281,16 +282,19 @@ fn drives_short<A: Allocator + Copy>(
 // answered is owed while it comes.
 fn is_cut_short(side: &Side, read: usize, written: usize, held: usize) -> bool {
     let (ends, owed) = match side.role {
-        Role::Client | Role::ClientOfAll if read == 0 => (10, 0),
-        Role::Client | Role::ClientOfAll if read < side.comes.len() => (10, side.first),
-        Role::Client | Role::ClientOfAll => (10, side.sends.len()),
         Role::Server if read <= 17 => (5, 0),
         Role::Server => (5, side.first),
+        Role::Client | Role::ClientOfAll | Role::Giver => match read {
+            0 => (10, 0),
+            _ if read < side.comes.len() => (10, side.first),
+            _ => (10, side.sends.len()),
+        },
     };
+    let all = held_by(side.role);
     let is_held = match read.saturating_add(ends).cmp(&side.comes.len()) {
         Ordering::Less => held == 1,
-        Ordering::Equal => held == 1 || held == 2,
-        Ordering::Greater => held == 2,
+        Ordering::Equal => held == 1 || held == all,
+        Ordering::Greater => held == all,
     };
     is_held && written == owed
 }
@@ -315,7 +319,8 @@ fn keeps_its_promise<A: Allocator + Copy>(
         let written = side.sends.len().saturating_sub(sink.expected.len());
         if answer == Ok(()) {
             check(rt, grants > 0, format_args!("{} took no memory", side.name));
-            check_equal(rt, (written, held), (side.sends.len(), 2), side.name);
+            let all = (side.sends.len(), held_by(side.role));
+            check_equal(rt, (written, held), all, side.name);
             return;
         }
         check_equal(rt, answer, Err(SyncError::OutOfMemory), side.name);
@@ -334,7 +339,7 @@ fn keeps_its_promise<A: Allocator + Copy>(
 #[test]
 fn a_driver_writes_nothing_more_where_memory_ends(rt: HostRuntime) {
     let heap = Metered::new(rt.alloc());
-    for role in [Role::Client, Role::ClientOfAll, Role::Server] {
+    for role in [Role::Client, Role::ClientOfAll, Role::Giver, Role::Server] {
         keeps_its_promise(&rt, &heap, &heap, &Side::of(&rt, role));
     }
 }
@@ -409,7 +414,7 @@ fn is_driven_between(rt: &(impl Abort + AllocGlobal), ends: &Ends, side: &Side) 
 #[test]
 fn sides_are_driven_over_the_loopback(rt: HostRuntime) {
     let ends = connect(&rt).ok().expect(&rt, "a connection");
-    for role in [Role::Client, Role::ClientOfAll, Role::Server] {
+    for role in [Role::Client, Role::ClientOfAll, Role::Giver, Role::Server] {
         is_driven_between(&rt, &ends, &Side::of(&rt, role));
     }
 }

@@ -6,6 +6,10 @@ pub returns-in-Client-clause-ok : goal.returns-in-Client-clause-ok
 returns-in-Client-clause-ok g c phase =
     λ i. on_clock (c.in-Client.is i) (record { phase = phase; held = g.P.Peer.held c.args.peer.now; sent = c.args.out.now.items }) (c.in-Ok.ensures.read i)
 
+pub returns-in-Giver-clause-ok : goal.returns-in-Giver-clause-ok
+returns-in-Giver-clause-ok g c phase =
+    λ i. on_clock (c.in-Giver.is i) (record { phase = phase; held = g.P.Peer.held c.args.peer.now; sent = c.args.out.now.items }) (c.in-Ok.ensures.read i)
+
 pub returns-in_ok-send_answer-in-Server-clause-ok : goal.returns-in_ok-send_answer-in-Server-clause-ok
 returns-in_ok-send_answer-in-Server-clause-ok g c phase =
     let held = g.P.Peer.held c.args.peer.now in
