@@ -17,7 +17,7 @@ unseen_words c values = code_text c ++ labelled (codes " no period seen in ") va
 abbrev pub sought_words : Code → Sought → Text
 sought_words c (Least seen values) = period_words c seen values
 sought_words c (Unshown values) = vain_words c values
-sought_words c (Unseen values) = unseen_words c values
+sought_words c (Unseen values listed) = unseen_words c values
 
 -- the line says where the search was taken up again
 abbrev pub line_end : Bool → Text
@@ -31,7 +31,7 @@ sought_line resumed c sought = sought_words c sought ++ line_end resumed
 abbrev pub sought_members : Code → Sought → Text
 sought_members c (Least seen values) = period_members c seen ++ labelled (codes ",\"values\":") values
 sought_members c (Unshown values) = labelled (codes "\",\"period\":null,\"values\":") values
-sought_members c (Unseen values) = labelled (codes "\",\"period\":null,\"values\":") values ++ codes ",\"unseen\":true"
+sought_members c (Unseen values listed) = labelled (codes "\",\"period\":null,\"values\":") values ++ codes ",\"unseen\":true"
 
 abbrev pub object_end : Bool → Text
 object_end true = codes ",\"saved\":true}\n"
@@ -49,4 +49,4 @@ sought_text Json = sought_object
 abbrev pub IsWritable : Sought → Type 0
 IsWritable (Least seen values) = seen.start + seen.period ≤ 2 ^ 60
 IsWritable (Unshown values) = Unit {0}
-IsWritable (Unseen values) = Unit {0}
+IsWritable (Unseen values listed) = Unit {0}

@@ -62,7 +62,7 @@ fn append_words(text: &mut Vec<u8>, code: Code, sought: Sought) -> Result<(), Al
     match sought {
         Sought::Least(seen, values) => append_period_words(text, code, seen, values),
         Sought::Unshown(values) => append_vain_words(text, code, values as u64),
-        Sought::Unseen(values) => append_unseen_words(text, code, values),
+        Sought::Unseen(values, _) => append_unseen_words(text, code, values),
     }
 }
 
@@ -117,7 +117,7 @@ fn append_members(text: &mut Vec<u8>, code: Code, sought: Sought) -> Result<(), 
         Sought::Unshown(values) => {
             append_labelled(text, b"\",\"period\":null,\"values\":", values)
         }
-        Sought::Unseen(values) => {
+        Sought::Unseen(values, _) => {
             append_labelled(text, b"\",\"period\":null,\"values\":", values)?;
             append_text(text, b",\"unseen\":true")
         }

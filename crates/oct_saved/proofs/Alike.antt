@@ -10,8 +10,8 @@ use Rattle.oct_mex.specs.declared.mask.Mask.{Mask}
 use Rattle.oct_window.specs.Comparisons.{IsRight}
 use Rattle.oct_window.specs.Places.{farthest, IsKept, IsSeen, IsStaged, IsStageOf, IsWatchedIn, marked}
 use Rattle.oct_window.specs.Repeats.{IsRepeat}
-use Rattle.oct_window.specs.Watched.{AreMarked}
-use Rattle.oct_window.specs.Windows.{IsKnown, IsShaped}
+use Rattle.oct_window.specs.Watched.{AreMarked, IsMarkAt}
+use Rattle.oct_window.specs.Windows.{IsKnown, IsShaped, reach_behind}
 use Rattle.oct_window.specs.declared.place.Place.{Place}
 use Rattle.oct_window.specs.declared.place.Seen.{Seen}
 use Rattle.oct_window.specs.declared.place.Stage.{Stage}
@@ -59,8 +59,14 @@ marked_moved c d m k r s a b n o xs ys code mask reach at count mark is =
     (subst (λ (x : Mask). AreMarked d x r a n xs) mask
     (subst (λ (x : Code). AreMarked x m r a n xs) code is)))))
 
-watched_alike : {A B : Type 0} (c d : Code) (v : Watch A) (w : Watch B) → SameWatch v w → c ≡ d → w.window.code ≡ d → IsWatchedIn c v → IsWatchedIn d w
-watched_alike c d v w same both coded is =
+mark_moved : (l m a b n o : ℕ) → l ≡ m → a ≡ b → n ≡ o → IsMarkAt l a n → IsMarkAt m b o
+mark_moved l m a b n o listed at count is = subst (λ (x : ℕ). IsMarkAt m b x) count (subst (λ (x : ℕ). IsMarkAt m x n) at (subst (λ (x : ℕ). IsMarkAt x a n) listed is))
+
+reach_moved : (c d : Code) (l m r s : ℕ) → c ≡ d → l ≡ m → r ≡ s → r ≡ reach_behind c l → s ≡ reach_behind d m
+reach_moved c d l m r s code listed reach is = sym reach ∙ (is ∙ (ap (λ (x : Code). reach_behind x l) code ∙ ap (λ (x : ℕ). reach_behind d x) listed))
+
+watched_alike : {A B : Type 0} (c d : Code) (l m : ℕ) (v : Watch A) (w : Watch B) → SameWatch v w → c ≡ d → l ≡ m → w.window.code ≡ d → IsWatchedIn c l v → IsWatchedIn d m w
+watched_alike c d l m v w same both listed coded is =
     let code : v.window.code ≡ w.window.code = is.code ∙ both ∙ sym coded in
     let s = same.window.scalars in
     record {
@@ -70,6 +76,8 @@ watched_alike c d v w same both coded is =
             code s.mask s.reach same.at s.count same.mark is.watched.marked;
       };
       code = coded;
+      reach = reach_moved c d l m v.window.reach w.window.reach both listed s.reach is.reach;
+      marked = mark_moved l m v.at w.at v.window.count w.window.count listed same.at s.count is.marked;
     }
 
 right_alike : {A B : Type 0} (c d : Code) (v : Reader A) (w : Reader B) → SameReader v w → c ≡ d → w.window.code ≡ d → IsRight c v → IsRight d w
@@ -106,11 +114,11 @@ seen_alike c d v w same both coded is =
       };
     }
 
-stage_alike : {A B : Type 0} (c d : Code) (v : Stage A) (w : Stage B) → SameStage v w → c ≡ d → IsCodedStage d w → IsStageOf c v → IsStageOf d w
-stage_alike c d (Watching v) (Watching w) same both coded is = watched_alike c d v w same both coded is
-stage_alike c d (Watching v) (Comparing w) same both coded is = absurd same
-stage_alike c d (Comparing v) (Watching w) same both coded is = absurd same
-stage_alike c d (Comparing v) (Comparing w) same both coded is = seen_alike c d v w same both coded is
+stage_alike : {A B : Type 0} (c d : Code) (l m : ℕ) (v : Stage A) (w : Stage B) → SameStage v w → c ≡ d → l ≡ m → IsCodedStage d w → IsStageOf c l v → IsStageOf d m w
+stage_alike c d l m (Watching v) (Watching w) same both listed coded is = watched_alike c d l m v w same both listed coded is
+stage_alike c d l m (Watching v) (Comparing w) same both listed coded is = absurd same
+stage_alike c d l m (Comparing v) (Watching w) same both listed coded is = absurd same
+stage_alike c d l m (Comparing v) (Comparing w) same both listed coded is = seen_alike c d v w same both coded is
 
 farthest_alike : {A B : Type 0} (v : Stage A) (w : Stage B) → SameStage v w → farthest v ≡ farthest w
 farthest_alike (Watching v) (Watching w) same = same.window.scalars.count
@@ -123,7 +131,7 @@ places_alike p q same coded = record {
   code = same.code;
   listed = same.listed;
   farthest = farthest_alike p.stage q.stage same.stage;
-  right = stage_alike p.code q.code p.stage q.stage same.stage same.code coded;
+  right = stage_alike p.code q.code p.listed q.listed p.stage q.stage same.stage same.code same.listed coded;
 }
 
 -- ---- what fits together

@@ -4,7 +4,8 @@ use Rattle.oct_code.specs.Code.{Code}
 use Rattle.oct_window.specs.Comparisons.{IsCompared, IsPaired}
 use Rattle.oct_window.specs.Repeats.{IsRepeat}
 use Rattle.oct_window.specs.Seeking.{IsSought, IsTold}
-use Rattle.oct_window.specs.Watched.{IsWatchable, IsWatched}
+use Rattle.oct_window.specs.Watched.{IsMarkAt, IsWatchable, IsWatched}
+use Rattle.oct_window.specs.Windows.{reach_behind}
 use Rattle.oct_window.specs.declared.comparison.Comparison.{Comparison}
 use Rattle.oct_window.specs.declared.place.Place.{Place}
 use Rattle.oct_window.specs.declared.place.Seen.{Seen}
@@ -69,23 +70,25 @@ pub record IsKept {A : Type 0} (p : Place A) : Type 0 where
 
 -- ---- what is so of the game
 
--- a watch that is right, in the game of the code
-pub record IsWatchedIn {A : Type 0} (c : Code) (w : Watch A) : Type 0 where
+-- a watch that is right, in the game of the code, and began behind so many first values: so it has the reach and the mark of one that did
+pub record IsWatchedIn {A : Type 0} (c : Code) (listed : ℕ) (w : Watch A) : Type 0 where
   pub watched : IsWatched w
   pub code : w.window.code ≡ c
+  pub reach : w.window.reach ≡ reach_behind c listed
+  pub marked : IsMarkAt listed w.at w.window.count
 
 -- a period that holds for every heap, no shorter one does, and the comparison is right
 pub record IsSeen {A : Type 0} (c : Code) (s : Seen A) : Type 0 where
   pub repeats : IsRepeat c (record { start = s.start; period = s.comparison.period })
   pub compared : IsCompared c s.comparison
 
-abbrev pub IsStageOf : {A : Type 0} → Code → Stage A → Type 0
-IsStageOf c (Watching w) = IsWatchedIn c w
-IsStageOf c (Comparing s) = IsSeen c s
+abbrev pub IsStageOf : {A : Type 0} → Code → ℕ → Stage A → Type 0
+IsStageOf c listed (Watching w) = IsWatchedIn c listed w
+IsStageOf c listed (Comparing s) = IsSeen c s
 
 -- what a place has is so of its game
 abbrev pub IsRightPlace : {A : Type 0} → Place A → Type 0
-IsRightPlace p = IsStageOf p.code p.stage
+IsRightPlace p = IsStageOf p.code p.listed p.stage
 
 -- ---- steps
 

@@ -2,9 +2,11 @@
 use Rattle.std.specs.Prelude.{◌≡◌, ℕ, Bool, IsTrue, ◌+◌, ◌-◌, ◌*◌, ◌^◌, ◌<◌, ◌≤◌, min}
 use Rattle.oct_code.specs.Code.{Code}
 use Rattle.oct_mex.specs.NimValues.{nim_value}
-use Rattle.oct_mex.specs.Periods.{IsPeriodicWithin, NoneIsShown}
+use Rattle.oct_mex.specs.Periods.{IsPeriodicFrom, IsPeriodicWithin, NoneIsShown}
 use Rattle.oct_mex.specs.Windows.{window}
 use Rattle.oct_window.specs.Repeats.{IsLeastPeriod}
+use Rattle.oct_window.specs.Watched.{IsMarkAt}
+use Rattle.oct_window.specs.Windows.{reach_behind}
 use Rattle.oct_window.specs.declared.seeking.SeekError.{SeekError}
 use Rattle.oct_window.specs.declared.seeking.SeekError.TheVariants.{OutOfMemory, PastValue, Unkept}
 use Rattle.oct_mex.specs.declared.period.SeenPeriod.{SeenPeriod}
@@ -14,13 +16,17 @@ use Rattle.oct_window.specs.declared.seeking.Tried.TheVariants.{Done, Lost}
 use Rattle.oct_window.specs.declared.sought.Sought.{Sought}
 use Rattle.oct_window.specs.declared.sought.Sought.TheVariants.{Least, Unshown, Unseen}
 
--- the values before some heap, which is at least half of `count` and below it, do not come again before `count`
-pub record NoneIsSeen (c : Code) (count : ℕ) : Type 0 where
-  pub reach : ℕ
+-- the values before the mark of a watch that began behind so many first values do not come again before `count`
+pub record NoneIsSeen (c : Code) (listed count : ℕ) : Type 0 where
   pub at : ℕ
-  pub late : count ≤ 2 * at
+  pub marked : IsMarkAt listed at count
   pub behind : at < count
-  pub none : (n : ℕ) → at < n → n ≤ count → IsPeriodicWithin c (at - window c reach) (n - at) at → ⊥
+  pub none : (n : ℕ) → at < n → n ≤ count → IsPeriodicWithin c (at - window c (reach_behind c listed)) (n - at) at → ⊥
+
+-- so a period is seen that holds from a window before the mark on, and ends behind it
+abbrev pub MarkedPeriodsAreSeen : Type 0
+MarkedPeriodsAreSeen = (c : Code) (listed at count start period : ℕ) → IsMarkAt listed at count → 1 ≤ period → start + window c (reach_behind c listed) ≤ at → at + period ≤ count
+    → IsPeriodicFrom c start period → NoneIsSeen c listed count → ⊥
 
 -- the least period of the game, from its least heap on, which so many nim-values show
 pub record IsLeastOf (c : Code) (count : ℕ) (seen : SeenPeriod) (values : ℕ) : Type 0 where
@@ -28,17 +34,17 @@ pub record IsLeastOf (c : Code) (count : ℕ) (seen : SeenPeriod) (values : ℕ)
   pub within : seen.start + seen.period ≤ values
   pub few : values ≤ count
 
--- at most `count` nim-values show the game's least period; or all of them, as far as they are listed, prove none; or in all of them the last marked window does not come again
+-- at most `count` nim-values show the game's least period; or all of them, as far as they are listed, prove none; or in all of them the marked window does not come again that a watch has behind so many first ones
 abbrev pub IsSought : Code → ℕ → Sought → Type 0
 IsSought c count (Least seen values) = IsLeastOf c count seen values
 IsSought c count (Unshown values) = (values ≡ min count MOST_LISTED) × NoneIsShown c values values
-IsSought c count (Unseen values) = (values ≡ count) × NoneIsSeen c count
+IsSought c count (Unseen values listed) = (values ≡ count) × NoneIsSeen c listed count
 
 -- the numbers are those of at most `count` values, whatever is so of the game
 abbrev pub IsTold : ℕ → Sought → Type 0
 IsTold count (Least seen values) = (seen.start + seen.period ≤ values) × (values ≤ count)
 IsTold count (Unshown values) = values ≤ count
-IsTold count (Unseen values) = values ≡ count
+IsTold count (Unseen values listed) = (values ≡ count) × (listed < values)
 
 -- the nim-value of some heap below `count` is above 65,535
 pub record IsPast (c : Code) (count : ℕ) : Type 0 where

@@ -1,5 +1,5 @@
 -- A watch over a window.
-use Rattle.std.specs.Prelude.{◌≡◌, ℕ, ◌+◌, ◌-◌, ◌*◌, ◌<◌, ◌≤◌, List, slice_index}
+use Rattle.std.specs.Prelude.{◌≡◌, ℕ, ◌+◌, ◌-◌, ◌*◌, ◌^◌, ◌<◌, ◌≤◌, nat_lt, if◌then◌else◌, List, slice_index}
 use Rattle.std.specs.Vec.{vec_len}
 use Rattle.oct_code.specs.Code.{Code}
 use Rattle.oct_mex.specs.NimValues.{nim_value}
@@ -16,6 +16,21 @@ use Rattle.oct_window.specs.declared.watch.Watch.{Watch}
 -- how many values are marked
 abbrev pub width : {A : Type 0} → Watch A → ℕ
 width w = window w.window.code w.window.reach
+
+-- where values are marked before the next one is added: anew only where the window has gone as far again
+abbrev pub mark_after : ℕ → ℕ → ℕ
+mark_after at count = if nat_lt count (2 * at) then at else count
+
+-- the mark of a watch that begins at the heap `first`, and has so many values: that heap, doubled as often as it stays below them
+pub record IsMarkAt (first at count : ℕ) : Type 0 where
+  pub times : ℕ
+  pub doubled : at ≡ first * 2 ^ times
+  pub late : count ≤ 2 * at
+  pub behind : 1 ≤ times → at < count
+
+-- there is one such mark
+abbrev pub MarksAreOne : Type 0
+MarksAreOne = (first at other count : ℕ) → IsMarkAt first at count → IsMarkAt first other count → at ≡ other
 
 -- its parts fit together, whatever values it has
 pub record IsWatchable {A : Type 0} (w : Watch A) : Type 0 where

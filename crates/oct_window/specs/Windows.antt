@@ -1,8 +1,8 @@
 -- A window of the nim-values of a game.
-use Rattle.std.specs.Prelude.{◌≡◌, ℕ, ◌+◌, ◌^◌, ◌<◌, ◌≤◌, false}
+use Rattle.std.specs.Prelude.{◌≡◌, ℕ, ◌+◌, ◌-◌, ◌/◌, ◌^◌, ◌<◌, ◌≤◌, false}
 use Rattle.std.specs.List.{Contains}
 use Rattle.std.specs.Vec.{vec_len, vec_capacity}
-use Rattle.oct_code.specs.Code.{Code}
+use Rattle.oct_code.specs.Code.{Code, len}
 use Rattle.oct_mex.specs.Marks.{IsTableFor}
 use Rattle.oct_mex.specs.NimValues.{nim_value}
 use Rattle.oct_mex.specs.Rare.{AreBeside, is_rare, IsFit, ListsRare}
@@ -35,9 +35,14 @@ pub record IsSameGame {A : Type 0} (v w : Window A) : Type 0 where
   pub mask : w.rare.mask ≡ v.rare.mask
   pub reach : w.reach ≡ v.reach
 
+-- the reach of a window that begins behind so many first values: half of them, but for those that the digits take
+abbrev pub reach_behind : Code → ℕ → ℕ
+reach_behind c values = (values - (len c + 2)) / 2
+
 -- it begins behind the first values of a game, and is right
 pub record IsBegun {A : Type 0} (c : Code) (values : ℕ) (w : Window A) : Type 0 where
   pub shaped : IsShaped w
   pub known : IsKnown w
   pub code : w.code ≡ c
   pub count : w.count ≡ values
+  pub reach : w.reach ≡ reach_behind c values

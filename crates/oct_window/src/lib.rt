@@ -10,7 +10,7 @@
 //! - `seek` lists first values, and watches a window behind them until its values come again.
 //! - How far it is is a `Place`, from which `Place::step` goes on by some values. A `Keeper` is given each place that the
 //!   search comes to, and `resume` takes the search up again at one.
-//! - A `Watch` marks the last values of a `Window`, anew where it has gone as far again. Where they come again, all that
+//! - A `Watch` marks the last values of a `Window`, anew only where it has gone as far again. Where they come again, all that
 //!   follow do (`oct_mex::laws::settled_runs_hold`), and no shorter period holds.
 //! - A `Comparison` of two windows, one a period ahead of the other, finds the least heap from which on the period holds.
 //! - `Progress` is told how far a search is.

@@ -9,6 +9,6 @@ pub enum Sought {
     Least(SeenPeriod, usize),
     /// They prove no period by themselves.
     Unshown(usize),
-    /// No window of them that was marked came again.
-    Unseen(usize),
+    /// The window of them that was marked did not come again, behind so many first ones that are listed.
+    Unseen(usize, usize),
 }

@@ -69,7 +69,7 @@ fn watch_on<A: Allocator + Copy>(
     requires limited { count ≤ FARTHEST }
     requires marks { MARKS ≤ length marks.old }
     ensures step { IfOk result (IsStep count (record { code = code; listed = vec_len row.now.values; stage = Watching watch })) }
-    ensures right { IsWatchedIn code watch → IfOk result (IsRightStep code count) }
+    ensures right { IsWatchedIn code (vec_len row.now.values) watch → IfOk result (IsRightStep code count) }
     ensures marks { length marks.new ≡ length marks.old }
 {
     let mut watch = watch;
@@ -86,7 +86,7 @@ fn watch_on<A: Allocator + Copy>(
             if end < count {
                 Ok(Stepped::On(place))
             } else {
-                Ok(Stepped::Over(Sought::Unseen(count), place))
+                Ok(Stepped::Over(Sought::Unseen(count, row.values.len()), place))
             }
         }
     }

@@ -1,7 +1,7 @@
 //! A window that is watched until its values come again.
 
-ghost use Rattle.std.specs.Prelude.{◌≡◌, ◌+◌, ◌*◌, ◌<◌, ◌≤◌, length, max, IfOk, OnErr, OnOk};
-ghost use Rattle.oct_window.specs.Watched.{count_after, IsStepped, IsWatchable, IsWatched, seen_of};
+ghost use Rattle.std.specs.Prelude.{◌≡◌, ◌+◌, ◌*◌, ◌<◌, ◌≤◌, ℕ, length, max, IfOk, OnErr, OnOk};
+ghost use Rattle.oct_window.specs.Watched.{count_after, IsMarkAt, IsStepped, IsWatchable, IsWatched, mark_after, seen_of};
 ghost use Rattle.oct_window.specs.declared.watch.Step.TheVariants.{Again, On};
 ghost use Rattle.oct_mex.specs.Windows.{window as width};
 ghost use Rattle.oct_window.specs.Windows.{IsKnown, IsSameGame, IsShaped};
@@ -39,6 +39,7 @@ impl<A: Allocator + Copy> Watch<A> {
         ensures watched { IsKnown window → IfOk result IsWatched }
         ensures window { IfOk result (λ watch. watch.window ≡ window) }
         ensures at { IfOk result (λ watch. watch.at ≡ window.count) }
+        ensures marked { (first : ℕ) → first ≡ window.count → IfOk result (λ watch. IsMarkAt first watch.at watch.window.count) }
     {
         let mark = window.copy_last(alloc)?;
         let at = window.count;
@@ -67,6 +68,7 @@ impl<A: Allocator + Copy> Watch<A> {
         ensures same { IsSameGame self.old.window self.new.window }
         ensures count { self.old.window.count ≤ self.new.window.count }
         ensures next { IfOk result (λ step. self.new.window.count ≡ count_after step self.old.window.count) }
+        ensures mark { OnOk result (self.new.at ≡ mark_after self.old.at self.old.window.count) }
         ensures behind { IfOk result (λ step. step ≡ On → self.new.at < self.new.window.count) }
         ensures marks { length marks.new ≡ length marks.old }
         ensures err { OnErr result (self.new ≡ self.old) }
@@ -90,6 +92,7 @@ impl<A: Allocator + Copy> Watch<A> {
         ensures again { IfOk result (λ step. step ≡ Again → self.old.window.count < self.new.window.count) }
         ensures reached { IfOk result (λ step. step ≡ On → self.new.window.count ≡ max end self.old.window.count) }
         ensures behind { IfOk result (λ step. step ≡ On → self.old.window.count < end → self.new.at < self.new.window.count) }
+        ensures marked { (first : ℕ) → IsMarkAt first self.old.at self.old.window.count → IfOk result (λ step. step ≡ On → IsMarkAt first self.new.at self.new.window.count) }
         ensures marks { length marks.new ≡ length marks.old }
         ensures stepped { IsWatched self.old → IfOk result (IsStepped self.new) }
     {
@@ -107,6 +110,7 @@ impl<A: Allocator + Copy> Watch<A> {
         requires { IsWatchable self.old }
         ensures watchable { IsWatchable self.new }
         ensures window { self.new.window ≡ self.old.window }
+        ensures mark { OnOk result (self.new.at ≡ mark_after self.old.at self.old.window.count) }
         ensures fresh { OnOk result (self.new.window.count < 2 * self.new.at) }
         ensures err { OnErr result (self.new ≡ self.old) }
         ensures watched { IsWatched self.old → IsWatched self.new }
@@ -127,6 +131,7 @@ impl<A: Allocator + Copy> Watch<A> {
         ensures watchable { IsWatchable self.new }
         ensures same { IsSameGame self.old.window self.new.window }
         ensures next { self.new.window.count ≡ count_after result self.old.window.count }
+        ensures mark { self.new.at ≡ self.old.at }
         ensures behind { result ≡ On → self.new.at < self.new.window.count }
         ensures marks { length marks.new ≡ length marks.old }
         ensures stepped { IsWatched self.old → IsStepped self.new result }

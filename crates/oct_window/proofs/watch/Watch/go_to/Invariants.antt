@@ -1,5 +1,5 @@
-use Rattle.std.proofs.Common.{◌≡◌, ◌-◌, ◌<◌, ◌≤◌, length, max}
-use Rattle.oct_window.specs.Watched.{IsWatchable, IsWatched}
+use Rattle.std.proofs.Common.{◌≡◌, ℕ, ◌-◌, ◌<◌, ◌≤◌, length, max}
+use Rattle.oct_window.specs.Watched.{IsMarkAt, IsWatchable, IsWatched}
 use Rattle.oct_window.specs.Windows.{IsSameGame}
 use Rattle.oct_window.proofs.watch.Watch.go_to.Given as goal
 
@@ -11,6 +11,7 @@ invariant-loop-self g l = record {
   marks : length l.marks ≡ length l.fn.marks;
   watched : IsWatched l.fn.self → IsWatched l.self;
   behind : l.fn.self.window.count < l.self.window.count → l.self.at < l.self.window.count;
+  marked : (first : ℕ) → IsMarkAt first l.fn.self.at l.fn.self.window.count → IsMarkAt first l.self.at l.self.window.count;
   still : l.self.window.count ≡ l.fn.self.window.count → l.self ≡ l.fn.self;
   least : l.fn.self.window.count ≤ l.self.window.count;
 }

@@ -52,4 +52,5 @@ returns g c =
       };
       code = refl;
       count = c.len-count.ensures;
+      reach = omega (arith, c.saturating_sub-reach.ensures, c.len.ensures.value, c.len-count.ensures);
     }
