@@ -3,7 +3,7 @@ use Rattle.std.specs.Prelude.{◌≡◌, ℕ, Bool, true, IsTrue, ◌&&◌, nat_
 use Rattle.oct_code.specs.Code.{Code}
 use Rattle.oct_text.specs.Words.{Text}
 use Rattle.oct_text.specs.declared.form.Form.{Form}
-use Rattle.oct_window.specs.Seeking.{IsPast, IsSought, IsTold}
+use Rattle.oct_window.specs.Seeking.{IsAsFarAs, IsPast, IsSought, IsTold}
 use Rattle.oct_window.specs.declared.sought.Sought.{Sought}
 use Rattle.census_search.specs.SoughtTexts.{sought_text}
 use Rattle.census_state.specs.declared.fault.Fault.{Fault}
@@ -20,10 +20,11 @@ pub record IsSoughtText (form : Form) (resumed : Bool) (c : Code) (count : ℕ) 
   pub shown : IsSought c count sought
   pub is : text ≡ sought_text form resumed c sought
 
--- the text says something of at most `count` nim-values, and that the search was taken up again
-pub record IsResumedText (form : Form) (c : Code) (count : ℕ) (text : Text) : Type 0 where
+-- the text says something of at most `count` nim-values, as far as so many that were computed before, and that the search was taken up again
+pub record IsResumedText (form : Form) (c : Code) (count computed : ℕ) (text : Text) : Type 0 where
   pub sought : Sought
   pub told : IsTold count sought
+  pub far : IsAsFarAs computed sought
   pub is : text ≡ sought_text form true c sought
 
 -- the fault is `File` only where a place of the search may not be kept

@@ -51,7 +51,7 @@ pub fn resume_in_windows<K: Keeper<Global>>(
 ) -> Result<Vec<u8>, Fault>
     requires { IsKept place }
     ensures ok { IsRightPlace place → IfOk result (λ text. IsSoughtText form true place.code (max count (farthest place.stage)) text.items) }
-    ensures told { IfOk result (λ text. IsResumedText form place.code (max count (farthest place.stage)) text.items) }
+    ensures told { IfOk result (λ text. IsResumedText form place.code (max count (farthest place.stage)) (farthest place.stage) text.items) }
     ensures err { IfErr result (IsResumeFault K.may_refuse place.code count (farthest place.stage)) }
     ensures number { IfErr (windowable count) (λ e. result ≡ Err e) }
 {

@@ -103,11 +103,12 @@ pub record IsLater {A : Type 0} (count : ℕ) (old new : Place A) : Type 0 where
   pub listed : new.listed ≡ old.listed
   pub kept : IsKept new
   pub few : farthest new.stage ≤ count
+  pub on : farthest old.stage ≤ farthest new.stage
 
 abbrev pub IsStep : {A : Type 0} → ℕ → Place A → Stepped A → Type 0
 IsStep count old (On new) = IsLater count old new × (left count new.stage < left count old.stage)
 IsStep count old (Over sought new) = IsLater count old new × IsTold count sought
-IsStep count old (Lost heap) = heap ≤ count
+IsStep count old (Lost heap) = (heap ≤ count) × (farthest old.stage ≤ heap)
 
 -- what a step says and leaves is so of the game
 abbrev pub IsRightStep : {A : Type 0} → Code → ℕ → Stepped A → Type 0

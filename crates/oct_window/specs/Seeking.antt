@@ -46,6 +46,16 @@ IsTold count (Least seen values) = (seen.start + seen.period ≤ values) × (val
 IsTold count (Unshown values) = values ≤ count
 IsTold count (Unseen values listed) = (values ≡ count) × (listed < values)
 
+-- how many values were computed
+abbrev pub told_values : Sought → ℕ
+told_values (Least seen values) = values
+told_values (Unshown values) = values
+told_values (Unseen values listed) = values
+
+-- they are no fewer than those that were known before, or as many as are listed at most
+abbrev pub IsAsFarAs : ℕ → Sought → Type 0
+IsAsFarAs known sought = min known MOST_LISTED ≤ told_values sought
+
 -- the nim-value of some heap below `count` is above 65,535
 pub record IsPast (c : Code) (count : ℕ) : Type 0 where
   pub heap : ℕ
@@ -58,12 +68,16 @@ IsSeekError refuses c count OutOfMemory = Unit {0}
 IsSeekError refuses c count PastValue = IsPast c count
 IsSeekError refuses c count Unkept = IsTrue refuses
 
--- the same, whatever is so of the game; where a window behind so many listed values is lost, more can be listed
-abbrev pub IsLeft : ℕ → ℕ → Tried → Type 0
-IsLeft listed count (Done sought) = IsTold count sought
-IsLeft listed count (Lost heap) = (listed < count) × (listed < MOST_LISTED) × (heap ≤ count)
+-- a window behind so many listed values is lost at this heap, and more can be listed
+abbrev pub IsLost : ℕ → ℕ → ℕ → Type 0
+IsLost listed count heap = (listed < count) × (listed < MOST_LISTED) × (heap ≤ count)
+
+-- the same, whatever is so of the game, from a place on where so many values were known
+abbrev pub IsLeft : ℕ → ℕ → ℕ → Tried → Type 0
+IsLeft listed known count (Done sought) = IsTold count sought × (known ≤ told_values sought)
+IsLeft listed known count (Lost heap) = IsLost listed count heap × (known ≤ heap)
 
 -- what so many listed values, and a window behind them, come to
 abbrev pub IsTried : Code → ℕ → ℕ → Tried → Type 0
 IsTried c listed count (Done sought) = IsSought c count sought
-IsTried c listed count (Lost heap) = IsLeft listed count (Lost heap)
+IsTried c listed count (Lost heap) = IsLost listed count heap

@@ -9,7 +9,7 @@
 ghost use Rattle.std.specs.Prelude.{◌≡◌, ◌*◌, ◌<◌, ◌≤◌, length, max, min, vec_len, IfErr, IfOk, OnOk};
 ghost use Rattle.oct_mex.specs.Row.{IsRow};
 ghost use Rattle.oct_window.specs.Places.{IsKept, IsPlaced, IsRightPlace, IsWithin, farthest};
-ghost use Rattle.oct_window.specs.Seeking.{IsLeft, IsSeekError, IsSought, IsTold, IsTried};
+ghost use Rattle.oct_window.specs.Seeking.{IsAsFarAs, IsLeft, IsSeekError, IsSought, IsTold, IsTried, told_values};
 ghost use Rattle.oct_window.specs.declared.seeking.SeekError.TheVariants as errors;
 
 use crate::first::extend;
@@ -86,7 +86,8 @@ pub fn seek<A: Allocator + Copy, K: Keeper<A>>(
 }
 
 /// Takes a search up again at a place, and seeks the period by the first `count` values, at most `FARTHEST`, or by as many as
-/// were computed, where these are more. What the place has is believed; the first values are listed anew.
+/// were computed, where these are more. What the place has is believed; the first values are listed anew. No fewer values are
+/// told than the place knows, or 2^32 where a window is lost.
 pub fn resume<A: Allocator + Copy, K: Keeper<A>>(
     alloc: A,
     place: Place<A>,
@@ -97,6 +98,7 @@ pub fn resume<A: Allocator + Copy, K: Keeper<A>>(
     requires limited { count ≤ FARTHEST }
     ensures ok { IsRightPlace place → IfOk result (IsSought place.code (max count (farthest place.stage))) }
     ensures told { IfOk result (IsTold (max count (farthest place.stage))) }
+    ensures far { IfOk result (IsAsFarAs (farthest place.stage)) }
     ensures err { IfErr result (IsSeekError K.may_refuse place.code (max count (farthest place.stage))) }
 {
     let Place { code, listed, .. } = place;
@@ -148,6 +150,8 @@ fn seek_behind<A: Allocator + Copy, K: Keeper<A>>(
     requires limited { count ≤ FARTHEST }
     requires marks { MARKS ≤ vec_len marks.old }
     ensures ok { IfOk result (IsSought code.now count) }
+    ensures told { IfOk result (IsTold count) }
+    ensures far { IfOk result (λ sought. min count first ≤ told_values sought) }
     ensures err { IfErr result (IsSeekError K.may_refuse code.now count) }
 {
     let mut size = first;
@@ -201,6 +205,7 @@ fn try_behind<A: Allocator + Copy, K: Keeper<A>>(
     requires few { vec_len row.now.values ≤ count }
     requires limited { count ≤ FARTHEST }
     requires marks { MARKS ≤ length marks.old }
+    ensures left { IfOk result (IsLeft (vec_len row.now.values) (vec_len row.now.values) count) }
     ensures tried { IfOk result (IsTried code.now (vec_len row.now.values) count) }
     ensures err { IfErr result (IsSeekError K.may_refuse code.now count) }
     ensures marks { length marks.new ≡ length marks.old }
@@ -239,7 +244,7 @@ fn follow<A: Allocator + Copy, K: Keeper<A>>(
     requires within { IsWithin count place }
     requires limited { count ≤ FARTHEST }
     requires marks { MARKS ≤ length marks.old }
-    ensures left { IfOk result (IsLeft (vec_len row.now.values) count) }
+    ensures left { IfOk result (IsLeft (vec_len row.now.values) (farthest place.stage) count) }
     ensures tried { IsRightPlace place → IfOk result (IsTried place.code (vec_len row.now.values) count) }
     ensures err { IfErr result (IsSeekError K.may_refuse place.code count) }
     ensures marks { length marks.new ≡ length marks.old }

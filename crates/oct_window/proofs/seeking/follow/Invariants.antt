@@ -1,5 +1,5 @@
-use Rattle.std.proofs.Common.{◌≡◌, length}
-use Rattle.oct_window.specs.Places.{IsPlaced, IsRightPlace, IsWithin, left}
+use Rattle.std.proofs.Common.{◌≡◌, ◌≤◌, length}
+use Rattle.oct_window.specs.Places.{farthest, IsPlaced, IsRightPlace, IsWithin, left}
 use Rattle.oct_window.proofs.seeking.follow.Given as goal
 
 abbrev pub invariant-loop-heap : goal.invariant-loop-heap
@@ -8,6 +8,7 @@ invariant-loop-heap g l = record {
   listed : l.place.listed ≡ l.fn.place.listed;
   placed : IsPlaced l.place;
   within : IsWithin l.count l.place;
+  on : farthest l.fn.place.stage ≤ farthest l.place.stage;
   marks : length l.marks ≡ length l.fn.marks;
   right : IsRightPlace l.fn.place → IsRightPlace l.place;
 }

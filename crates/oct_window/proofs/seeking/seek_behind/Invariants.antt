@@ -9,6 +9,7 @@ invariant-loop-row g l = record {
   row : IsRow (λ x. x) l.code l.row;
   few : vec_len l.row.values ≤ l.count;
   some : 1 ≤ l.size;
+  grows : l.first ≤ l.size;
   most : l.size ≤ MOST_LISTED;
   marks : MARKS ≤ vec_len l.marks;
 }
