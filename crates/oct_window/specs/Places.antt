@@ -14,6 +14,8 @@ use Rattle.oct_window.specs.declared.place.Stage.TheVariants.{Comparing, Watchin
 use Rattle.oct_window.specs.declared.place.Stepped.{Stepped}
 use Rattle.oct_window.specs.declared.place.Stepped.TheVariants.{On, Over, Lost}
 use Rattle.oct_window.specs.declared.seeking.TheConstants.{MOST_LISTED}
+use Rattle.oct_window.specs.declared.sought.Sought.{Sought}
+use Rattle.oct_window.specs.declared.sought.Sought.TheVariants.{Least, Unshown, Unseen}
 use Rattle.oct_window.specs.declared.watch.Watch.{Watch}
 use Rattle.oct_window.specs.declared.window.TheConstants.{FARTHEST}
 
@@ -97,6 +99,12 @@ abbrev pub left : {A : Type 0} → ℕ → Stage A → ℕ
 left count (Watching w) = 2 * FARTHEST + 1 + (count - w.window.count)
 left count (Comparing s) = (s.start - s.comparison.first.heap) + (s.comparison.period - s.comparison.second.heap)
 
+-- what is said is of this place: by as many values as it knows, and, where no period is seen, behind as many first ones as it lists
+abbrev pub IsSaidOf : {A : Type 0} → Place A → Sought → Type 0
+IsSaidOf p (Least seen values) = values ≡ farthest p.stage
+IsSaidOf p (Unshown values) = ⊥
+IsSaidOf p (Unseen values listed) = (values ≡ farthest p.stage) × (listed ≡ p.listed)
+
 -- a later place of the same search, by at most so many values
 pub record IsLater {A : Type 0} (count : ℕ) (old new : Place A) : Type 0 where
   pub code : new.code ≡ old.code
@@ -107,7 +115,7 @@ pub record IsLater {A : Type 0} (count : ℕ) (old new : Place A) : Type 0 where
 
 abbrev pub IsStep : {A : Type 0} → ℕ → Place A → Stepped A → Type 0
 IsStep count old (On new) = IsLater count old new × (left count new.stage < left count old.stage)
-IsStep count old (Over sought new) = IsLater count old new × IsTold count sought
+IsStep count old (Over sought new) = IsLater count old new × IsTold count sought × IsSaidOf new sought
 IsStep count old (Lost heap) = (heap ≤ count) × (farthest old.stage ≤ heap)
 
 -- what a step says and leaves is so of the game
