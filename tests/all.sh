@@ -1,5 +1,5 @@
 #!/usr/bin/env bash
-# Two states that used one number twice: `sync` says `done` and leaves them apart; `sync --all` brings both to one set, in which the
+# Two states that used one number twice: `sync` says `done` and that they are apart; `sync --all` brings both to one set, in which the
 # fork shows. And a `serve` whose state can't be saved: its `sync` is not told `done`, and the state is as it was.
 # The connections are on the loopback, on free ports.
 . "$(dirname "${BASH_SOURCE[0]}")/lib.sh"
@@ -41,7 +41,9 @@ test "$(census note ben first 'of Ben')" = 'issued 3.1'
 census note carl own 'of Carl' >/dev/null
 
 # Each side has the number 3.1, so that neither sends it.
-done_session anna ben
+session anna ben
+test "$serve $sync" = '0 1'
+test "$(cat served synced)" = $'done\ndone\ncensus: Apart'
 if agree anna ben; then exit 1; fi
 if census show anna | grep -q fork; then exit 1; fi
 

@@ -1,7 +1,8 @@
 #!/usr/bin/env bash
 # Many games on many processors, by the job and the Makefile of docs/CLUSTER.md: 63 games in five parts, under a loop, xargs and make.
 # Of each, one part is killed on its way, one is lost and comes again, and one is handed in twice; files are joined in any order. There
-# is one digest, and what one survey says. What is done costs nothing again, by the time of the processor.
+# is one digest, and what one survey says. Parts that are given to a hub stay parts. What is done costs nothing again, by the time of
+# the processor.
 . "$(dirname "${BASH_SOURCE[0]}")/lib.sh"
 
 # The block of the document whose first line is this, by its first sign behind the four spaces of the indent.
@@ -78,6 +79,31 @@ for engine in loop xargs make; do
 done
 test "$(sort -u digests | wc -l)" = 1
 test "$(wc -l < digests)" = 3
+
+# The parts are given to a hub, all at once, and stay what they are, whatever the hub has.
+census init hub.state 9 > told
+census note hub.state about 'of the hub' > told
+cp -r make before
+start_hub hub.state --peers 6
+gifts=()
+for part in {1..5}; do
+  census sync --give "make/part$part.state" "$address" > "given.$part" &
+  gifts+=($!)
+done
+wait "${gifts[@]}"
+for part in {1..5}; do
+  test "$(cat "given.$part")" = 'done'
+  cmp "make/part$part.state" "before/part$part.state"
+done
+census note make/part1.state about 'said later' > told
+test "$(census sync --give --quiet make/part1.state "$address")" = ''
+wait "$hub"
+census left 1024 --codes codes hub.state | diff /dev/null -
+census show hub.state > shown
+grep -qx 'note about 9.1 of the hub' shown
+grep -q '^note about .* said later$' shown
+if census show make/part1.state | grep -q 'of the hub'; then exit 1; fi
+refused 2 Words sync --give --all make/part1.state 127.0.0.1:1
 
 # Parts of the table are its own parts again, and make all of it.
 census init table.state 8 > told

@@ -56,7 +56,7 @@ CASES = [
     ("search 70000 0.56 --window --save a.search", "Saved Game", 1, ["a.search is of another game", "CODE of its game"]),
     ("search 70000 0.16 --window --save folder/none/new", "File", 3, ["folder/none/new: the folder for it is not there"]),
     ("search 70000 0.16 --window --save a.state.lock", "Occupied", 3, ["a.state.lock would be the lock"]),
-    ("search 70000 0.16 --save new", "Words", 2, ["--save takes one CODE, and --window"]),
+    ("search 70000 0.16 --save new", "Words", 2, ["--save takes one CODE, --window, and neither --codes nor --part"]),
     # Blocks and b-files.
     ("import a.state open.json", "Json", 1, ["open.json", "line 2 column 11", FORM]),
     ("import a.state short.json", "Import Shape", 1, ["short.json is no object with exactly", FORM]),

@@ -13,6 +13,7 @@
 //!   `left_in` gives the games of a list of which several files lack one of the first values, and `own_left` those of which the
 //!   author of a state said not all of them.
 //! - `digest` names the set of operations of a file by 64 digits, and `author_for` gives the number of the author that a text has.
+//! - `new_forks` gives the dots that are used twice since.
 //! - `write_site` puts the files of a site into a `Folder`, one game in memory at a time.
 //! - `rejoin` gives what a state file is to hold after a session, `rejoin_grown` does so where the file need not be read, and
 //!   `unchanged` what is said after a session that brought nothing.
@@ -28,8 +29,8 @@ pub mod laws;
 mod progress;
 
 pub use census_fold::{
-    Intake, author_for, diff, digest, fold_intake, fold_lines, left_in, log_together, own_left,
-    read_together, record_digest, unite,
+    Intake, author_for, diff, digest, fold_intake, fold_lines, left_in, log_together, new_forks,
+    own_left, read_together, record_digest, unite,
 };
 pub use census_issue::{NoKeeper, TurnKeeper, check_count, import_block};
 pub use census_judge::{Checked, JudgedClaim, Verdict, check, judge, tally};

@@ -27,4 +27,4 @@ pub use codes::of_code;
 pub use diagnosis::{of_games, of_request};
 pub use given::Given;
 pub use mistaken::{of_delta, of_either, of_saved, of_state};
-pub use net_failures::{unbound, unconnected, unmet, unserved};
+pub use net_failures::{unbound, unbound_at, unconnected, unconnected_at, unmet, unserved};

@@ -51,6 +51,30 @@ pub fn unconnected(alloc: Global, address: &str, error: io::Error) -> Failure {
     }
 }
 
+/// The failure to make a socket of this machine at the path.
+pub fn unbound_at(alloc: Global, path: &str, error: io::Error) -> Failure {
+    let failure = of_address(alloc, "cannot make a socket at", path).because(error);
+    match error.kind() {
+        ErrorKind::AddrInUse => failure.advise(String::from_str(
+            alloc,
+            "end the program that listens there, or name another path; what stands there is not removed",
+        )),
+        _ => failure.advise(String::from_str(
+            alloc,
+            "name a path in a folder that you may write, of at most 107 bytes",
+        )),
+    }
+}
+
+/// The failure to connect to a socket of this machine.
+pub fn unconnected_at(alloc: Global, path: &str, error: io::Error) -> Failure {
+    let failure = of_address(alloc, "cannot connect to the socket", path).because(error);
+    failure.advise(String::from_str(
+        alloc,
+        "a hub or serve with --unix has to run there, and its socket to be open to you: ls -l",
+    ))
+}
+
 /// The failure to take a connection at the address.
 pub fn unserved(alloc: Global, address: &str, error: io::Error) -> Failure {
     of_address(alloc, "cannot take a connection at", address).because(error)

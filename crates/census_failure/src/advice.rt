@@ -7,6 +7,9 @@ use std::alloc::{AllocError, Global};
 use std::io::Write;
 use written::write_out;
 
+/// How many dots that are used twice are named at once.
+const NAMED: usize = 3;
+
 /// Who reads standard error.
 #[derive(Clone, Copy)]
 pub struct Audience {
@@ -67,6 +70,17 @@ impl<'a, E: Write> Advice<'a, E> {
         }
     }
 
+    /// Warns of the first few of the dots that are used twice since a table took something in. Those by its own author are left
+    /// out: `warn_of_number` says more of them.
+    pub fn warn_of_forks(&mut self, alloc: Global, own: u32, forks: &[Dot]) {
+        let others = forks.iter().filter(|dot| dot.author() != own);
+        for dot in others.take(NAMED) {
+            if let Ok(text) = fork_text(alloc, *dot) {
+                self.warn(text.as_str());
+            }
+        }
+    }
+
     /// Says what was wrong, and what to do.
     pub fn explain(&mut self, alloc: Global, failure: &Failure) {
         if self.is_wanted {
@@ -89,6 +103,15 @@ impl<'a, E: Write> Advice<'a, E> {
             let _ = writeln!(self.errors, "  {text}");
         }
     }
+}
+
+// What is said of a dot that is used twice.
+fn fork_text(alloc: Global, dot: Dot) -> Result<String, AllocError> {
+    let (author, number) = (dot.author(), dot.number());
+    format!(in alloc;
+        "fork {author}.{number}: two operations have this number, as a state makes them that was copied or put \
+                       back; whoever is {author} goes on under a new one with census renumber"
+    )
 }
 
 /// What is said of an operation that is by the number of a state and that the state never held.

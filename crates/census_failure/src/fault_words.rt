@@ -94,6 +94,7 @@ const WORDS_REFUSED: &[Fault] = &[
 // What else is refused, with status 1.
 const OTHERS_REFUSED: &[Fault] = &[
     Fault::Author,
+    Fault::Apart,
     Fault::Issue(IssueError::LastNumber),
     Fault::TooMany,
     Fault::PastValue,
@@ -143,6 +144,7 @@ pub fn words_of(fault: Fault) -> FaultWords {
         Fault::Removal(cause) => of_removal(cause),
         Fault::NoPage => NO_PAGE,
         Fault::Author => AUTHOR,
+        Fault::Apart => APART,
         Fault::Issue(cause) => of_issue(cause),
         Fault::TooMany => TOO_MANY,
         Fault::PastValue => PAST_VALUE,
@@ -189,6 +191,12 @@ const AUTHOR: FaultWords = FaultWords {
     subject: "the state file",
     meaning: "became another author's during the session, and nothing was written",
     remedy: "run the command again",
+};
+
+const APART: FaultWords = FaultWords {
+    subject: "the other side",
+    meaning: "holds other operations after the session: a number was used twice",
+    remedy: "exchange all: census sync --all STATE HOST:PORT; whoever has the number goes on by census renumber STATE",
 };
 
 const TOO_MANY: FaultWords = FaultWords {

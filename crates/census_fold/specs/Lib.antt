@@ -1,4 +1,5 @@
 pub mod Authors
+pub mod Closing
 pub mod Deltas
 pub mod Digests
 pub mod Folded

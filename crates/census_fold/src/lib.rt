@@ -6,11 +6,14 @@
 //!   those of which the author of a state said not all of them.
 //! - `unite` makes one delta of several files, `delta` one of a state, and `delta_of_games` one of some of its games.
 //! - `digest` names the set of operations of a file by 64 digits, and `record_digest` that of a record.
+//! - `closing_frame` is what a side that serves says behind a session: the digest of the set that the other should hold then;
+//!   `closing_digits` reads it, and `is_apart` compares. `new_forks` gives the dots that were used twice since.
 //! - `author_for` gives the number of the author that a text has.
 //! - `laws` says that the catalogue and the digest depend on the set alone.
 #![tactic(auto)]
 
 mod authors;
+mod closing;
 mod deltas;
 mod digests;
 mod fold;
@@ -23,6 +26,7 @@ mod taken;
 mod unions;
 
 pub use authors::author_for;
+pub use closing::{CLOSING_LENGTH, REFUSAL, closing_digits, closing_frame, is_apart, new_forks};
 pub use deltas::{delta, delta_of_games};
 pub use digests::{digest, record_digest};
 pub use fold::{fold_intake, fold_lines};

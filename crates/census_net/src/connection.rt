@@ -1,7 +1,8 @@
 //! A connection to a peer that is waited for so long and no longer.
 
+use crate::sockets::Stream;
+use crate::ways::{Last, Source, Way, behind};
 use std::io::{self, ErrorKind, Read, Write};
-use std::net::TcpStream;
 use std::time::{Clock, Duration, Instant};
 
 /// How many signals in a row may interrupt a call of the system before it counts as failed.
@@ -21,18 +22,20 @@ pub struct Patience {
 #[derive(Drop)]
 pub(crate) struct Connection<'a, R> {
     clock: &'a R,
-    stream: &'a TcpStream,
+    stream: &'a Stream,
     silence: Duration,
     end: Option<Instant>,
     /// The last error of the system.
     error: Option<io::Error>,
+    /// The first bytes of what was read last.
+    last: Last,
 }
 
 impl<'a, R: Clock> Connection<'a, R> {
     /// The connection, whose session begins now.
     pub(crate) fn new(
         clock: &'a R,
-        stream: &'a TcpStream,
+        stream: &'a Stream,
         patience: Patience,
     ) -> io::Result<Connection<'a, R>> {
         let end = match patience.session {
@@ -45,12 +48,8 @@ impl<'a, R: Clock> Connection<'a, R> {
             silence: patience.silence,
             end,
             error: None,
+            last: Last::none(),
         })
-    }
-
-    /// The last error of the system, where there was one.
-    pub(crate) fn error(&self) -> Option<io::Error> {
-        self.error
     }
 
     // How long the next call may wait. The error is `TimedOut` where the session is over.
@@ -69,25 +68,45 @@ impl<'a, R: Clock> Connection<'a, R> {
 impl<R: Clock> Read for Connection<'_, R> {
     fn read(&mut self, buf: &mut [u8]) -> io::Result<usize> {
         for _ in 0..SIGNALS {
-            self.stream.set_read_timeout(Some(self.wait()?))?;
-            match self.stream.read(buf) {
+            self.stream.limit_reads(self.wait()?)?;
+            match self.stream.read_some(buf) {
                 Err(e) if e.kind() == ErrorKind::Interrupted => {}
                 Err(e) => {
                     self.error = Some(e);
                     return Err(e);
                 }
-                done => return done,
+                Ok(count) => {
+                    self.last = Last::of(&buf[..count.min(buf.len())]);
+                    return Ok(count);
+                }
             }
         }
         Err(io::Error::from(ErrorKind::Interrupted))
     }
 }
 
+impl<R> Way for Connection<'_, R> {
+    fn error(&self) -> Option<io::Error> {
+        self.error
+    }
+}
+
+impl<R: Clock> Source for Connection<'_, R> {
+    fn has_more(&mut self) -> bool {
+        self.silence = self.silence.min(behind());
+        true
+    }
+
+    fn last(&self) -> Last {
+        self.last
+    }
+}
+
 impl<R: Clock> Write for Connection<'_, R> {
     fn write(&mut self, buf: &[u8]) -> io::Result<usize> {
         for _ in 0..SIGNALS {
-            self.stream.set_write_timeout(Some(self.wait()?))?;
-            match self.stream.write(buf) {
+            self.stream.limit_writes(self.wait()?)?;
+            match self.stream.write_some(buf) {
                 Err(e) if e.kind() == ErrorKind::Interrupted => {}
                 Err(e) => {
                     self.error = Some(e);
@@ -99,7 +118,8 @@ impl<R: Clock> Write for Connection<'_, R> {
         Err(io::Error::from(ErrorKind::Interrupted))
     }
 
+    // All that is written goes out at once.
     fn flush(&mut self) -> io::Result<()> {
-        self.stream.flush()
+        Ok(())
     }
 }

@@ -1,38 +1,176 @@
 //! Where a state meets its peers.
 
 use crate::connection::Patience;
-use census_diagnosis::{unbound, unconnected, unmet, unserved};
-use census_failure::Failure;
+use crate::sockets::{Listener, Stream};
+use census_diagnosis::{unbound, unbound_at, unconnected, unconnected_at, unmet, unserved};
+use census_failure::{Failure, Reason};
+use std::fs::{self, Permissions};
 use std::io::{self, ErrorKind};
-use std::net::{Net, SocketAddr, TcpListener, TcpStream, ToSocketAddrs};
+use std::net::{Net, TcpListener, TcpStream, ToSocketAddrs};
+use std::os::unix::fs::{FileTypeExt, PermissionsExt};
+use std::os::unix::net::{UnixListener, UnixStream};
+use std::rt::Files;
+use std::thread;
+use std::time::{Clock, Duration};
 
 // How many attempts in a row to take a peer may fail before `serve` ends.
 const ATTEMPTS: u32 = 100;
 
-/// A state, the address at which it meets its peers, and how long it waits for them there.
+// How many connections may wait to be taken, at least.
+const WAITING: u32 = 10_000;
+
+// How often it is tried again to connect where nobody listens, and after how many milliseconds each time.
+const TRIES: u32 = 20;
+
+const PAUSE: u64 = 100;
+
+/// Where peers are met.
+#[derive(Clone, Copy)]
+pub enum Place<'a> {
+    /// An address of the network, with its port.
+    Address(&'a str),
+    /// The path of a socket of this machine, and who may connect to it where it is made: the permissions of its file.
+    Socket { path: &'a str, mode: u32 },
+}
+
+impl<'a> Place<'a> {
+    /// What it is called.
+    pub fn name(self) -> &'a str {
+        match self {
+            Place::Address(address) => address,
+            Place::Socket { path, .. } => path,
+        }
+    }
+}
+
+/// A state, the place at which it meets its peers, and how long it waits for them there.
 #[derive(Clone, Copy)]
 pub struct Endpoint<'a> {
     /// The path of the state file.
     pub state: &'a str,
-    /// The address, with its port.
-    pub address: &'a str,
+    /// The place.
+    pub place: Place<'a>,
     /// How long a peer is waited for.
     pub patience: Patience,
 }
 
-/// Listens at the address. The fault is `Net`.
-pub(crate) fn bound<R>(rt: &R, address: &str) -> Result<TcpListener, Failure>
+/// Listens at the place. The fault is `Net`.
+pub(crate) fn bound<R>(rt: &R, place: Place<'_>) -> Result<Listener, Failure>
 where
-    R: AllocGlobal + Net<Stream = TcpStream, Listener = TcpListener>,
+    R: Files + AllocGlobal + Net<Stream = TcpStream, Listener = TcpListener>,
 {
-    match TcpListener::bind(rt, address) {
-        Ok(listener) => Ok(listener),
-        Err(error) => Err(unbound(rt.alloc(), address, error)),
+    match place {
+        Place::Address(address) => match TcpListener::bind(rt, address) {
+            Ok(listener) => Ok(Listener::Network(listener)),
+            Err(error) => Err(unbound(rt.alloc(), address, error)),
+        },
+        Place::Socket { path, mode } => match bound_at(rt, path, mode) {
+            Ok(listener) => Ok(Listener::Local(listener)),
+            Err(error) => Err(unbound_at(rt.alloc(), path, error)),
+        },
     }
 }
 
-/// Connects to the first of the address's places that answers within the peer's patience. The fault is `Net`.
-pub(crate) fn connected<R>(rt: &R, address: &str, patience: Patience) -> Result<TcpStream, Failure>
+// Makes a socket at the path, in place of one at which nobody listens any more. Whoever comes before its permissions are these is
+// sent away.
+fn bound_at<R>(rt: &R, path: &str, mode: u32) -> io::Result<UnixListener>
+where
+    R: Files + AllocGlobal + Net<Stream = TcpStream, Listener = TcpListener>,
+{
+    let listener = match UnixListener::bind(rt, path) {
+        Err(error) if error.kind() == ErrorKind::AddrInUse && is_left(rt, path) => {
+            fs::remove_file(rt, path)?;
+            UnixListener::bind(rt, path)?
+        }
+        done => done?,
+    };
+    fs::set_permissions(rt, path, Permissions::from_mode(mode))?;
+    listener.set_nonblocking(true)?;
+    for _ in 0..WAITING {
+        if listener.accept().is_err() {
+            break;
+        }
+    }
+    listener.set_nonblocking(false)?;
+    Ok(listener)
+}
+
+// Whether a socket stands at the path at which nobody listens. A hub that listens there takes no notice of that.
+fn is_left<R>(rt: &R, path: &str) -> bool
+where
+    R: Files + Net<Stream = TcpStream, Listener = TcpListener>,
+{
+    match fs::symlink_metadata(rt, path) {
+        Ok(there) if there.file_type().is_socket() => match UnixStream::connect(rt, path) {
+            Ok(_) => false,
+            Err(error) => error.kind() == ErrorKind::ConnectionRefused,
+        },
+        _ => false,
+    }
+}
+
+/// Takes the socket away again that was made at the place, where it is one.
+pub(crate) fn leave<R: Files>(rt: &R, place: Place<'_>) {
+    if let Place::Socket { path, .. } = place {
+        let _ = fs::remove_file(rt, path);
+    }
+}
+
+/// Connects to what is at the place, or to the first of an address's places that answers within the peer's patience. Where nobody
+/// listens, it is tried again for two seconds, since a server may be just starting. The fault is `Net`.
+pub(crate) fn connected<R>(rt: &R, place: Place<'_>, patience: Patience) -> Result<Stream, Failure>
+where
+    R: AllocGlobal + Net<Stream = TcpStream, Listener = TcpListener> + Clock,
+{
+    for _ in 0..TRIES {
+        let tried = met(rt, place, patience);
+        if !is_absent(place, &tried) {
+            return tried;
+        }
+        thread::sleep(rt, Duration::from_millis(PAUSE));
+    }
+    met(rt, place, patience)
+}
+
+// Whether nobody listens at the place, as the attempt to connect has shown.
+fn is_absent(place: Place<'_>, tried: &Result<Stream, Failure>) -> bool {
+    match tried {
+        Ok(_) => false,
+        Err(failure) => match &failure.reason {
+            Reason::System(error) => is_absence(place, error.kind()),
+            _ => false,
+        },
+    }
+}
+
+// Whether the system says by this that nobody listens at the place.
+fn is_absence(place: Place<'_>, kind: ErrorKind) -> bool {
+    match kind {
+        ErrorKind::ConnectionRefused => true,
+        ErrorKind::NotFound => matches!(place, Place::Socket { .. }),
+        _ => false,
+    }
+}
+
+// Connects once.
+fn met<R>(rt: &R, place: Place<'_>, patience: Patience) -> Result<Stream, Failure>
+where
+    R: AllocGlobal + Net<Stream = TcpStream, Listener = TcpListener>,
+{
+    match place {
+        Place::Address(address) => match dialled(rt, address, patience) {
+            Ok(stream) => Ok(Stream::Network(stream)),
+            Err(failure) => Err(failure),
+        },
+        Place::Socket { path, .. } => match UnixStream::connect(rt, path) {
+            Ok(stream) => Ok(Stream::Local(stream)),
+            Err(error) => Err(unconnected_at(rt.alloc(), path, error)),
+        },
+    }
+}
+
+// Connects to the first of the address's places that answers within the peer's patience.
+fn dialled<R>(rt: &R, address: &str, patience: Patience) -> Result<TcpStream, Failure>
 where
     R: AllocGlobal + Net<Stream = TcpStream, Listener = TcpListener>,
 {
@@ -50,18 +188,18 @@ where
     Err(unconnected(rt.alloc(), address, last))
 }
 
-/// The next connection, and who made it. The fault is `Net`.
+/// The next connection. The fault is `Net`.
 pub(crate) fn accepted<R: AllocGlobal>(
     rt: &R,
-    listener: &TcpListener,
-    address: &str,
-) -> Result<(TcpStream, SocketAddr), Failure> {
+    listener: &Listener,
+    place: Place<'_>,
+) -> Result<Stream, Failure> {
     let mut last = io::Error::from(ErrorKind::Interrupted);
     for _ in 0..ATTEMPTS {
         match listener.accept() {
-            Ok(connection) => return Ok(connection),
+            Ok(stream) => return Ok(stream),
             Err(error) => last = error,
         }
     }
-    Err(unserved(rt.alloc(), address, last))
+    Err(unserved(rt.alloc(), place.name(), last))
 }

@@ -2,16 +2,17 @@
 
 use crate::connection::Patience;
 use crate::kept::{Kept, Settled};
+use crate::sockets::Peer;
+use crate::visitors::Visitor;
 use census_failure::Failure;
+use census_fold::{REFUSAL, closing_frame};
 use census_state::Fault;
-use mio::net::TcpStream;
-use mio::{Interest, Registry, Token};
+use mio::{Registry, Token};
 use oct_record::Record;
 use oct_sync::{Progress, Session, SyncError};
 use std::alloc::{AllocError, Global};
 use std::fs::File;
-use std::io::{self, ErrorKind, Read, Write};
-use std::net::SocketAddr;
+use std::io::{self, ErrorKind};
 use std::rt::Files;
 use std::time::Instant;
 
@@ -27,18 +28,20 @@ pub(crate) struct Bounds {
 /// A peer of a hub, and how far its session is.
 #[derive(Drop)]
 pub(crate) struct Guest {
-    /// Where it connected from.
-    pub(crate) peer: SocketAddr,
-    stream: TcpStream,
+    /// Who it is.
+    pub(crate) peer: Peer,
+    stream: Visitor,
     bounds: Bounds,
     session: Session<Global>,
     /// What came. It is not in the state before it is saved.
     brought: Record<Global>,
-    /// Whether the session has answered the peer's clock, which needs what the state has.
-    has_answered: bool,
-    /// What is to be sent, from the first byte on that was not sent.
+    /// The digest of what the state had as the session answered the peer's clock; none before that.
+    answered: Option<Vec<u8>>,
+    /// What is to be sent, and how much of it was.
     owed: Vec<u8>,
     sent: usize,
+    /// How much of it ends the session; what stands behind that the peer need not read. 0 where there is nothing behind it.
+    done: usize,
     /// How many bytes came.
     came: u64,
     /// What stands in the state after the session; none before all came, and what came was saved.
@@ -55,8 +58,8 @@ impl Guest {
     /// A peer that connected now, and the empty record for what it brings.
     pub(crate) fn new(
         alloc: Global,
-        stream: TcpStream,
-        peer: SocketAddr,
+        stream: Visitor,
+        peer: Peer,
         bounds: Bounds,
         brought: Record<Global>,
         now: Instant,
@@ -71,9 +74,10 @@ impl Guest {
             bounds,
             session: Session::server(alloc),
             brought,
-            has_answered: false,
+            answered: None,
             owed: Vec::new(alloc),
             sent: 0,
+            done: 0,
             came: 0,
             settled: None,
             is_ready: true,
@@ -84,8 +88,7 @@ impl Guest {
 
     /// Has the registry report under the token when the connection is ready.
     pub(crate) fn register(&mut self, registry: &Registry, token: Token) -> io::Result<()> {
-        let both = Interest::READABLE | Interest::WRITABLE;
-        registry.register(&mut self.stream, token, both)
+        self.stream.register(registry, token)
     }
 
     /// The connection was reported.
@@ -109,6 +112,11 @@ impl Guest {
     /// The failure of a peer that was silent too long.
     pub(crate) fn silent(&self) -> Failure {
         self.given_up(false)
+    }
+
+    /// Whether it came over a socket of this machine, and said nothing: as one who sees whether a hub listens there.
+    pub(crate) fn is_caller(&self) -> bool {
+        matches!(self.peer, Peer::Local) && self.came == 0
     }
 
     /// When it last took or sent something.
@@ -158,19 +166,33 @@ impl Guest {
     // Sends some of what is owed.
     fn send(&mut self, alloc: Global, now: Instant) -> Result<(), Failure> {
         let rest = self.owed.get(self.sent..).unwrap_or(&[]);
-        match self.stream.write(rest) {
-            Ok(0) => Err(Failure::from(Fault::Sync(SyncError::Write))),
-            Ok(count) => {
+        match self.stream.write_some(rest) {
+            Ok(count) if count > 0 => {
                 self.hear(now);
                 self.sent = self.sent.saturating_add(count);
                 if self.sent >= self.owed.len() {
-                    self.owed = Vec::new(alloc);
-                    self.sent = 0;
+                    self.owe_nothing(alloc);
                 }
                 Ok(())
             }
+            _ if self.is_told() => {
+                self.owe_nothing(alloc);
+                Ok(())
+            }
+            Ok(_) => Err(Failure::from(Fault::Sync(SyncError::Write))),
             Err(e) => self.wait_after(&e, SyncError::Write),
         }
+    }
+
+    // Whether the last frame was sent, so that the session is done without what stands behind it.
+    fn is_told(&self) -> bool {
+        self.done > 0 && self.sent >= self.done
+    }
+
+    // All is sent that is owed.
+    fn owe_nothing(&mut self, alloc: Global) {
+        self.owed = Vec::new(alloc);
+        self.sent = 0;
     }
 
     // Takes some of what came, at most what the session wants.
@@ -186,7 +208,7 @@ impl Guest {
         R: Files<File = File> + AllocGlobal,
     {
         let most = self.session.wanted().min(buffer.len());
-        match self.stream.read(&mut buffer[..most]) {
+        match self.stream.read_some(&mut buffer[..most]) {
             Ok(0) => Err(Failure::from(Fault::Sync(SyncError::Cut))),
             Ok(count) => {
                 self.hear(now);
@@ -198,29 +220,63 @@ impl Guest {
 
     // Feeds the session what came, of one frame at most: the peer's clock over the state as its file says now, and what
     // follows over what this session brought. Where the session is done, its last frame is owed once all that came is saved.
+    // A peer that sends too much is told so.
     fn take<R>(&mut self, rt: &R, state: &str, kept: &mut Kept, piece: &[u8]) -> Result<(), Failure>
     where
         R: Files<File = File> + AllocGlobal,
     {
         self.came = self.came.saturating_add(piece.len() as u64);
         if self.came > self.bounds.most {
+            self.refuse();
             return Err(Failure::from(Fault::TooLong).found(most_text(
                 rt.alloc(),
                 self.bounds.most,
             )));
         }
-        let progress = if self.has_answered {
-            self.session.feed(&mut self.brought, piece, &mut self.owed)?
-        } else {
-            kept.renew(rt, state)?;
-            self.session.feed(&mut kept.said, piece, &mut self.owed)?
-        };
-        // The answer is the first that is sent, and no delta is taken before it.
-        self.has_answered = self.has_answered || !self.owed.is_empty();
-        if let Progress::Done = progress {
-            self.settled = Some(kept.settle(rt, state, &self.brought)?);
+        if self.answered.is_none() {
+            return self.greet(rt, state, kept, piece);
+        }
+        if let Progress::Done = self.session.feed(&mut self.brought, piece, &mut self.owed)? {
+            let settled = kept.settle(rt, state, &self.brought)?;
+            self.close(rt.alloc(), kept, &settled);
+            self.settled = Some(settled);
         }
         Ok(())
+    }
+
+    // Feeds the session bytes of the peer's clock. The answer is the first that is sent, and no delta is taken before it.
+    fn greet<R>(
+        &mut self,
+        rt: &R,
+        state: &str,
+        kept: &mut Kept,
+        piece: &[u8],
+    ) -> Result<(), Failure>
+    where
+        R: Files<File = File> + AllocGlobal,
+    {
+        kept.renew(rt, state)?;
+        self.session.feed(&mut kept.said, piece, &mut self.owed)?;
+        if !self.owed.is_empty() {
+            self.answered = Some(kept.digest().to_vec(rt.alloc())?);
+        }
+        Ok(())
+    }
+
+    // Owes the peer the digest of what it should hold now, behind the last frame. It can't be said where the state changed
+    // between the answer to the peer's clock and what this session brought to it.
+    fn close(&mut self, alloc: Global, kept: &Kept, settled: &Settled) {
+        if self.answered.as_deref() == Some(&settled.before[..]) {
+            if let Ok(frame) = closing_frame(alloc, kept.digest()) {
+                self.done = self.owed.len();
+                let _ = self.owed.extend_from_slice(&frame);
+            }
+        }
+    }
+
+    // Says to the peer, if it takes that at once, that it has sent too much.
+    fn refuse(&mut self) {
+        let _ = self.stream.write_some(&REFUSAL);
     }
 
     // After a call that was not done: it is made again at once where a signal interrupted it, and where the connection

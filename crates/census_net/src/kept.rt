@@ -4,12 +4,14 @@ use crate::record_file::{Saved, record_of, save_held, written};
 use crate::shares::{Share, count_of, news, shares};
 use census_failure::Failure;
 use census_files::{Seen, StateFile, open_file, read_open, stateless};
-use census_fold::record_digest;
+use census_fold::{new_forks, record_digest};
 use census_state::{Fault, rejoin_grown, unchanged};
 use oct_ops::Dot;
 use oct_record::Record;
+use oct_store::Fork;
 use std::alloc::Global;
 use std::fs::{self, File};
+use std::mem;
 use std::rt::Files;
 
 /// What a state file says, as it was last read or written.
@@ -19,6 +21,8 @@ pub(crate) struct Kept {
     pub(crate) said: Record<Global>,
     /// How many of its operations are by each author.
     shares: Vec<Share>,
+    /// The dots that are used twice in it.
+    forks: Vec<Fork>,
     /// Its digest.
     digest: Vec<u8>,
     /// The file. While it is open, no other has its inode.
@@ -32,6 +36,10 @@ pub(crate) struct Settled {
     pub(crate) saved: Saved,
     /// How many operations of each author are new to the file.
     pub(crate) news: Vec<Share>,
+    /// The dots that are used twice since.
+    pub(crate) forks: Vec<Dot>,
+    /// The digest of what the file had before.
+    pub(crate) before: Vec<u8>,
 }
 
 impl Settled {
@@ -60,6 +68,7 @@ impl Kept {
         let said = record_of(rt.alloc(), state, &bytes)?;
         Ok(Kept {
             shares: shares(rt.alloc(), &said)?,
+            forks: said.store().forks()?,
             digest: record_digest(rt.alloc(), &said)?,
             said,
             file,
@@ -122,6 +131,8 @@ impl Kept {
                 foreign: None,
             },
             news: Vec::new(alloc),
+            forks: Vec::new(alloc),
+            before: self.digest.to_vec(alloc)?,
         })
     }
 
@@ -185,13 +196,21 @@ impl Kept {
     where
         R: Files<File = File> + AllocGlobal,
     {
-        let shares = shares(rt.alloc(), &self.said)?;
-        let news = news(rt.alloc(), &self.shares, &shares)?;
-        let digest = record_digest(rt.alloc(), &self.said)?;
+        let alloc = rt.alloc();
+        let shares = shares(alloc, &self.said)?;
+        let news = news(alloc, &self.shares, &shares)?;
+        let twice = self.said.store().forks()?;
+        let forks = new_forks(alloc, &self.forks, &twice)?;
+        let digest = record_digest(alloc, &self.said)?;
         let saved = self.write_grown(rt, file, state, before, &shares)?;
         self.shares = shares;
-        self.digest = digest;
-        Ok(Settled { saved, news })
+        self.forks = twice;
+        Ok(Settled {
+            saved,
+            news,
+            forks,
+            before: mem::replace(&mut self.digest, digest),
+        })
     }
 
     // Writes all where the file holds what was there before, and nothing else. It is not read again, unless an operation came by

@@ -3,9 +3,11 @@
 //! Two replicas that meet exchange what is new, and each saves the union of what its file holds then and of what the session
 //! brought. What is said in a session is `oct_sync`; here it goes over a connection, with an end to every wait.
 //!
-//! - `Endpoint` is a state and the address at which it meets its peers, and `Patience` how long it waits for them.
+//! - `Endpoint` is a state and the `Place` at which it meets its peers, an address or a socket of this machine, and `Patience`
+//!   how long it waits for them.
 //! - `serve` has one session with whoever connects, and `sync` one with whoever serves, each over a `Connection` that fails
-//!   where it would wait too long. `serve_over` and `sync_over` do the same over two streams that are lent.
+//!   where it would wait too long. `serve_over` and `sync_over` do the same over two streams that are lent. `session` is what
+//!   they have in common, over `ways`, the two directions of a session: its `Outcome` is whether both sides hold the same then.
 //! - `hub` has many sessions at once, within its `Limits`, in one thread: each is a `Guest`, which goes on whenever its
 //!   connection is ready, and `kept` is the one record for which all of them speak; what one brings is joined with it where it
 //!   is saved. `shares` says by whom what is new is, `moment` when a session ended, and `room` whether a line can be printed.
@@ -23,12 +25,17 @@ mod over;
 mod peers;
 mod record_file;
 mod room;
+mod session;
 mod shares;
+mod sockets;
 mod unsaved;
+mod visitors;
+mod ways;
 
 pub use connection::Patience;
-pub use endpoint::Endpoint;
+pub use endpoint::{Endpoint, Place};
 pub use network::{serve, sync};
 pub use over::{serve_over, sync_over};
 pub use peers::{Limits, hub};
 pub use record_file::record_of;
+pub use session::Outcome;

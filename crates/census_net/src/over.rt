@@ -1,19 +1,20 @@
 //! Sessions over two streams that are lent, as a shell and `ssh` lend standard input and output.
 
-use crate::network::settle;
 use crate::record_file::load;
+use crate::session::{Outcome, Streams};
+use crate::ways::{LentInput, LentOutput};
 use census_failure::{Advice, Failure, INPUT_NAME};
-use census_state::Fault;
 use oct_record::Record;
-use oct_sync::{Role, SyncError, converse, drive};
+use oct_sync::Role;
 use std::alloc::Global;
 use std::fs::File;
 use std::io::{Read, Write};
+use std::net::Net;
 use std::rt::Files;
-use written::write_out;
 
-/// Does what `sync` does, with whoever writes the input and reads the output. Neither of the two is waited for with an end:
-/// that is the affair of who lends them. The fault is that of the session, or else of the state, as it is saved.
+/// Does what `sync` does, with whoever writes the standard input, which this is, and reads the output. Neither of the two is
+/// waited for with an end before the session is done: that is the affair of who lends them. The fault is that of the session,
+/// or else of the state, as it is saved.
 pub fn sync_over<R, I, O, E>(
     rt: &R,
     state: &str,
@@ -22,18 +23,14 @@ pub fn sync_over<R, I, O, E>(
     input: &mut I,
     output: &mut O,
     advice: &mut Advice<'_, E>,
-) -> Result<(), Failure>
+) -> Result<Outcome, Failure>
 where
-    R: Files<File = File> + AllocGlobal,
+    R: Files<File = File> + AllocGlobal + Net,
     I: Read,
     O: Write,
     E: Write,
 {
-    let ended = match drive(rt.alloc(), role, said, input, output) {
-        Ok(()) => Ok(()),
-        Err(cause) => Err(ended_by(rt.alloc(), cause)),
-    };
-    settle(rt, state, said, ended, advice)
+    lent(rt, input, output).ask(rt, state, role, said, advice)
 }
 
 /// Does what `serve` does, likewise: the other side is done by the last frame, which is written once the state is saved. The
@@ -47,29 +44,24 @@ pub fn serve_over<R, I, O, E>(
     advice: &mut Advice<'_, E>,
 ) -> Result<(), Failure>
 where
-    R: Files<File = File> + AllocGlobal,
+    R: Files<File = File> + AllocGlobal + Net,
     I: Read,
     O: Write,
     E: Write,
 {
-    let alloc = rt.alloc();
-    let mut said = load(rt, state)?;
-    match converse(alloc, Role::Server, &mut said, input, output) {
-        Ok(last) => {
-            settle(rt, state, &said, Ok(()), advice)?;
-            match write_out(output, &last) {
-                Ok(()) => Ok(()),
-                Err(_) => Err(ended_by(alloc, SyncError::Write)),
-            }
-        }
-        Err(cause) => {
-            let failure = ended_by(alloc, cause);
-            settle(rt, state, &said, Err(failure), advice)
-        }
-    }
+    let said = load(rt, state)?;
+    lent(rt, input, output).answer(rt, state, said, advice)
 }
 
-// The failure of a session over the streams.
-fn ended_by(alloc: Global, cause: SyncError) -> Failure {
-    Failure::of(alloc, Fault::from(cause), INPUT_NAME)
+// The streams as the two directions of a session.
+fn lent<'a, R, I, O>(
+    rt: &'a R,
+    input: &'a mut I,
+    output: &'a mut O,
+) -> Streams<'a, LentInput<'a, R, I>, LentOutput<'a, O>> {
+    Streams {
+        name: INPUT_NAME,
+        input: LentInput::new(rt, input),
+        output: LentOutput::new(output),
+    }
 }

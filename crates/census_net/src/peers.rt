@@ -1,22 +1,23 @@
-//! A hub: many sessions over TCP at once, in one thread.
+//! A hub: many sessions at once, in one thread.
 
-use crate::endpoint::{Endpoint, bound};
+use crate::endpoint::{Endpoint, Place, bound, leave};
 use crate::guest::{Bounds, Guest, sooner};
 use crate::kept::{Kept, Settled};
 use crate::moment::Moment;
 use crate::room::{OUTPUT, has_room};
+use crate::sockets::{Listener, Peer};
 use crate::unsaved::unsaved;
+use crate::visitors::{Door, Visitor};
 use census_diagnosis::unserved;
-use census_failure::{Failure, explanation, foreign_text};
+use census_failure::{Failure, escaped, explanation, foreign_text};
 use census_state::Fault;
-use mio::net::TcpStream;
-use mio::{Events, Interest, Poll, Token};
+use mio::{Events, Poll, Token};
 use oct_ops::Dot;
 use slab::Slab;
-use std::alloc::Global;
+use std::alloc::{AllocError, Global};
 use std::fs::File;
 use std::io::{self, ErrorKind, Write};
-use std::net::{self, Net, SocketAddr};
+use std::net::{Net, TcpListener, TcpStream};
 use std::rt::Files;
 use std::time::{Clock, Duration, Instant};
 use written::write_out;
@@ -57,7 +58,7 @@ struct Host<'a, R> {
     endpoint: Endpoint<'a>,
     limits: Limits,
     kept: Kept,
-    listener: mio::net::TcpListener,
+    door: Door,
     poll: Poll,
     events: Events,
     guests: Slab<Guest>,
@@ -73,7 +74,7 @@ struct Host<'a, R> {
     dropped: u64,
 }
 
-/// Serves so many connections to the address, and says where it listens and how each session ended. Many sessions go
+/// Serves so many connections to the place, and says where it listens and how each session ended. Many sessions go
 /// on at once, each whenever its connection is ready; further connections wait, but the peer that was silent longest, for
 /// ten seconds or more, gives way to one. What ends a session early does not end the hub. What the state says is kept in
 /// memory: its file is read again where another stands in its place, and written before the last frame of a session that
@@ -88,41 +89,30 @@ pub fn hub<R, O, E>(
     errors: &mut E,
 ) -> Result<(), Failure>
 where
-    R: Files<File = File>
-        + AllocGlobal
-        + Net<Stream = net::TcpStream, Listener = net::TcpListener>
-        + Clock,
+    R: Files<File = File> + AllocGlobal + Net<Stream = TcpStream, Listener = TcpListener> + Clock,
     O: Write,
     E: Write,
 {
     let mut host = Host::open(rt, endpoint, limits)?;
-    host.say_where(output)?;
-    for _ in 0..u64::MAX {
-        if host.is_over() {
-            break;
-        }
-        host.turn(output, errors)?;
-    }
-    Ok(())
+    let ended = host.serve(output, errors);
+    leave(rt, endpoint.place);
+    ended
 }
 
 impl<'a, R> Host<'a, R>
 where
-    R: Files<File = File>
-        + AllocGlobal
-        + Net<Stream = net::TcpStream, Listener = net::TcpListener>
-        + Clock,
+    R: Files<File = File> + AllocGlobal + Net<Stream = TcpStream, Listener = TcpListener> + Clock,
 {
     // Reads the state, and then listens at the address.
     fn open(rt: &'a R, endpoint: Endpoint<'a>, limits: Limits) -> Result<Host<'a, R>, Failure> {
         let kept = Kept::read(rt, endpoint.state)?;
-        let (listener, poll) = listening(rt, endpoint.address)?;
+        let (door, poll) = listening(rt, endpoint.place)?;
         Ok(Host {
             rt,
             endpoint,
             limits,
             kept,
-            listener,
+            door,
             poll,
             events: Events::with_capacity(rt.alloc(), limits.sessions)?,
             guests: Slab::with_capacity(rt.alloc(), limits.sessions)?,
@@ -134,13 +124,29 @@ where
         })
     }
 
+    // Says where it listens, and serves all its peers.
+    fn serve<O: Write, E: Write>(&mut self, output: &mut O, errors: &mut E) -> Result<(), Failure> {
+        self.say_where(output)?;
+        for _ in 0..u64::MAX {
+            if self.is_over() {
+                break;
+            }
+            self.turn(output, errors)?;
+        }
+        Ok(())
+    }
+
     // Says where it listens.
     fn say_where<O: Write>(&self, output: &mut O) -> Result<(), Failure> {
-        let address = match self.listener.local_addr() {
-            Ok(address) => address,
+        let alloc = self.rt.alloc();
+        let line = match self.door.address() {
+            Ok(Some(address)) => format!(in alloc; "listening on {address}\n")?,
+            Ok(None) => {
+                let path = escaped(alloc, self.endpoint.place.name())?;
+                format!(in alloc; "listening on {path}\n")?
+            }
             Err(error) => return Err(self.unserved(error)),
         };
-        let line = format!(in self.rt.alloc(); "listening on {address}\n")?;
         Ok(write_out(output, line.as_bytes())?)
     }
 
@@ -172,7 +178,7 @@ where
 
     // The failure to go on at the address.
     fn unserved(&self, error: io::Error) -> Failure {
-        unserved(self.rt.alloc(), self.endpoint.address, error)
+        unserved(self.rt.alloc(), self.endpoint.place.name(), error)
     }
 
     // Whether a connection may wait for which there is room, or a guest that gives way.
@@ -225,7 +231,7 @@ where
             if !self.has_call(now) {
                 return;
             }
-            match self.listener.accept() {
+            match self.door.accept() {
                 Ok((stream, peer)) => {
                     self.left = self.left.saturating_sub(1);
                     self.make_room(now, errors);
@@ -244,7 +250,7 @@ where
     }
 
     // Begins the session of a connection. The fault is `Net`, and `OutOfMemory`.
-    fn seat(&mut self, stream: TcpStream, peer: SocketAddr, now: Instant) -> Result<(), Failure> {
+    fn seat(&mut self, stream: Visitor, peer: Peer, now: Instant) -> Result<(), Failure> {
         let bounds = Bounds {
             patience: self.endpoint.patience,
             most: self.limits.most,
@@ -320,7 +326,11 @@ where
             }
             Err(failure) => {
                 if let Some(guest) = self.guests.try_remove(key) {
-                    self.give_up(guest, failure, errors);
+                    if guest.is_caller() {
+                        self.left = self.left.saturating_add(1);
+                    } else {
+                        self.give_up(guest, failure, errors);
+                    }
                 }
             }
         }
@@ -362,8 +372,8 @@ where
     }
 
     // The line of a session that was done: when and whose it was, how many operations are new and how many there are, the first
-    // digits of their digest, and by whom the new ones are, as far as a line may be long.
-    fn line(&self, peer: SocketAddr, settled: &Settled) -> Result<Vec<u8>, Failure> {
+    // digits of their digest, by whom the new ones are, and which dots are used twice since, as far as a line may be long.
+    fn line(&self, peer: Peer, settled: &Settled) -> Result<Vec<u8>, Failure> {
         let alloc = self.rt.alloc();
         let mut line = Vec::new(alloc);
         let front = format!(in alloc; "{} peer {peer} ", Moment::now(self.rt))?;
@@ -383,6 +393,7 @@ where
             let text = format!(in alloc; "{mark} {} by {}", share.count, share.author)?;
             line.extend_from_slice(text.as_bytes())?;
         }
+        append_forks(alloc, &mut line, &settled.forks)?;
         line.extend_from_slice(b"\n")?;
         Ok(line)
     }
@@ -404,6 +415,21 @@ where
     }
 }
 
+// Appends the dots that are used twice, as far as a line may be long.
+fn append_forks(alloc: Global, line: &mut Vec<u8>, forks: &[Dot]) -> Result<(), AllocError> {
+    for (at, dot) in forks.iter().enumerate() {
+        let mark = if at == 0 { "; fork" } else { "," };
+        if line.len() > LONGEST {
+            let rest = forks.len().saturating_sub(at);
+            let text = format!(in alloc; "{mark} and {rest} forks")?;
+            return line.extend_from_slice(text.as_bytes());
+        }
+        let text = format!(in alloc; "{mark} {}.{}", dot.author(), dot.number())?;
+        line.extend_from_slice(text.as_bytes())?;
+    }
+    Ok(())
+}
+
 // When a guest gives way that was last heard then.
 fn way_given(heard: Instant) -> Option<Instant> {
     heard.checked_add(Duration::from_secs(SILENCE))
@@ -414,34 +440,31 @@ fn is_of_peer(failure: &Failure) -> bool {
     matches!(failure.fault, Fault::Sync(_) | Fault::TooLong)
 }
 
-// Listens at the address without waiting, and reports each connection under the token of the listener. The fault is
-// `Net`.
-fn listening<R>(rt: &R, address: &str) -> Result<(mio::net::TcpListener, Poll), Failure>
+// Listens at the place without waiting, and reports each connection under the token of the listener. The fault is `Net`.
+fn listening<R>(rt: &R, place: Place<'_>) -> Result<(Door, Poll), Failure>
 where
-    R: AllocGlobal + Net<Stream = net::TcpStream, Listener = net::TcpListener>,
+    R: Files + AllocGlobal + Net<Stream = TcpStream, Listener = TcpListener>,
 {
-    let listener = bound(rt, address)?;
+    let listener = bound(rt, place)?;
     match polled(rt, listener) {
         Ok(both) => Ok(both),
-        Err(error) => Err(unserved(rt.alloc(), address, error)),
+        Err(error) => Err(unserved(rt.alloc(), place.name(), error)),
     }
 }
 
 // Has the listener's connections reported, and waits for none.
-fn polled<R>(rt: &R, listener: net::TcpListener) -> io::Result<(mio::net::TcpListener, Poll)>
+fn polled<R>(rt: &R, listener: Listener) -> io::Result<(Door, Poll)>
 where
-    R: Net<Stream = net::TcpStream, Listener = net::TcpListener>,
+    R: Net<Stream = TcpStream, Listener = TcpListener>,
 {
-    listener.set_nonblocking(true)?;
-    let mut listener = mio::net::TcpListener::from_std(listener);
+    let mut door = Door::of(listener)?;
     let poll = Poll::new(rt)?;
-    poll.registry()
-        .register(&mut listener, LISTENER, Interest::READABLE)?;
-    Ok((listener, poll))
+    door.register(poll.registry(), LISTENER)?;
+    Ok((door, poll))
 }
 
 // Says why a session ended early, and what that means.
-fn say_failure<R, E>(rt: &R, errors: &mut E, peer: SocketAddr, failure: Failure)
+fn say_failure<R, E>(rt: &R, errors: &mut E, peer: Peer, failure: Failure)
 where
     R: AllocGlobal + Clock,
     E: Write,

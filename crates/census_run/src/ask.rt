@@ -4,12 +4,13 @@ use crate::found::{out, word};
 use crate::printing::print_file;
 use crate::system::System;
 use crate::task::Task;
-use census_core::{Fault, Request, perform};
+use census_core::{Fault, Request, number, perform};
 use census_diagnosis::{Given, of_request};
-use census_failure::{Advice, Failure};
+use census_failure::{Advice, Failure, quoted, shown_bytes};
 use census_files::{Out, is_same_file, is_standard, read_state};
 use census_words::words::{self, Word};
 use clap::ArgMatches;
+use std::alloc::{AllocError, Global};
 use std::io::Write;
 use written::write_out;
 
@@ -72,5 +73,46 @@ where
         }
         out.write_delta(rt, bytes, advice)?;
     }
-    Ok(write_out(output, &reply.text)?)
+    write_out(output, &reply.text)?;
+    explain_unknown(rt.alloc(), state, request, &reply.text, advice);
+    Ok(())
+}
+
+// Says of a position which heap is not known, and what to do.
+fn explain_unknown<E: Write>(
+    alloc: Global,
+    state: &str,
+    request: &Request,
+    text: &[u8],
+    advice: &mut Advice<'_, E>,
+) {
+    let (code, heaps) = match request {
+        Request::Value { code, heaps, .. } => (code, heaps),
+        Request::Move { code, heaps, .. } => (code, heaps),
+        _ => return,
+    };
+    if let Some(place) = unknown_place(text) {
+        if let Some(heap) = heaps.get(place) {
+            if let Ok(text) = unknown_text(alloc, state, code, *heap) {
+                advice.say(text.as_str());
+            }
+        }
+    }
+}
+
+// The place of a heap whose value is not known, where the text names one.
+fn unknown_place(text: &[u8]) -> Option<usize> {
+    let digits = text.strip_prefix(b"unknown at ")?.trim_ascii_end();
+    let place = number(str::from_utf8(digits).ok()?, u64::MAX)?;
+    usize::try_from(place).ok()
+}
+
+fn unknown_text(alloc: Global, state: &str, code: &[u8], heap: u64) -> Result<String, AllocError> {
+    let state = quoted(alloc, state)?;
+    let code = shown_bytes(alloc, code)?;
+    format!(in alloc;
+        "heap {heap} is not known; census extend {state} COUNT {code} computes further values, and \
+         census find {state} {code} says which period they prove: one that is claimed by census period \
+         gives the values of all heaps"
+    )
 }

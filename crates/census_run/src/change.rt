@@ -5,7 +5,7 @@ use crate::printing::print_unless;
 use crate::system::System;
 use crate::task::Task;
 use crate::undone::{Undone, without_done};
-use census_core::{Fault, Reply, Request, perform_kept};
+use census_core::{Fault, Reply, Request, new_forks, perform_kept};
 use census_diagnosis::{Given, of_games, of_request};
 use census_failure::{Advice, Failure, INPUT_NAME};
 use census_files::{StateFile, is_standard, read_delta, read_file, read_standard, read_state};
@@ -252,11 +252,27 @@ fn of_change(
     }
 }
 
-// Warns where a delta brought an operation by the state's own number that the state never held.
+// Warns where a delta brought an operation by the state's own number that the state never held, and of dots that are used twice
+// since.
 fn warn_of_taken<E: Write>(alloc: Global, before: &[u8], later: &[u8], advice: &mut Advice<'_, E>) {
     if advice.is_wanted() {
         if let (Ok(was), Ok(now)) = (Record::load(alloc, before), Record::load(alloc, later)) {
             advice.warn_of_number(alloc, was.first_foreign(&now));
+            warn_of_forks(alloc, &was, &now, advice);
+        }
+    }
+}
+
+/// Warns of the dots that are used twice now and were not so before.
+pub(crate) fn warn_of_forks<E: Write>(
+    alloc: Global,
+    before: &Record<Global>,
+    later: &Record<Global>,
+    advice: &mut Advice<'_, E>,
+) {
+    if let (Ok(old), Ok(now)) = (before.store().forks(), later.store().forks()) {
+        if let Ok(forks) = new_forks(alloc, &old, &now) {
+            advice.warn_of_forks(alloc, later.author(), &forks);
         }
     }
 }

@@ -60,13 +60,14 @@ pub(crate) mod winning_move;
 
 /// All commands, in the order in which the help has them. Each part has a function, so that whoever goes over all of them need
 /// not be checked with each of their texts.
-pub(crate) fn parts() -> [Part; 5] {
+pub(crate) fn parts() -> [Part; 6] {
     [
         without_state(),
         states(),
         many_games(),
         what_is_known(),
-        with_others(),
+        by_files(),
+        by_sessions(),
     ]
 }
 
@@ -138,19 +139,20 @@ fn what_is_known() -> Part {
     }
 }
 
-const OTHERS: &[Row] = &[
-    delta::ROW,
-    merge::ROW,
-    union::ROW,
-    digest::ROW,
-    serve::ROW,
-    sync::ROW,
-    hub::ROW,
-];
+const FILES: &[Row] = &[delta::ROW, merge::ROW, union::ROW, digest::ROW];
 
-fn with_others() -> Part {
+fn by_files() -> Part {
     Part {
-        title: "With others",
-        rows: OTHERS,
+        title: "With others, by files",
+        rows: FILES,
+    }
+}
+
+const SESSIONS: &[Row] = &[serve::ROW, sync::ROW, hub::ROW];
+
+fn by_sessions() -> Part {
+    Part {
+        title: "With others, by sessions",
+        rows: SESSIONS,
     }
 }

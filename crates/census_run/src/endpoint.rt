@@ -1,9 +1,9 @@
 //! Where a state meets its peers, as words say it.
 
 use crate::found::word;
-use crate::numbers::seconds;
+use crate::numbers::{mode, seconds};
 use census_failure::Failure;
-use census_net::{Endpoint, Patience};
+use census_net::{Endpoint, Patience, Place};
 use census_words::words;
 use clap::ArgMatches;
 use std::alloc::Global;
@@ -12,7 +12,7 @@ use std::time::Duration;
 /// Where a state has one session.
 #[derive(Clone, Copy)]
 pub(crate) enum Meeting<'a> {
-    /// At an address.
+    /// At an address, or at a socket.
     At(Endpoint<'a>),
     /// Over standard input and output.
     Streams { state: &'a str },
@@ -48,10 +48,21 @@ pub(crate) fn endpoint<'a>(
 ) -> Result<Endpoint<'a>, Failure> {
     Ok(Endpoint {
         state: word(found, words::STATE)?,
-        address: word(found, words::ADDR)?,
+        place: place(alloc, found)?,
         patience: Patience {
             silence: seconds(alloc, found, words::PATIENCE)?,
             session,
         },
     })
+}
+
+// The socket that is named, or else the address.
+fn place<'a>(alloc: Global, found: &ArgMatches<'a>) -> Result<Place<'a>, Failure> {
+    match found.get_str(words::UNIX.name) {
+        Some(path) => Ok(Place::Socket {
+            path,
+            mode: mode(alloc, found)?,
+        }),
+        None => Ok(Place::Address(word(found, words::ADDR)?)),
+    }
 }

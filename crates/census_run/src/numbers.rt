@@ -122,6 +122,31 @@ pub(crate) fn option_of(
     }
 }
 
+/// The permissions of a socket, in octal digits; those of a command that makes none are not looked at.
+pub(crate) fn mode(alloc: Global, found: &ArgMatches<'_>) -> Result<u32, Failure> {
+    let Some(text) = found.get_str(words::MODE.name) else {
+        return Ok(0);
+    };
+    match octal(text) {
+        Some(mode) => Ok(mode),
+        None => Err(Failure::from(Fault::Number).found(mode_text(alloc, text))),
+    }
+}
+
+// The number of three octal digits.
+fn octal(text: &str) -> Option<u32> {
+    let mut number: u32 = 0;
+    for sign in text.chars() {
+        number = number.checked_mul(8)?.checked_add(sign.to_digit(8)?)?;
+    }
+    if text.len() == 3 { Some(number) } else { None }
+}
+
+fn mode_text(alloc: Global, text: &str) -> Result<String, AllocError> {
+    let text = shown(alloc, text)?;
+    format!(in alloc; "--mode must be three octal digits, as 600 or 660, and is {text}")
+}
+
 /// How many values of a game are to be known.
 pub(crate) fn heap_count(alloc: Global, found: &ArgMatches<'_>) -> Result<u32, Failure> {
     let text = word(found, words::HEAPS)?;

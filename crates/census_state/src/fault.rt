@@ -41,6 +41,8 @@ pub enum Fault {
     Held,
     /// The state file became another author's during a session.
     Author,
+    /// After a session the other side holds other operations.
+    Apart,
     /// The file is no JSON text.
     Json,
     /// The JSON value is no block.

@@ -43,6 +43,7 @@ fn fault_name(fault: Fault) -> &'static str
         Fault::Zero => "Zero",
         Fault::Held => "Held",
         Fault::Author => "Author",
+        Fault::Apart => "Apart",
         Fault::Json => "Json",
         Fault::Import(_) => "Import",
         Fault::Bfile(_) => "Bfile",

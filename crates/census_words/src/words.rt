@@ -184,18 +184,18 @@ pub const SHOWN: Choice = Choice {
     default: Some("brief"),
 };
 
-/// The address at which two replicas meet.
+/// The address at which many replicas are met.
 pub const ADDR: Word = Word {
     name: "ADDR",
     meaning: "An address such as 127.0.0.1:4000",
-    times: Times::One,
+    times: Times::OneOr(&[UNIX]),
 };
 
 /// The address at which one other replica is met.
 pub const PEER: Word = Word {
     name: "ADDR",
     meaning: "An address such as 127.0.0.1:4000",
-    times: Times::OneOr(&[STDIO]),
+    times: Times::OneOr(&[STDIO, UNIX]),
 };
 
 /// In place of the address: the session goes over the standard streams.
@@ -204,6 +204,22 @@ pub const STDIO: Choice = Choice {
     takes: Takes::Nothing,
     meaning: "In place of ADDR: the session goes over standard input and output, as ssh lends them",
     default: None,
+};
+
+/// In place of the address: a socket of this machine.
+pub const UNIX: Choice = Choice {
+    name: "unix",
+    takes: Takes::One("PATH"),
+    meaning: "In place of ADDR: a socket of this machine, at that path",
+    default: None,
+};
+
+/// Who may connect to a socket.
+pub const MODE: Choice = Choice {
+    name: "mode",
+    takes: Takes::One("MODE"),
+    meaning: "With --unix, who may connect: the permissions of the socket, in octal digits",
+    default: Some("600"),
 };
 
 /// The code of a game.
@@ -445,6 +461,14 @@ pub const ALL: Choice = Choice {
     name: "all",
     takes: Takes::Nothing,
     meaning: "Exchanges all operations, and not only what each side is seen to lack",
+    default: None,
+};
+
+/// Whether a session takes nothing in.
+pub const GIVE: Choice = Choice {
+    name: "give",
+    takes: Takes::Nothing,
+    meaning: "Sends what the other side lacks, and takes nothing in",
     default: None,
 };
 

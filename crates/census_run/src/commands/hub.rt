@@ -19,6 +19,7 @@ pub(crate) const ROW: Row = Row {
         words::PEERS,
         words::SESSIONS,
         words::MOST,
+        words::MODE,
     ],
     line: "Serves many `sync` at once, for a whole group",
     about: "Serves connections to an address, many at once and each with its `sync`, until it is ended",
@@ -28,14 +29,18 @@ It prints `listening on ADDR:PORT`, with the port that the system gave where 0 w
 after each session `TIME peer ADDR:PORT new N operations M digest D; I by A, ..`: so many operations
 are new, so many there are, the first eight digits of their digest, and how many of the new ones are
 by which author. A session that ends early has its fault on standard error, and the hub goes on.
-A `sync` is told that it is done once all that the hub has by then is saved.
+A number that is used twice since has its dot at the end of the line, as `; fork 15.3`. A `sync` is
+told that it is done once all that the hub has by then is saved. With --unix PATH it listens at a
+socket of this machine, which it makes and removes again: for ssh -L, containers, and the users that
+--mode lets in (600: you alone; 660: your group too). Its peers are `local` then.
 ",
         "
 Exit status: 0 so many peers were served, 1 Load (the file is no state), 2 command line, 3 file,
 stream or network, 4 memory
 
-Example:
-  census hub group.state 127.0.0.1:4000"
+Examples:
+  census hub group.state 127.0.0.1:4000
+  census hub group.state --unix group.sock --mode 660"
     ),
 };
 

@@ -19,7 +19,7 @@ use std::time::Clock;
 pub(crate) const ROW: Row = Row {
     name: "serve",
     words: &[words::STATE, words::PEER],
-    options: &[words::PATIENCE, words::QUIET],
+    options: &[words::PATIENCE, words::MODE, words::QUIET],
     line: "Waits for one `sync`, and exchanges all that is new",
     about: "Waits for one connection to an address, and exchanges all that is new with its `sync`",
     after: of_sessions!(

@@ -1,12 +1,14 @@
 //! `census sync`: one session with whoever serves, and what became of what it brought.
 
+use crate::change::warn_of_forks;
 use crate::endpoint::{Meeting, meeting_of};
 use crate::found::is_quiet;
 use crate::printing::{print_unless, tell_done};
 use crate::task::Task;
+use census_core::Fault;
 use census_failure::{Advice, Failure};
 use census_files::read_state;
-use census_net::{record_of, sync, sync_over};
+use census_net::{Outcome, record_of, sync, sync_over};
 use census_progress::{is_told, say_of_records};
 use census_words::{Row, words};
 use clap::ArgMatches;
@@ -23,26 +25,30 @@ use std::time::Clock;
 pub(crate) const ROW: Row = Row {
     name: "sync",
     words: &[words::STATE, words::PEER],
-    options: &[words::ALL, words::PATIENCE, words::QUIET],
+    options: &[words::ALL, words::GIVE, words::PATIENCE, words::QUIET],
     line: "Exchanges all that is new with a `serve` or a `hub`",
     about: "Connects to an address, and exchanges all that is new with the `serve` or `hub` there",
     after: of_sessions!(
         "\
-Each side says how far it has each author's numbers, and is sent what is beyond. So where digests
-differ although both sides say `done`, one number was used by two: each side has the number, with
-what only it knows. `sync --all` takes and sends everything, whatever either side says it has. It
-brings both to one set, and forks then show on both.
+Each side says how far it has each author's numbers, and is sent what is beyond. So where one number
+was used by two, each side may have it, with what only it knows, and is sent nothing. The other side
+says what both should hold now, by a digest, where it is a `serve` or `hub` of census 2.2 or later;
+where this is not what is held here, the fault is `Apart`, after `done`. `sync --all` takes and sends
+everything, whatever either side says it has. It brings both to one set, and forks then show on both.
+`sync --give` sends what the other side lacks, and takes nothing: many parts of a table are so given
+to one hub, and stay parts.
 
 ",
         "
 With --stdio the session goes over standard input and output, and `done` is written to standard
 error; --patience counts for nothing then. So ssh gives encryption, keys, and who may come in.
 
-Exit status: 0 done, 1 refused: Load (the state), Sync (the other side's bytes), Author, TooMany;
-2 command line, 3 file or network, 4 memory
+Exit status: 0 done, 1 refused: Load (the state), Sync (the other side's bytes), Author, TooMany,
+Apart (a number was used twice); 2 command line, 3 file or network, 4 memory
 
-Examples, the second over ssh:
+Examples, the last over ssh:
   census sync ben.state 127.0.0.1:4000
+  census sync ben.state --unix group.sock
   mkfifo p; census sync --stdio ben.state < p | ssh hub.example.org census serve --stdio a.state > p"
     ),
 };
@@ -51,22 +57,26 @@ Examples, the second over ssh:
 pub(crate) fn task<'a>(alloc: Global, found: &ArgMatches<'a>) -> Result<Task<'a>, Failure> {
     Ok(Task::Sync {
         meeting: meeting_of(alloc, found)?,
-        role: role(found),
+        role: role(found)?,
         is_quiet: is_quiet(found),
     })
 }
 
-// Which client the session has.
-fn role(found: &ArgMatches<'_>) -> Role {
-    if found.get_flag(words::ALL.name) {
-        Role::ClientOfAll
-    } else {
-        Role::Client
+// Which client the session has. To exchange all and to take nothing do not go together: that is `Words`.
+fn role(found: &ArgMatches<'_>) -> Result<Role, Failure> {
+    match (
+        found.get_flag(words::ALL.name),
+        found.get_flag(words::GIVE.name),
+    ) {
+        (true, true) => Err(Failure::from(Fault::Words)),
+        (true, false) => Ok(Role::ClientOfAll),
+        (false, true) => Ok(Role::Giver),
+        (false, false) => Ok(Role::Client),
     }
 }
 
 /// Has the session, says that it is done, and then what became of what it brought. The fault is that of the state, as it is
-/// read first; then that of `sync`, and `Write`.
+/// read first; then that of `sync`, and `Write`; then `Apart` where the other side says that it holds other operations.
 pub(crate) fn run<R, I, O, E>(
     rt: &R,
     meeting: Meeting<'_>,
@@ -84,18 +94,23 @@ where
 {
     let state = meeting.state();
     let mut brought = Brought::begin(rt, state, is_quiet, advice)?;
-    match meeting {
+    let outcome = match meeting {
         Meeting::At(endpoint) => {
-            sync(rt, endpoint, role, &mut brought.later, advice)?;
+            let outcome = sync(rt, endpoint, role, &mut brought.later, advice)?;
             print_unless(is_quiet, b"done\n", output)?;
+            outcome
         }
         Meeting::Streams { .. } => {
-            sync_over(rt, state, role, &mut brought.later, input, output, advice)?;
+            let outcome = sync_over(rt, state, role, &mut brought.later, input, output, advice)?;
             tell_done(is_quiet, advice.errors());
+            outcome
         }
-    }
+    };
     brought.tell(rt.alloc(), state, advice);
-    Ok(())
+    match outcome {
+        Outcome::Together => Ok(()),
+        Outcome::Apart => Err(Failure::from(Fault::Apart)),
+    }
 }
 
 // What was held before a session and after it.
@@ -131,6 +146,7 @@ impl Brought {
     // Says what became of what the session brought, where that is wanted.
     fn tell<E: Write>(&self, alloc: Global, state: &str, advice: &mut Advice<'_, E>) {
         if let Some(before) = &self.before {
+            warn_of_forks(alloc, before, &self.later, advice);
             say_of_records(alloc, state, before, &self.later, advice);
         }
     }
