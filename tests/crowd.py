@@ -16,6 +16,7 @@ import time
 
 from lib import CLOCK, DELTA, EMPTY_CLOCK, END, Hub, delta, done, folder, frame, need, note, read, refused, write
 
+CLOSING = 4  # the tag of the frame that may stand behind the last one
 SECONDS = 55
 SOON = 3  # seconds that an honest exchange may take, also on a busy machine
 
@@ -166,12 +167,12 @@ def exhausted():
 
 def too_much():
     """A peer that sends more than it may is cut off there; what it brought before is kept."""
-    texts = [delta(note(7, number, b"many", b"x" * 200)) for number in range(1, 10)]
+    texts = [delta(note(70, number, b"many", b"x" * 200)) for number in range(1, 10)]
     with Crowded("bounded", "--most", "1000", "--patience", "30") as hub:
         peer = hub.connect(frame(CLOCK, EMPTY_CLOCK) + b"".join(frame(DELTA, text) for text in texts))
         hub.await_fault(peer, "TooLong")
         kept = done("show", "bounded")
-        need("author 7 through 4 last 4\n" in kept, f"the frames within the bound are not there: {kept}")
+        need("author 70 through 4 last 4\n" in kept, f"the frames within the bound are not there: {kept}")
         hub.sync("person2")
 
 
@@ -212,7 +213,8 @@ def two_bring():
         for peer in peers:
             peer.sendall(frame(END))
             need(read_frame(peer) == (END, b""), "the session was not done")
-            need(read_frame(peer) is None, "something came after the end")
+            behind = read_frame(peer)
+            need(behind is None or behind[0] == CLOSING, "something came after the end")
         there = [int(hub.await_peer(peer, r"new 1 operations (\d+)").group(1)) for peer in peers]
         need(sorted(there) == [1, 2], f"{there} operations are there")
         for who in (21, 22):
