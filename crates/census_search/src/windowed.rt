@@ -31,6 +31,8 @@ pub fn search_in_windows<K: Keeper<Global>>(
 ) -> Result<Vec<u8>, Fault>
     ensures ok { IfOk result (λ text. IsSoughtText form false code count text.items) }
     ensures err { IfErr result (IsWindowFault K.may_refuse code count) }
+    // Where the keeper did not keep a place, the search ends by that.
+    ensures heeded { OnOk result (K.has_refused keeper.new ≡ K.has_refused keeper.old) }
     ensures number { IfErr (windowable count) (λ e. result ≡ Err e) }
 {
     check_windowable(count)?;
@@ -53,6 +55,7 @@ pub fn resume_in_windows<K: Keeper<Global>>(
     ensures ok { IsRightPlace place → IfOk result (λ text. IsSoughtText form true place.code (max count (farthest place.stage)) text.items) }
     ensures told { IfOk result (λ text. IsResumedText form place.code (max count (farthest place.stage)) (farthest place.stage) text.items) }
     ensures err { IfErr result (IsResumeFault K.may_refuse place.code count (farthest place.stage)) }
+    ensures heeded { OnOk result (K.has_refused keeper.new ≡ K.has_refused keeper.old) }
     ensures number { IfErr (windowable count) (λ e. result ≡ Err e) }
 {
     check_windowable(count)?;

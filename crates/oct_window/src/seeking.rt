@@ -16,7 +16,6 @@ use crate::first::extend;
 use crate::keeper::{Keeper, Unkept};
 use crate::laws::shown_periods_are_least;
 use crate::place::{Place, Stage, Stepped};
-use crate::progress::Progress;
 use crate::sought::Sought;
 use crate::watch::Watch;
 use crate::window::{FARTHEST, MARKS, Window};
@@ -79,6 +78,8 @@ pub fn seek<A: Allocator + Copy, K: Keeper<A>>(
     requires { count ≤ FARTHEST }
     ensures ok { IfOk result (IsSought code.now count) }
     ensures err { IfErr result (IsSeekError K.may_refuse code.now count) }
+    // Where the keeper did not keep a place, the search ends by that.
+    ensures heeded { OnOk result (K.has_refused keeper.new ≡ K.has_refused keeper.old) }
 {
     let mut row = Row::new(alloc);
     let mut marks = no_marks(alloc)?;
@@ -100,6 +101,7 @@ pub fn resume<A: Allocator + Copy, K: Keeper<A>>(
     ensures told { IfOk result (IsTold (max count (farthest place.stage))) }
     ensures far { IfOk result (IsAsFarAs (farthest place.stage)) }
     ensures err { IfErr result (IsSeekError K.may_refuse place.code (max count (farthest place.stage))) }
+    ensures heeded { OnOk result (K.has_refused keeper.new ≡ K.has_refused keeper.old) }
 {
     let Place { code, listed, .. } = place;
     let count = count.max(place.farthest());
@@ -153,6 +155,7 @@ fn seek_behind<A: Allocator + Copy, K: Keeper<A>>(
     ensures told { IfOk result (IsTold count) }
     ensures far { IfOk result (λ sought. min count first ≤ told_values sought) }
     ensures err { IfErr result (IsSeekError K.may_refuse code.now count) }
+    ensures heeded { OnOk result (K.has_refused keeper.new ≡ K.has_refused keeper.old) }
 {
     let mut size = first;
     loop {
@@ -179,6 +182,7 @@ fn list_told<A: Allocator + Copy, K: Keeper<A>>(
     ensures row { IsRow (λ x. x) code.now row.new }
     ensures len { OnOk result (vec_len row.new.values ≡ max end (vec_len row.old.values)) }
     ensures err { IfErr result (IsSeekError K.may_refuse code.now count) }
+    ensures heeded { OnOk result (K.has_refused keeper.new ≡ K.has_refused keeper.old) }
     ensures marks { vec_len marks.old ≤ vec_len marks.new }
 {
     row.room_to(end)?;
@@ -208,6 +212,7 @@ fn try_behind<A: Allocator + Copy, K: Keeper<A>>(
     ensures left { IfOk result (IsLeft (vec_len row.now.values) (vec_len row.now.values) count) }
     ensures tried { IfOk result (IsTried code.now (vec_len row.now.values) count) }
     ensures err { IfErr result (IsSeekError K.may_refuse code.now count) }
+    ensures heeded { OnOk result (K.has_refused keeper.new ≡ K.has_refused keeper.old) }
     ensures marks { length marks.new ≡ length marks.old }
 {
     let listed = row.values.len();
@@ -247,6 +252,7 @@ fn follow<A: Allocator + Copy, K: Keeper<A>>(
     ensures left { IfOk result (IsLeft (vec_len row.now.values) (farthest place.stage) count) }
     ensures tried { IsRightPlace place → IfOk result (IsTried place.code (vec_len row.now.values) count) }
     ensures err { IfErr result (IsSeekError K.may_refuse place.code count) }
+    ensures heeded { OnOk result (K.has_refused keeper.new ≡ K.has_refused keeper.old) }
     ensures marks { length marks.new ≡ length marks.old }
 {
     let mut place = place;
@@ -267,9 +273,10 @@ fn follow<A: Allocator + Copy, K: Keeper<A>>(
 }
 
 // Tells how far the search is.
-fn tell<A: Allocator + Copy, P: Progress>(place: &Place<A>, count: usize, progress: &mut P)
+fn tell<A: Allocator + Copy, K: Keeper<A>>(place: &Place<A>, count: usize, keeper: &mut K)
     requires placed { IsPlaced place.now }
     requires limited { farthest place.now.stage ≤ FARTHEST }
+    ensures { K.has_refused keeper.new ≡ K.has_refused keeper.old }
 {
     let (known, wanted) = match &place.stage {
         Stage::Watching(watch) => (watch.window.count, count),
@@ -278,5 +285,5 @@ fn tell<A: Allocator + Copy, P: Progress>(place: &Place<A>, count: usize, progre
             (comparison.ahead(), seen.start + comparison.period)
         }
     };
-    progress.tell(place.code, known as u64, wanted as u64);
+    keeper.tell(place.code, known as u64, wanted as u64);
 }

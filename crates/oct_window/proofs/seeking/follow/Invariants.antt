@@ -11,6 +11,7 @@ invariant-loop-heap g l = record {
   on : farthest l.fn.place.stage ≤ farthest l.place.stage;
   marks : length l.marks ≡ length l.fn.marks;
   right : IsRightPlace l.fn.place → IsRightPlace l.place;
+  heeded : g.K.Keeper.has_refused l.keeper ≡ g.K.Keeper.has_refused l.fn.keeper;
 }
 
 abbrev pub decreases-loop-heap : goal.decreases-loop-heap

@@ -1,4 +1,4 @@
-use Rattle.std.proofs.Common.{◌-◌, ◌≤◌, vec_len}
+use Rattle.std.proofs.Common.{◌≡◌, ◌-◌, ◌≤◌, vec_len}
 use Rattle.oct_mex.specs.Row.{IsRow}
 use Rattle.oct_window.specs.declared.seeking.TheConstants.{MOST_LISTED}
 use Rattle.oct_window.specs.declared.window.TheConstants.{MARKS}
@@ -12,6 +12,7 @@ invariant-loop-row g l = record {
   grows : l.first ≤ l.size;
   most : l.size ≤ MOST_LISTED;
   marks : MARKS ≤ vec_len l.marks;
+  heeded : g.K.Keeper.has_refused l.keeper ≡ g.K.Keeper.has_refused l.fn.keeper;
 }
 
 abbrev pub decreases-loop-row : goal.decreases-loop-row
