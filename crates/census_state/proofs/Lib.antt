@@ -2,6 +2,7 @@ mod CodeTexts
 pub mod Merging
 mod Rejoining
 mod Renumbering
+mod Piecewise
 pub mod Rounds
 mod SomeGames
 pub mod Stepping

@@ -116,6 +116,7 @@ fault_name fault.Zero = codes "Zero"
 fault_name fault.Held = codes "Held"
 fault_name fault.Author = codes "Author"
 fault_name fault.Apart = codes "Apart"
+fault_name (fault.Authors count most) = codes "Authors"
 fault_name fault.Json = codes "Json"
 fault_name (fault.Import cause) = codes "Import"
 fault_name (fault.Bfile cause) = codes "Bfile"
@@ -137,9 +138,10 @@ fault_name fault.Read = codes "Read"
 fault_name fault.Write = codes "Write"
 fault_name fault.OutOfMemory = codes "OutOfMemory"
 
--- what stands behind the name; of a union also the place of the file
+-- what stands behind the name: a cause; of a union also the place of the file, and of too many authors how many there would be and may be
 abbrev pub cause_text : Fault → Text
 cause_text (fault.Load cause) = codes " " ++ load_name cause
+cause_text (fault.Authors count most) = labelled (codes " ") count ++ labelled (codes " ") most
 cause_text (fault.Import cause) = codes " " ++ import_name cause
 cause_text (fault.Bfile cause) = codes " " ++ bfile_text cause
 cause_text (fault.Saved cause) = codes " " ++ saved_name cause

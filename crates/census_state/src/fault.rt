@@ -43,6 +43,8 @@ pub enum Fault {
     Author,
     /// After a session the other side holds other operations.
     Apart,
+    /// With what a session brought a set would have operations by so many authors, and it may have so many.
+    Authors { count: u64, most: u64 },
     /// The file is no JSON text.
     Json,
     /// The JSON value is no block.

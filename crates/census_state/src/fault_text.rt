@@ -44,6 +44,7 @@ fn fault_name(fault: Fault) -> &'static str
         Fault::Held => "Held",
         Fault::Author => "Author",
         Fault::Apart => "Apart",
+        Fault::Authors { .. } => "Authors",
         Fault::Json => "Json",
         Fault::Import(_) => "Import",
         Fault::Bfile(_) => "Bfile",
@@ -73,6 +74,7 @@ fn write_cause<W: fmt::Write>(fault: Fault, f: &mut Formatter<W>) -> fmt::Result
 {
     match fault {
         Fault::Load(cause) => write_name(load_name(cause), f),
+        Fault::Authors { count, most } => write!(f, " {count} {most}"),
         Fault::Import(cause) => write_name(import_name(cause), f),
         Fault::Bfile(cause) => write_bfile(cause, f),
         Fault::Saved(cause) => write_name(saved_name(cause), f),

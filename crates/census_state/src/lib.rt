@@ -2,8 +2,8 @@
 //!
 //! - `load` reads what a state file says, and `save` is the reply that writes it. `init` makes a state, `renumber` has it go on
 //!   under another author, and `merge` takes the operations of a delta into it.
-//! - `rejoin` gives what a state file is to hold after a session, `rejoin_grown` does so where the file need not be read, and
-//!   `unchanged` what is said after a session that brought nothing.
+//! - `rejoin` gives what a state file is to hold after a session. Where the file need not be read, `rejoined_text` and
+//!   `unchanged` give what is said then, and `write_state` writes the state, piece by piece; `is_too_long` says whether it may.
 //! - `games_alone` gives what is said of some games.
 //! - A `Request` is one command over the bytes of its files, and a `Reply` what it gives.
 //! - `Fault` says why a run ended early. Its text is what the program prints; `status` is the exit status.
@@ -27,6 +27,7 @@ mod states;
 mod texts;
 mod view;
 mod words;
+mod written_states;
 
 pub use alone::games_alone;
 pub use codes::{read_code, read_codes};
@@ -38,7 +39,8 @@ pub use period_texts::{append_period, append_vain_line, append_vain_words, needs
 pub use reply::Reply;
 pub use request::Request;
 pub use saved_error::SavedError;
-pub use states::{Rejoined, init, load, merge, rejoin, rejoin_grown, renumber, save, unchanged};
+pub use states::{Rejoined, init, load, merge, rejoin, rejoined_text, renumber, save, unchanged};
 pub use texts::{number_line, renumbered_line, union_line};
 pub use view::View;
 pub use words::number;
+pub use written_states::{is_too_long, write_state};

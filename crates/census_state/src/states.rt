@@ -125,16 +125,20 @@ pub fn rejoin(alloc: Global, state: &[u8], held: &Record<Global>) -> Result<Rejo
     Ok(Rejoined { reply, foreign })
 }
 
-/// The reply of `rejoin` over a state file that says no more than is held, under the same author, and has so many operations:
-/// what is held is written, and the file need not be read. The refusal is `TooMany`. Want of memory is `OutOfMemory`.
-pub fn rejoin_grown(alloc: Global, before: usize, held: &Record<Global>) -> Result<Reply, Fault>
+/// The text of a session, where the state file says no more than is held, under the same author, and has so many operations. It
+/// is the text of `rejoin` over such a file, which writes the state of what is held: as `write_state` does, so that the file need
+/// not be read. The error is want of memory.
+pub fn rejoined_text(
+    alloc: Global,
+    before: usize,
+    held: &Record<Global>,
+) -> Result<Vec<u8>, AllocError>
     requires { before ≤ length (listed held.now.ops) }
-    ensures ok { IfOk result (λ reply. (kept : RecordContent) → IsHeldBefore kept before held.now → united kept held.now.ops ≡ Ok (answer_of reply)) }
-    ensures err { IfErr result (λ e. e ≢ Fault.OutOfMemory → (kept : RecordContent) → IsHeldBefore kept before held.now → united kept held.now.ops ≡ Err e) }
+    ensures { IfOk result (λ text. (kept : RecordContent) → IsHeldBefore kept before held.now → united kept held.now.ops ≡ saved held.now text.items) }
 {
     let all = held.len();
-    let text = union_line(alloc, all - before, all)?;
-    save(alloc, held, 0, text)
+    let new = all - before;
+    union_line(alloc, new, all)
 }
 
 /// The text of a session that brought nothing, where the state file says what is held: that no operation is new to the file, and

@@ -6,7 +6,7 @@ use Rattle.oct_ops.specs.Body.{Operation}
 use Rattle.oct_ops.specs.Limits.{keeps_limit, keeps_old_limits}
 use Rattle.oct_ops.specs.Operations.{IsRising}
 use Rattle.oct_ops.specs.Valid.{IsOp}
-use Rattle.oct_delta.specs.Text.{Bytes, list_bytes}
+use Rattle.oct_delta.specs.Text.{Bytes, list_bytes, u32}
 
 -- a way of writing deltas: the four bytes that they begin with, and how many places a game has
 pub record Format : Type 0 where
@@ -53,3 +53,7 @@ format_of ops = if list_all keeps_old_limits ops then old_format else new_format
 -- the text that is written
 abbrev pub encoded : List Operation → Bytes
 encoded ops = delta_bytes (format_of ops) ops
+
+-- what stands in it in front of the operations
+abbrev pub head_bytes : List Operation → Bytes
+head_bytes ops = (format_of ops).tag ++ u32 (length ops)

@@ -5,7 +5,7 @@ ghost use Rattle.std.specs.Prelude.{◌≡◌, ◌↔◌, ◌≤◌, ◌<◌, �
 ghost use Rattle.std.specs.List.{flat_map, list_all};
 ghost use Rattle.oct_ops.specs.Limits.{keeps_old_limits};
 ghost use Rattle.oct_delta.specs.Text.{op_bytes};
-ghost use Rattle.oct_delta.specs.Delta.{format_of, encoded};
+ghost use Rattle.oct_delta.specs.Delta.{format_of, encoded, head_bytes};
 ghost use Rattle.oct_delta.specs.Formats.{format};
 ghost use Rattle.oct_ops.specs.Growth.{Extends};
 
@@ -50,16 +50,37 @@ fn edition_of_each<A: Allocator>(ops: Ops<'_, A>) -> Edition
     }
 }
 
+/// Appends what the one text of the operations that are left of an iterator over a set has in front of them: the tag, and
+/// how many there are. After a refusal what was there before is at the front.
+pub fn put_head<A: Allocator>(out: &mut Vec<u8, A>, ops: Ops<'_, A>) -> Result<(), AllocError>
+    requires { length ops < 2 ^ 32 }
+    ensures ok { OnOk result (out.new.items ≡ out.old.items ++ head_bytes ops.entry) }
+    ensures kept { Extends out.old.items out.new.items }
+{
+    let count = ops.len() as u32;
+    put_bytes(out, &edition_of_each(ops).tag())?;
+    put_u32(out, count)
+}
+
+/// Appends the text of one operation. After a refusal what was there before is at the front.
+pub fn put_op<A: Allocator, B: Allocator>(
+    out: &mut Vec<u8, B>,
+    op: &Op<A>,
+) -> Result<(), AllocError>
+    ensures ok { OnOk result (out.new.items ≡ out.old.items ++ op_bytes op.now) }
+    ensures kept { Extends out.old.items out.new.items }
+{
+    op.put(out)
+}
+
 // Appends a tag, a count and the operations.
 fn put_set<A: Allocator>(out: &mut Vec<u8, A>, ops: Ops<'_, A>) -> Result<(), AllocError>
     requires { length ops < 2 ^ 32 }
     ensures ok { OnOk result (out.new.items ≡ out.old.items ++ encoded ops.entry) }
     ensures kept { Extends out.old.items out.new.items }
 {
-    let count = ops.len() as u32;
     let all = ops.clone()?;
-    put_bytes(out, &edition_of_each(all).tag())?;
-    put_u32(out, count)?;
+    put_head(out, all)?;
     put_ops(out, ops)
 }
 

@@ -16,7 +16,8 @@
 //!   `encode_each` that of a set without a list, and `op_size` says how long an operation's text is.
 //! - `Reader` reads a delta that comes in pieces, and gives the operations as they come whole; `decode_pieces` feeds one.
 //! - `decode_clock` and `encode_clock` do the same for clocks: a count, and then so many authors with their numbers.
-//! - `put_bytes`, `put_u32` and `put_entries` write what other texts are made of beside deltas.
+//! - `put_head` and `put_op` write a delta piece by piece, and `put_bytes`, `put_u32` and `put_entries` what other texts are
+//!   made of beside deltas.
 //! - `laws` says what holds of all texts.
 #![tactic(auto)]
 
@@ -39,7 +40,7 @@ mod text_ops;
 
 pub use clock::{decode_clock, encode_clock, put_entries};
 pub use decoding::decode;
-pub use each::encode_each;
+pub use each::{encode_each, put_head, put_op};
 pub use encoding::{MAX_OP_SIZE, encode, op_size};
 pub use error::{ClockError, DeltaError, DeltaFault, EncodeError};
 pub use oct_code::OutOfMemory;

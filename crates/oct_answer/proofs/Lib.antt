@@ -1,0 +1,4 @@
+mod Gathered
+mod Leaving
+mod Listing
+mod Packed
