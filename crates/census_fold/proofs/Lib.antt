@@ -4,10 +4,12 @@ mod DigitPairs
 mod DigitTables
 mod Folding
 mod Gathering
+mod Hashing
 mod LineEnds
 mod LineLemmas
 mod Owning
 mod Parting
+mod Stating
 mod Taking
 mod Together
 mod Underway

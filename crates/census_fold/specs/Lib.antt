@@ -1,3 +1,4 @@
+pub mod AuthorCounts
 pub mod Authors
 pub mod Closing
 pub mod Deltas
@@ -5,4 +6,5 @@ pub mod Digests
 pub mod Folded
 pub mod Lacking
 pub mod Reading
+pub mod Statuses
 pub mod Unions

@@ -1,29 +1,38 @@
 //! What shows that two tables are apart: digests that differ after a session, and dots that are used twice.
 
-ghost use Rattle.std.specs.Prelude.{◌≡◌, ◌≢◌, ◌↔◌, false, length, None, Ok, Err, IfSome, IfOk, IfErr};
+ghost use Rattle.std.specs.Prelude.{◌≡◌, ◌≢◌, ◌↔◌, false, length, None, IfSome, IfOk};
 ghost use Rattle.oct_delta.specs.Text.{Bytes};
-ghost use Rattle.census_fold.specs.Closing.{closing_bytes, digits_length, new_forks};
-ghost use Rattle.census_fold.specs.Digests.{digest_of_set};
+ghost use Rattle.census_fold.specs.Closing.{closing_bytes, digits_length, new_forks, refusal_bytes};
 
-use crate::digests::record_digest;
-use census_state::Fault;
 use oct_ops::Dot;
-use oct_record::Record;
 use oct_store::Fork;
 use std::alloc::{AllocError, Global};
 
 /// How many bytes a closing frame has.
 pub const CLOSING_LENGTH: usize = 69;
 
-/// The frame that a hub sends in the place of one that is due, where it ends a session since its peer has sent more bytes than it
-/// takes of one. It has a tag of its own, and no payload.
-pub const REFUSAL: [u8; 5] = [0, 0, 0, 1, 5];
+/// How many bytes the longest frame of a refusal has.
+pub const REFUSAL_LENGTH: usize = 9;
 
 /// How many digits a digest has.
 const DIGITS: usize = 64;
 
 /// The length of the frame, which counts what follows it, and its tag.
 const HEAD: [u8; 5] = [0, 0, 0, 65, 4];
+
+/// The length and the tag of a refusal that says no number, and of one that does.
+const MOST: [u8; 5] = [0, 0, 0, 1, 5];
+
+const AUTHORS: [u8; 5] = [0, 0, 0, 5, 5];
+
+/// Why a side that serves ends a session, as it says in the place of the frame that is due.
+#[derive(Clone, Copy, PartialEq, Eq)]
+pub enum Refusal {
+    /// The other side has sent more bytes than it takes of one session.
+    Most,
+    /// With what the other side sent it would have operations by more authors than this.
+    Authors(u32),
+}
 
 /// The frame that a side which serves sends behind its last one: the digits of the digest of the set that the other side should
 /// then hold. No session has a frame of that tag, and none reads further than its last frame.
@@ -48,13 +57,40 @@ pub fn closing_digits(frame: &[u8]) -> Option<&[u8]>
     }
 }
 
-/// Whether the digest of what is held has other digits. The fault is that of `record_digest`.
-pub fn is_apart(alloc: Global, held: &Record<Global>, digits: &[u8]) -> Result<bool, Fault>
-    ensures ok { IfOk result (λ is_apart. (is_apart ≡ false) ↔ (digest_of_set held.now.ops ≡ Ok digits.now)) }
-    ensures err { IfErr result (λ e. e ≢ Fault.OutOfMemory → digest_of_set held.now.ops ≡ Err e) }
+/// The frame of a refusal. Its tag is one that no session has.
+pub fn refusal_frame(alloc: Global, refusal: Refusal) -> Result<Vec<u8>, AllocError>
+    ensures { IfOk result (λ frame. frame.items ≡ refusal_bytes refusal) }
 {
-    let own = record_digest(alloc, held)?;
-    Ok(own.as_slice() != digits)
+    let mut frame = Vec::new(alloc);
+    match refusal {
+        Refusal::Most => frame.extend_from_slice(&MOST)?,
+        Refusal::Authors(most) => {
+            frame.extend_from_slice(&AUTHORS)?;
+            frame.extend_from_slice(&most.to_be_bytes())?;
+        }
+    }
+    Ok(frame)
+}
+
+/// The refusal that a frame says; none where the bytes are no such frame.
+pub fn read_refusal(frame: &[u8]) -> Option<Refusal>
+    ensures some { IfSome result (λ refusal. frame.now ≡ refusal_bytes refusal) }
+    ensures none { result ≡ None → (refusal : Refusal) → frame.now ≢ refusal_bytes refusal }
+{
+    if frame == MOST.as_slice() {
+        return Some(Refusal::Most);
+    }
+    match frame.strip_prefix(&AUTHORS) {
+        Some([a, b, c, d]) => Some(Refusal::Authors(u32::from_be_bytes([*a, *b, *c, *d]))),
+        _ => None,
+    }
+}
+
+/// Whether the digits of the digest of what is held, and those of a closing frame, are of two sets.
+pub fn is_apart(own: &[u8], digits: &[u8]) -> bool
+    ensures { (result ≡ false) ↔ (own.now ≡ digits.now) }
+{
+    own != digits
 }
 
 /// The dots that are used twice now and were not so before, or with fewer contents: those of the `later` forks that are not among

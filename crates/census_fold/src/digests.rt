@@ -1,15 +1,22 @@
 //! The digest of the operations of a file.
 
-ghost use Rattle.std.specs.Prelude.{◌≡◌, ◌≢◌, Ok, Err, IfOk, IfErr};
+ghost use Rattle.std.specs.Prelude.{◌≡◌, ◌≢◌, ◌++◌, Ok, Err, IfOk, IfErr};
+ghost use Rattle.std.specs.List.{flat_map};
+ghost use Rattle.sha2.specs.Sha256.{sha256};
+ghost use Rattle.oct_delta.specs.Text.{op_bytes};
 ghost use Rattle.oct_record.specs.States.{has_tag};
 ghost use Rattle.census_fold.specs.Digests.{digest_of, digest_of_set, operations_in, text_of};
 
 use census_state::{Fault, load, nothing};
-use oct_delta::encode_each;
 use oct_delta::laws::texts_are_read;
+use oct_delta::{encode_each, put_head, put_op};
+use oct_join::Ops;
 use oct_record::Record;
 use sha2::{Digest, Sha256};
-use std::alloc::Global;
+use std::alloc::{AllocError, Global};
+
+// So many bytes of a text are put together before they are taken in, and the text of one operation.
+const PIECE: usize = 65_536;
 
 /// The digest of the operations of a file, a state or a delta: the 64 hexadecimal digits, in lower case, of the SHA-256 of the
 /// delta that is written of them all. So two files have one digest where they hold the same operations, whoever the authors of
@@ -31,9 +38,31 @@ pub fn record_digest(alloc: Global, held: &Record<Global>) -> Result<Vec<u8>, Fa
     ensures ok { IfOk result (λ digits. digest_of_set held.now.ops ≡ Ok digits.items) }
     ensures err { IfErr result (λ e. e ≢ Fault.OutOfMemory → digest_of_set held.now.ops ≡ Err e) }
 {
-    let text = text_of(alloc, held)?;
-    let digits = hex::encode(alloc, Sha256::digest(text.as_slice()))?;
+    if held.len() > u32::MAX as usize {
+        return Err(Fault::TooMany);
+    }
+    let mut head = Vec::new(alloc);
+    put_head(&mut head, held.store().iter())?;
+    let hash = hash_of(head, held.store().iter())?;
+    let digits = hex::encode(alloc, hash)?;
     Ok(digits.into_bytes())
+}
+
+// The SHA-256 of a text of this head and of the operations behind it, which is put together and taken in piece by piece.
+fn hash_of(head: Vec<u8>, ops: Ops<'_, Global>) -> Result<[u8; 32], AllocError>
+    ensures { IfOk result (λ hash. hash ≡ sha256 (head.items ++ flat_map op_bytes ops.entry)) }
+{
+    let mut hasher = Sha256::new();
+    let mut piece = head;
+    for op in ops {
+        if piece.len() >= PIECE {
+            hasher.update(piece.as_slice());
+            piece.clear();
+        }
+        put_op(&mut piece, op)?;
+    }
+    hasher.update(piece.as_slice());
+    Ok(hasher.finalize())
 }
 
 /// What a file holds. The record of a delta issues nothing.

@@ -4,11 +4,11 @@ ghost use Rattle.std.specs.Prelude.{◌≡◌, ◌≢◌, Ok, Err, IfOk, IfErr, 
 ghost use Rattle.oct_ops.specs.Operations.{empty, listed, union};
 ghost use Rattle.oct_pages.specs.Catalogue.{catalogue};
 ghost use Rattle.oct_log.specs.Log.{log_text};
-ghost use Rattle.census_fold.specs.Reading.{diff_of_files, held_onto, log_together, read_together};
+ghost use Rattle.census_fold.specs.Reading.{diff_of_files, diff_of_files_in, held_onto, log_together, read_together};
 
 use crate::digests::read_held;
-use census_state::{Fault, nothing};
-use oct_log::{Wanted, write_diff, write_log};
+use census_state::{Fault, nothing, read_codes};
+use oct_log::{Wanted, write_diff, write_diff_of, write_log};
 use oct_pages::write_catalogue_of;
 use oct_record::Record;
 use std::alloc::{AllocError, Global};
@@ -26,7 +26,11 @@ pub fn read_together(alloc: Global, files: &[Vec<u8>]) -> Result<Vec<u8>, Fault>
 }
 
 /// The log of what files hold together, each a state or a delta: a line for each operation that is wanted. The fault is as above.
-pub fn log_together(alloc: Global, files: &[Vec<u8>], wanted: &Wanted) -> Result<Vec<u8>, Fault>
+pub fn log_together(
+    alloc: Global,
+    files: &[Vec<u8>],
+    wanted: &Wanted<Global>,
+) -> Result<Vec<u8>, Fault>
     ensures ok { IfOk result (λ text. log_together wanted.now (map (λ file. file.items) files.now) ≡ Ok text.items) }
     ensures err { IfErr result (λ e. e ≢ Fault.OutOfMemory → log_together wanted.now (map (λ file. file.items) files.now) ≡ Err e) }
 {
@@ -45,6 +49,25 @@ pub fn diff(alloc: Global, one: &[u8], other: &[u8]) -> Result<Vec<u8>, Fault>
     let other = read_held(alloc, other)?;
     let all = both(alloc, &one, &other)?;
     let text = write_diff(one.store(), other.store(), &all)?;
+    Ok(text)
+}
+
+/// The lines by which two files differ in the games of these codes, each file a state or a delta. The fault is that of the first
+/// file that is neither, as of `diff`; then `Code` of the first word that is none. `OutOfMemory` may come before that.
+pub fn diff_of_games(
+    alloc: Global,
+    one: &[u8],
+    other: &[u8],
+    words: &[Vec<u8>],
+) -> Result<Vec<u8>, Fault>
+    ensures ok { IfOk result (λ text. diff_of_files_in one.now other.now (map (λ word. word.items) words.now) ≡ Ok text.items) }
+    ensures err { IfErr result (λ e. e ≢ Fault.OutOfMemory → diff_of_files_in one.now other.now (map (λ word. word.items) words.now) ≡ Err e) }
+{
+    let first = read_held(alloc, one)?;
+    let second = read_held(alloc, other)?;
+    let named = read_codes(alloc, words)?;
+    let all = both(alloc, &first, &second)?;
+    let text = write_diff_of(first.store(), second.store(), &all, &named)?;
     Ok(text)
 }
 

@@ -1,3 +1,5 @@
 pub use Rattle.oct_ops.specs.Operations
 pub mod Diff
 pub mod Log
+pub mod Status
+pub mod Twice

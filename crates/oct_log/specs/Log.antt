@@ -1,8 +1,9 @@
 -- A log of a set of operations, which are listed in their order.
-use Rattle.std.specs.Prelude.{ℕ, ◌==◌, ◌&&◌, Bool, true, List, [], ◌++◌, length, codes, Option, Some, None, filter, if◌then◌else◌}
+use Rattle.std.specs.Prelude.{ℕ, ◌==◌, ◌&&◌, Bool, true, not, List, [], ◌++◌, length, codes, Option, Some, None, filter, if◌then◌else◌}
 use Rattle.std.specs.List.{flat_map}
 use Rattle.oct_code.specs.Code.{Code}
 use Rattle.oct_code.specs.CodeText.{code_text}
+use Rattle.oct_join.specs.Clock.{covers}
 use Rattle.oct_ops.specs.Body as kind
 use Rattle.oct_ops.specs.Body.{Body, Operation}
 use Rattle.oct_ops.specs.Games.{of_code}
@@ -24,8 +25,9 @@ abbrev pub is_of : Option Code → Operation → Bool
 is_of None o = true
 is_of (Some code) o = of_code code o
 
-abbrev pub is_wanted : Wanted → Operation → Bool
-is_wanted w o = is_by w.author o && is_of w.game o
+-- by the author, of the game, and not covered by the clock
+abbrev pub is_wanted : {A : Type 0} → Wanted A → Operation → Bool
+is_wanted w o = is_by w.author o && is_of w.game o && not (covers w.since o.dot)
 
 -- ---- what an operation says
 
@@ -63,5 +65,5 @@ abbrev pub log_line : (ℕ → Text) → Operation → Text
 log_line name o = named_line (name o.dot.author) o
 
 -- a line for each operation that is asked for, in their order
-abbrev pub log_text : Wanted → List Operation → Text
+abbrev pub log_text : {A : Type 0} → Wanted A → List Operation → Text
 log_text w ops = flat_map (log_line (author_name (names_of ops))) (filter (is_wanted w) ops)

@@ -5,16 +5,22 @@
 //! A line has the dot of the operation, the name of its author where it has one, and what it says. No nim-value is computed.
 //!
 //! - `write_log` gives the lines of the operations that are `Wanted`.
-//! - `write_diff` gives those by which two sets differ, each behind the sign of the set that has it.
+//! - `write_diff` gives those by which two sets differ, each behind the sign of the set that has it, and which numbers were used
+//!   twice; `write_diff_of` gives those of some games.
+//! - `write_status` gives what a record holds in a few lines: whose it is, and how many operations there are, by whom.
 //! - `append_said` appends what an operation says.
 #![tactic(auto)]
 
+mod counts;
 mod diff;
 mod log;
 mod said;
+mod status;
+mod twice;
 mod wanted;
 
-pub use diff::write_diff;
+pub use diff::{write_diff, write_diff_of};
 pub use log::write_log;
 pub use said::append_said;
+pub use status::write_status;
 pub use wanted::Wanted;

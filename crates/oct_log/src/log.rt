@@ -15,9 +15,9 @@ use std::alloc::{AllocError, Allocator};
 /// The log of those operations of a record that are wanted, in the order of operations: by author, then by number, and several
 /// contents of one number one after another. A line has the dot, the name of the author in parentheses where it has one, and
 /// what the operation says. It takes what a pass over the operations takes, and a look-up of a name for each line.
-pub fn write_log<A: Allocator + Copy>(
+pub fn write_log<A: Allocator + Copy, B: Allocator>(
     said: &Record<A>,
-    wanted: &Wanted,
+    wanted: &Wanted<B>,
 ) -> Result<Vec<u8, A>, AllocError>
     ensures { IfOk result (λ text. text.items ≡ log_text wanted.now (listed said.now.ops)) }
 {
@@ -47,8 +47,8 @@ pub(crate) fn append_line<A: Allocator, B: Allocator>(
     append_text(out, b"\n")
 }
 
-// Appends the name of an author behind its number, if it has one.
-fn append_name<A: Allocator>(out: &mut Vec<u8, A>, name: &[u8]) -> Result<(), AllocError>
+/// Appends the name of an author behind its number, if it has one.
+pub(crate) fn append_name<A: Allocator>(out: &mut Vec<u8, A>, name: &[u8]) -> Result<(), AllocError>
     ensures { OnOk result (out.new.items ≡ out.old.items ++ name_words name.now) }
 {
     if name.is_empty() {

@@ -4,24 +4,28 @@ ghost use Rattle.std.specs.Prelude.{◌≡◌};
 ghost use Rattle.oct_log.specs.Log.{is_by, is_of, is_wanted};
 
 use oct_code::Code;
+use oct_join::Clock;
 use oct_ops::Op;
 use std::alloc::Allocator;
 
-/// The operations that are asked for: those of an author, of a game, or of both. Where neither is named they are all.
-#[derive(Clone, Copy)]
-pub struct Wanted {
+/// The operations that are asked for: those of an author, of a game, and those that a clock does not cover. Where neither is
+/// named and the clock is empty they are all.
+#[derive(Drop)]
+pub struct Wanted<A: Allocator> {
     /// The author.
     pub author: Option<u32>,
     /// The game, of which blocks and claims are.
     pub game: Option<Code>,
+    /// The operations up to these numbers of their authors are known, and not asked for.
+    pub since: Clock<A>,
 }
 
-impl Wanted {
+impl<A: Allocator> Wanted<A> {
     /// Whether the operation is asked for.
-    pub fn has<A: Allocator>(&self, op: &Op<A>) -> bool
+    pub fn has<B: Allocator>(&self, op: &Op<B>) -> bool
         ensures { result ≡ is_wanted self.now op.now }
     {
-        is_by(self.author, op) && is_of(self.game, op)
+        is_by(self.author, op) && is_of(self.game, op) && !self.since.covers(&op.dot())
     }
 }
 

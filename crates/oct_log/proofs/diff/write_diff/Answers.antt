@@ -6,7 +6,7 @@ use Rattle.oct_ops.specs.Operations.{Operations, listed}
 use Rattle.oct_sheet.specs.Names.{author_name, name_in}
 use Rattle.oct_sheet.specs.Sheet.{names_of}
 use Rattle.oct_text.specs.Words.{Text}
-use Rattle.oct_log.specs.Diff.{diff_of, game_part, rest_part}
+use Rattle.oct_log.specs.Diff.{diff_of, game_part, rest_part, twice_part}
 use Rattle.oct_log.proofs.diff.write_diff.Goals as goal
 
 pub loop-code-preserved : goal.loop-code-preserved
@@ -26,8 +26,7 @@ returns g c =
     let same : name_in (λ text. text.now) c.in_ok-names.names ≡ names =
     λ i author. (c.in_ok-names.ensures.names author ∙ ap (λ notes. author_name (map (λ op. op.now) notes) author) c.deref.ensures.value ∙ ap (λ notes. author_name notes author) c.in_ok-notes.ensures) i in
     let front = c.loop-code.invariant ∙ ap (flat_map (game_part one other names ops)) (take_all c.loop-code.code-index c.deref-code-items.result.now c.loop-code-test.false ∙ c.deref-code-items.ensures.value ∙ c.in_ok-codes.ensures) in
-    c.in_ok-append_rest.ensures
-    ∙ ap (λ (found : ℕ → Text). c.loop-code.text.items ++ rest_part one other found c.store.result.now) same
-    ∙ ap (λ (held : Operations). c.loop-code.text.items ++ rest_part one other names held) c.store.ensures
-    ∙ ap (λ text. text ++ rest_part one other names ops) front
+    let rest = c.in_ok-append_rest.ensures ∙ (λ i. front i ++ rest_part one other (same i) (c.store.ensures i)) in
+    c.in_ok-append_twice.ensures
+    ∙ (λ i. rest i ++ twice_part one other (same i) (c.store-2.ensures i))
     ∙ ap (λ (held : Operations). diff_of one other (author_name (names_of (listed held))) held) c.requires
