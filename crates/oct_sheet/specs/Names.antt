@@ -1,9 +1,10 @@
 -- The names of authors. An author is called by the text of its last live note of the name `author-name`, in the order of operations.
-use Rattle.std.specs.Prelude.{ℕ, ◌==◌, ◌&&◌, Bool, if◌then◌else◌, List, [], codes, Option, Some, None}
+use Rattle.std.specs.Prelude.{◌≡◌, ℕ, ◌==◌, ◌&&◌, Bool, if◌then◌else◌, List, [], codes, Option, Some, None}
 use Rattle.std.specs.List.{filter, fold}
 use Rattle.std.specs.BTreeMap as tree
 use Rattle.std.specs.BTreeMap.{BTreeMap}
 use Rattle.std.specs.Ordering.{nat_cmp}
+use Rattle.std.specs.Str.{IsAscii}
 use Rattle.oct_ops.specs.Body as kind
 use Rattle.oct_ops.specs.Body.{Body, Operation}
 use Rattle.oct_notes.specs.Notes.{is_named}
@@ -44,6 +45,11 @@ name_at text (Some name) = text name
 -- the name of an author in a table
 abbrev pub name_in : {R : Type 0} → (R → Text) → BTreeMap ℕ R → ℕ → Text
 name_in text table author = name_at text (tree.get nat_cmp table author)
+
+-- the table has the names by these notes
+pub record HasNames {R : Type 0} (text : R → Text) (table : BTreeMap ℕ R) (notes : List Operation) : Type 0 where
+  pub names : (author : ℕ) → name_in text table author ≡ author_name notes author
+  pub ascii : (author : ℕ) → IsAscii (name_in text table author)
 
 -- an author with its name
 pub record Called : Type 0 where

@@ -5,7 +5,7 @@ ghost use Rattle.std.specs.Str.{IsAscii};
 ghost use Rattle.oct_notes.specs.Notes.{name_of};
 ghost use Rattle.oct_ops.specs.Operations.{listed};
 ghost use Rattle.oct_ops.specs.Views.{content};
-ghost use Rattle.oct_sheet.specs.Names.{author_name, called, is_naming, names, naming, text_of};
+ghost use Rattle.oct_sheet.specs.Names.{author_name, called, is_naming, naming, text_of};
 ghost use Rattle.oct_sheet.specs.Sheet.{names_of};
 
 use crate::name_table::{name_in, names_by_author};
@@ -13,6 +13,7 @@ use oct_ops::{Body, Op};
 use oct_record::Record;
 use oct_store::Author;
 use std::alloc::{AllocError, Allocator};
+use std::collections::BTreeMap;
 use std::marker::Model;
 
 // The name of the notes that name authors.
@@ -38,19 +39,52 @@ impl<'a> Model for Called<'a> {
     ghost invariant = { λ c. IsAscii c.name.now };
 }
 
-/// The name of an author by the live notes, which are listed by name and then in the order of operations: the text of the
-/// last one with the name `author-name` that this author issued. It is empty where there is none.
-pub fn author_name<'a, A: Allocator>(notes: &[&'a Op<A>], author: u32) -> &'a [u8]
-    ensures value { result.now ≡ author_name (map (λ op. op.now) notes.now) author }
-    ensures ascii { IsAscii result.now }
-{
-    let mut name: &'a [u8] = b"";
-    for op in notes {
-        if names(author, op) {
-            name = text_of(op.body());
-        }
+/// The names of authors by some live notes, which are listed by name and then in the order of operations. Its value is those
+/// of the notes that name authors.
+#[derive(Drop)]
+pub struct Names<'a, A: Allocator + Copy> {
+    notes: Vec<&'a Op<A>, A>,
+    table: BTreeMap<u32, &'a [u8], A>,
+}
+
+impl<'a, A: Allocator + Copy> Model for Names<'a, A> {
+    ghost use Rattle.std.specs.Prelude.{List, map};
+    ghost use Rattle.oct_ops.specs.Body.{Operation};
+    ghost use Rattle.oct_sheet.specs.Names.{HasNames};
+
+    ghost Value = { List Operation };
+
+    ghost view = { λ n. map (λ op. op.now) n.notes.items };
+
+    ghost invariant = { λ n. HasNames (λ text. text.now) n.table (map (λ op. op.now) n.notes.items) };
+}
+
+impl<'a, A: Allocator + Copy> Names<'a, A> {
+    /// The names by the live notes of a record.
+    pub fn of_record(said: &'a Record<A>) -> Result<Names<'a, A>, AllocError>
+        ensures { IfOk result (λ names. names ≡ names_of (listed said.now.ops)) }
+    {
+        let notes = said.notes().live_refs()?;
+        Names::among(said.allocator(), &notes)
     }
-    name
+
+    /// The names by these notes.
+    pub fn among(alloc: A, notes: &[&'a Op<A>]) -> Result<Names<'a, A>, AllocError>
+        ensures { IfOk result (λ names. names ≡ naming (map (λ op. op.now) notes.now)) }
+    {
+        let notes = naming_among(alloc, notes)?;
+        let table = names_by_author(alloc, &notes)?;
+        Ok(Names { notes, table })
+    }
+
+    /// The name of an author: the text of the last note of the name `author-name` that it issued. It is empty where there is
+    /// none.
+    pub fn of_author(&self, author: u32) -> &'a [u8]
+        ensures value { result.now ≡ author_name self.now author }
+        ensures ascii { IsAscii result.now }
+    {
+        name_in(&self.table, author)
+    }
 }
 
 /// The authors with their names, by the live notes.
@@ -101,13 +135,6 @@ pub(crate) fn is_naming<A: Allocator>(op: &Op<A>) -> bool
     ensures { result ≡ is_naming op.now }
 {
     name_of(op.body()) == NAMING
-}
-
-// Whether the operation is a note that names this author.
-fn names<A: Allocator>(author: u32, op: &Op<A>) -> bool
-    ensures { result ≡ names author op.now }
-{
-    op.dot().author() == author && is_naming(op)
 }
 
 // The name of a note; other bodies have none.
