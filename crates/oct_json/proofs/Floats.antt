@@ -1,5 +1,6 @@
 -- A document has no floats.
 use Rattle.std.proofs.Common.{◌≡◌, ℕ, false, ◌||◌, List, [], ◌∷◌, map, refl}
+use Rattle.std.specs.Prelude.{Option, Some, None}
 use Rattle.oct_ops.specs.Body as kind
 use Rattle.oct_ops.specs.Body.{Body, Operation}
 use Rattle.oct_ops.specs.Operation.{Dot}
@@ -8,7 +9,9 @@ use Rattle.oct_period.specs.declared.status.PeriodStatus.TheVariants as of_claim
 use Rattle.oct_store.specs.declared.author.Author.{Author}
 use Rattle.oct_verify.specs.declared.status.Status.{Status}
 use Rattle.oct_verify.specs.declared.status.Status.TheVariants as of_block
-use Rattle.oct_json.specs.Json.{author_data, block_by, block_data, called_data, count, document, fork_data, game_data, op_data, period_by, period_data}
+use Rattle.oct_json.specs.Json.{author_data, block_by, block_data, called_data, count, document, fork_data, game_data, least_data, op_data, period_by, period_data}
+use Rattle.oct_overview.specs.Line.{period_of}
+use Rattle.oct_overview.specs.declared.line.LeastPeriod.{LeastPeriod}
 use Rattle.oct_sheet.specs.Sheet.{GameSheet, Sheet}
 use Rattle.oct_pages.specs.declared.statuses.BlockRow.{BlockRow}
 use Rattle.oct_pages.specs.declared.statuses.PeriodRow.{PeriodRow}
@@ -39,9 +42,13 @@ op_float o = by o.dot o.body
     by d (kind.Note n) = refl
     by d (kind.Removal r) = refl
 
+least_float : (least : Option LeastPeriod) → has_float (least_data least) ≡ false
+least_float None = refl
+least_float (Some least) = refl
+
 pub game_float : (g : GameSheet) → has_float (game_data g) ≡ false
 game_float g =
-    λ i. items_float block_data (λ b. block_float b b.status) g.blocks i || (false || (false || (items_float period_data (λ p. period_float p p.status) g.periods i || (items_float count (λ n. refl) g.values i || false))))
+    λ i. items_float block_data (λ b. block_float b b.status) g.blocks i || (false || (false || (least_float (period_of g) i || (items_float period_data (λ p. period_float p p.status) g.periods i || (items_float count (λ n. refl) g.values i || false)))))
 
 author_float : (a : Author) (name : List ℕ) → has_float (called_data a name) ≡ false
 author_float a [] = refl

@@ -1,2 +1,4 @@
 pub mod Ascii
 pub mod Floats
+pub mod Items
+pub mod Spelled

@@ -1,5 +1,5 @@
 -- A sheet as JSON. The members of an object are in the order of their keys.
-use Rattle.std.specs.Prelude.{ℕ, List, [], ◌∷◌, length, map, codes}
+use Rattle.std.specs.Prelude.{ℕ, List, [], ◌∷◌, length, map, codes, Option, Some, None}
 use Rattle.oct_code.specs.CodeText.{code_text}
 use Rattle.oct_ops.specs.Body as kind
 use Rattle.oct_ops.specs.Body.{Operation}
@@ -10,11 +10,13 @@ use Rattle.oct_store.specs.declared.author.Author.{Author}
 use Rattle.oct_store.specs.declared.fork.Fork.{Fork}
 use Rattle.oct_verify.specs.declared.status.Status.{Status}
 use Rattle.oct_verify.specs.declared.status.Status.TheVariants as of_block
+use Rattle.oct_overview.specs.Line.{period_of}
+use Rattle.oct_overview.specs.declared.line.LeastPeriod.{LeastPeriod}
 use Rattle.oct_sheet.specs.Names.{Called}
 use Rattle.oct_sheet.specs.Sheet.{GameSheet, Sheet}
 use Rattle.oct_pages.specs.declared.statuses.BlockRow.{BlockRow}
 use Rattle.oct_pages.specs.declared.statuses.PeriodRow.{PeriodRow}
-use Rattle.serde_json.specs.Data.{Data, null, number, string, array, object, member, no_members, unsigned}
+use Rattle.serde_json.specs.Data.{Data, null, boolean, number, string, array, object, member, no_members, unsigned}
 use Rattle.serde_json.specs.View.{items_of}
 
 abbrev pub count : ℕ → Data
@@ -103,15 +105,28 @@ period_data p = period_by p p.status
 
 -- ---- the rest
 
+-- the least period that the known nim-values prove, the least heap from which on they prove it, and whether a claim says just this
+abbrev pub least_data : Option LeastPeriod → Data
+least_data None = null
+least_data (Some least) =
+    object
+    (member (codes "claimed") (boolean least.is_claimed)
+    (member (codes "period") (count least.period.period)
+    (member (codes "start") (count least.period.start) no_members)))
+
 -- `known` is how many values there are
-abbrev pub game_data : GameSheet → Data
-game_data g =
+abbrev pub game_by : GameSheet → Option LeastPeriod → Data
+game_by g least =
     object
     (member (codes "blocks") (list block_data g.blocks)
     (member (codes "code") (word (code_text g.code))
     (member (codes "known") (count (length g.values))
+    (member (codes "least_period") (least_data least)
     (member (codes "periods") (list period_data g.periods)
-    (member (codes "values") (list count g.values) no_members)))))
+    (member (codes "values") (list count g.values) no_members))))))
+
+abbrev pub game_data : GameSheet → Data
+game_data g = game_by g (period_of g)
 
 abbrev pub note_data : Dot → Note → Data
 note_data d n =

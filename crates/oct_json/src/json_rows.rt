@@ -4,11 +4,13 @@ ghost use Rattle.std.specs.Prelude.{◌≡◌, ◌<◌, [], IfOk, length};
 ghost use Rattle.std.specs.Str.{IsAscii};
 ghost use Rattle.serde_json.specs.View.{view};
 ghost use Rattle.oct_code.specs.CodeText.{code_text};
-ghost use Rattle.oct_json.specs.Json.{called_data, note_data, pending_period, plain_block, proved_period, refuted_block, refuted_period, word};
+ghost use Rattle.oct_pages.specs.Contents.{game_content};
+ghost use Rattle.oct_json.specs.Json.{called_data, game_by, least_data, note_data, pending_period, plain_block, proved_period, refuted_block, refuted_period, word};
 
-use crate::json::{ToJson, array_of};
+use crate::forms::{ToJson, array_of};
 use oct_code::Code;
 use oct_ops::{Body, Dot, Note, Op};
+use oct_overview::LeastPeriod;
 use oct_pages::{BlockRow, GameSheet, PeriodRow};
 use oct_period::PeriodStatus;
 use oct_sheet::Called;
@@ -133,24 +135,40 @@ fn pending_period(alloc: Global, row: &PeriodRow, needs: u32) -> Result<Value, A
     })
 }
 
-impl ToJson for GameSheet<'_, Global> {
-    ghost use Rattle.oct_pages.specs.Contents.{game_content};
-    ghost use Rattle.oct_json.specs.Json.{game_data};
+/// The value of a game with this least period.
+pub(crate) fn game_json(
+    alloc: Global,
+    game: &GameSheet<'_, Global>,
+    least: &Option<LeastPeriod>,
+) -> Result<Value, AllocError>
+    ensures { IfOk result (λ v. view v ≡ game_by (game_content game.now) least.now) }
+{
+    let code = code_value(alloc, &game.code)?;
+    let blocks = array_of(alloc, &game.blocks)?;
+    let periods = array_of(alloc, &game.periods)?;
+    let values = array_of(alloc, game.values)?;
+    let least = least_json(alloc, least)?;
+    json!(in alloc; {
+        "blocks": blocks,
+        "code": code,
+        "known": game.values.len(),
+        "least_period": least,
+        "periods": periods,
+        "values": values
+    })
+}
 
-    ghost form = { λ g. game_data (game_content g) };
-
-    fn to_json(&self, alloc: Global) -> Result<Value, AllocError> {
-        let code = code_value(alloc, &self.code)?;
-        let blocks = array_of(alloc, &self.blocks)?;
-        let periods = array_of(alloc, &self.periods)?;
-        let values = array_of(alloc, self.values)?;
-        json!(in alloc; {
-            "blocks": blocks,
-            "code": code,
-            "known": self.values.len(),
-            "periods": periods,
-            "values": values
-        })
+// The value of the least period that is proved; null where none is.
+fn least_json(alloc: Global, least: &Option<LeastPeriod>) -> Result<Value, AllocError>
+    ensures { IfOk result (λ v. view v ≡ least_data least.now) }
+{
+    match least {
+        Some(least) => json!(in alloc; {
+            "claimed": least.is_claimed,
+            "period": least.period.period(),
+            "start": least.period.start()
+        }),
+        None => Ok(Value::Null),
     }
 }
 

@@ -1,26 +1,30 @@
 -- What is told of a game on one line, and of each block and claim that is refuted: in words, or as an object of JSON.
-use Rattle.std.specs.Prelude.{ℕ, ◌+◌, ◌==◌, if◌then◌else◌, List, [], ◌∷◌, ◌++◌, codes, length, slice_get, Option, Some, None}
+use Rattle.std.specs.Prelude.{ℕ, Bool, true, false, ◌+◌, ◌==◌, if◌then◌else◌, List, [], ◌∷◌, ◌++◌, codes, length, slice_get, Option, Some, None}
 use Rattle.std.specs.List.{concat, flat_map}
 use Rattle.std.specs.Fmt.{decimal}
 use Rattle.oct_code.specs.Code.{Code}
 use Rattle.oct_code.specs.CodeText.{code_text}
 use Rattle.oct_ops.specs.Body.{Operation}
-use Rattle.oct_ops.specs.Operation.{Dot, Period}
+use Rattle.oct_ops.specs.Operation.{Dot}
 use Rattle.oct_text.specs.Words.{Text, dot_text}
-use Rattle.oct_pages.specs.Sheet.{GameSheet}
+use Rattle.oct_pages.specs.Sheet.{GameSheet, game_sheet}
 use Rattle.oct_pages.specs.declared.statuses.BlockRow.{BlockRow}
 use Rattle.oct_pages.specs.declared.statuses.PeriodRow.{PeriodRow}
 use Rattle.oct_period.specs.declared.status.PeriodStatus.TheVariants as of_claim
 use Rattle.oct_verify.specs.declared.status.Status.TheVariants as of_block
 use Rattle.oct_text.specs.Escape.{quoted}
 use Rattle.oct_sheet.specs.Names.{author_name}
-use Rattle.oct_sheet.specs.Summary.{summary_of}
-use Rattle.oct_sheet.specs.declared.summary.Summary.{Summary}
+use Rattle.oct_sheet.specs.Sheet.{names_of}
 use Rattle.oct_sheet.specs.declared.summary.Tally.{Tally}
 use Rattle.oct_text.specs.declared.form.Form.{Form}
 use Rattle.oct_text.specs.declared.form.Form.TheVariants.{Lines, Json}
-use Rattle.oct_text.specs.declared.told.Told.{Told}
-use Rattle.oct_text.specs.declared.told.Told.TheVariants.{Counts, Refutations}
+use Rattle.oct_overview.specs.Line.{is_selected, line_of}
+use Rattle.oct_overview.specs.Tables.{csv_head, csv_row, latex_foot, latex_head, latex_row}
+use Rattle.oct_overview.specs.declared.line.GameLine.{GameLine}
+use Rattle.oct_overview.specs.declared.line.LeastPeriod.{LeastPeriod}
+use Rattle.oct_overview.specs.declared.listing.Condition.{Condition}
+use Rattle.oct_overview.specs.declared.listing.Listing.{Listing}
+use Rattle.oct_overview.specs.declared.listing.Listing.TheVariants.{Games, Refuted, Csv, Latex}
 
 -- what stands in a line of words, and what in an object
 abbrev pub word : Form → Text → Text → Text
@@ -35,9 +39,16 @@ known_words form c known = concat (
     word form [] (codes "{\"code\":\"") ∷ code_text c
     ∷ word form (codes " known ") (codes "\",\"known\":") ∷ decimal known ∷ [])
 
--- the period that is proved, and the heap from which on it holds
-abbrev pub period_words : Form → Option Period → Text
-period_words form (Some p) = concat (word form (codes " period ") (codes ",\"period\":") ∷ decimal p.period ∷ word form (codes " from ") (codes ",\"from\":") ∷ decimal p.start ∷ [])
+-- what stands behind a period: nothing where a claim says just this
+abbrev pub claim_word : Form → Bool → Text
+claim_word form true = []
+claim_word form false = word form (codes " unclaimed") (codes ",\"claimed\":false")
+
+-- the least period that is proved, the least heap from which on it is, and whether nobody claimed it
+abbrev pub period_words : Form → Option LeastPeriod → Text
+period_words form (Some least) = concat (
+    word form (codes " period ") (codes ",\"period\":") ∷ decimal least.period.period ∷ word form (codes " from ") (codes ",\"from\":") ∷ decimal least.period.start
+    ∷ claim_word form least.is_claimed ∷ [])
 period_words form None = word form (codes " no period") (codes ",\"period\":null")
 
 -- how many are proved, refuted and pending
@@ -52,13 +63,10 @@ block_words form tally = tally_words form (word form (codes " blocks proved ") (
 abbrev pub claim_words : Form → Tally → Text
 claim_words form tally = tally_words form (word form (codes " claims proved ") (codes "},\"claims\":{\"proved\":")) tally
 
-abbrev pub summary_line : Form → Summary → Text
-summary_line form s = concat (
-    known_words form s.code s.known ∷ period_words form s.proved ∷ block_words form s.blocks ∷ claim_words form s.claims
-    ∷ word form (codes "\n") (codes "}}\n") ∷ [])
-
-abbrev pub counts_line : Form → GameSheet → Text
-counts_line form g = summary_line form (summary_of g)
+abbrev pub line_text : Form → GameLine → Text
+line_text form line = concat (
+    known_words form line.summary.code line.summary.known ∷ period_words form line.least ∷ block_words form line.summary.blocks
+    ∷ claim_words form line.summary.claims ∷ word form (codes "\n") (codes "}}\n") ∷ [])
 
 -- ---- the lines of what is refuted
 
@@ -116,8 +124,36 @@ claim_refutation form names c values row =
 abbrev pub refutations : Form → List Operation → GameSheet → Text
 refutations form names g = flat_map (block_refutation form names g.code) g.blocks ++ flat_map (claim_refutation form names g.code g.values) g.periods
 
--- ---- what is told of a game, with the names of authors by these notes
+-- ---- what is told of a game that has this line, with the names of authors by these notes
 
-abbrev pub told : Told → Form → List Operation → GameSheet → Text
-told Counts form names = counts_line form
-told Refutations form names = refutations form names
+abbrev pub told : Listing → List Operation → GameSheet → GameLine → Text
+told (Games form) names g line = line_text form line
+told (Refuted form) names g line = refutations form names g
+told Csv names g line = csv_row line
+told Latex names g line = latex_row line
+
+-- and nothing where a condition does not hold
+abbrev pub told_if : List Condition → Listing → List Operation → GameSheet → Text
+told_if which listing names g = if is_selected which (line_of g) then told listing names g (line_of g) else []
+
+-- ---- what is told of games
+
+-- what stands before all games, and behind them
+abbrev pub head : Listing → Text
+head (Games form) = []
+head (Refuted form) = []
+head Csv = csv_head
+head Latex = latex_head
+
+abbrev pub foot : Listing → Text
+foot (Games form) = []
+foot (Refuted form) = []
+foot Csv = []
+foot Latex = latex_foot
+
+-- what is told of a game among these operations
+abbrev pub told_of : Listing → List Operation → Code → Text
+told_of listing ops c = told listing (names_of ops) (game_sheet ops c) (line_of (game_sheet ops c))
+
+abbrev pub overview : Listing → List Operation → List Code → Text
+overview listing ops games = head listing ++ flat_map (told_of listing ops) games ++ foot listing

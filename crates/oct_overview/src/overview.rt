@@ -1,62 +1,89 @@
 //! What is told of games, a line for each, and of each block and claim that is refuted.
 #![tactic(auto, using(oct_ops::proofs::Growing::growing))]
 
-ghost use Rattle.std.specs.Prelude.{◌≡◌, ◌++◌, map, slice_get, OnErr, OnOk};
+ghost use Rattle.std.specs.Prelude.{◌≡◌, ◌++◌, slice_get, OnErr, OnOk};
 ghost use Rattle.std.specs.List.{flat_map};
 ghost use Rattle.oct_ops.specs.Operations.{listed};
 ghost use Rattle.oct_pages.specs.Contents.{game_content};
 ghost use Rattle.oct_ops.specs.Growth.{Extends};
 ghost use Rattle.oct_pages.specs.Sheet.{game_sheet};
 ghost use Rattle.oct_store.specs.Summary as summary;
-ghost use Rattle.oct_sheet.specs.Sheet.{names_of};
-ghost use Rattle.oct_overview.specs.Overview.{block_refutation, block_words, both_values, called_words, claim_refutation, claim_words, counts_line, known_words, line_end, name_words, period_words, refutations, refuted_claim, summary_line, tally_words, told, word, wrong_block, wrong_claim};
+ghost use Rattle.oct_overview.specs.Line.{line_of, selected};
+ghost use Rattle.oct_overview.specs.Overview.{block_refutation, block_words, both_values, called_words, claim_refutation, claim_word, claim_words, foot, head, known_words, line_end, line_text, name_words, overview, period_words, refutations, refuted_claim, tally_words, told, told_if, word, wrong_block, wrong_claim};
 
+use crate::line::{GameLine, LeastPeriod};
+use crate::listing::{Condition, Listing};
+use crate::tables::{append_csv_row, append_latex_row};
 use oct_code::Code;
 use oct_join::OpSet;
-use oct_ops::{Dot, Op, Period};
+use oct_ops::Dot;
 use oct_pages::{BlockRow, GameSheet, PeriodRow, game_of};
 use oct_period::PeriodStatus;
 use oct_record::Record;
-use oct_sheet::{Summary, Tally, author_name, naming_notes};
+use oct_sheet::{Names, Tally};
 use oct_text::Piece::{Code as CodeText, Dot as DotText, Number, Quoted, Text};
-use oct_text::{Form, Told, append_pieces, append_text};
+use oct_text::{Form, append_pieces, append_text};
 use oct_verify::Status;
 use std::alloc::{AllocError, Allocator};
 
-/// Appends what is told of the games of these codes, as `specs/Overview` spells it, with the names of authors behind what is
-/// refuted. Each game is built in its turn, and let go before the next; one of which nothing was said is told of too. The one error is that memory is refused, and then `out` stays
-/// as it is.
+/// Appends what is told of those games of these codes for which each of the conditions holds, as `specs/Overview` spells it, with
+/// the names of authors behind what is refuted. Each game is built in its turn, and let go before the next; one of which nothing
+/// was said is told of too, if the conditions hold. The one error is that memory is refused, and then `out` stays as it is.
 pub fn write_overview<A: Allocator + Copy>(
     said: &Record<A>,
     codes: &[Code],
-    what: Told,
-    form: Form,
+    which: &[Condition],
+    listing: Listing,
     out: &mut Vec<u8, A>,
 ) -> Result<(), AllocError>
-    ensures ok { OnOk result (out.new.items ≡ out.old.items ++ flat_map (λ c. told what form (names_of (listed said.now.ops)) (game_sheet (listed said.now.ops) c)) codes.now) }
+    ensures ok { OnOk result (out.new.items ≡ out.old.items ++ overview listing (listed said.now.ops) (selected which.now (listed said.now.ops) codes.now)) }
     ensures err { OnErr result (out.new.items ≡ out.old.items) }
 {
     let before = out.len();
-    let written = append_named(out, said, codes, what, form);
+    let written = append_named(out, said, codes, which, listing);
     if written.is_err() {
         out.truncate(before);
     }
     written
 }
 
-// Appends what is told of the games, with the names of authors.
+// Appends what is told of the games, with the names of authors, between the head and the foot.
 fn append_named<A: Allocator + Copy>(
     out: &mut Vec<u8, A>,
     said: &Record<A>,
     codes: &[Code],
-    what: Told,
-    form: Form,
+    which: &[Condition],
+    listing: Listing,
 ) -> Result<(), AllocError>
-    ensures ok { OnOk result (out.new.items ≡ out.old.items ++ flat_map (λ c. told what form (names_of (listed said.now.ops)) (game_sheet (listed said.now.ops) c)) codes.now) }
+    ensures ok { OnOk result (out.new.items ≡ out.old.items ++ overview listing (listed said.now.ops) (selected which.now (listed said.now.ops) codes.now)) }
     ensures grown { Extends out.old.items out.new.items }
 {
-    let names = naming_notes(said)?;
-    append_games(out, said, codes, &names, what, form)
+    let names = Names::of_record(said)?;
+    append_text(out, head(listing))?;
+    append_games(out, said, codes, &names, which, listing)?;
+    append_text(out, foot(listing))
+}
+
+// What stands before all games.
+fn head(listing: Listing) -> &'static [u8]
+    ensures { result.now ≡ head listing }
+{
+    match listing {
+        Listing::Games(_) | Listing::Refuted(_) => b"",
+        Listing::Csv =>
+            b"code,known,period,start,claimed,blocks_proved,blocks_refuted,blocks_pending,claims_proved,claims_refuted,claims_pending\r\n",
+        Listing::Latex => b"\\begin{tabular}{lrrr}\nCode & Known & Period & Start \\\\\n\\hline\n",
+    }
+}
+
+// What stands behind all games.
+fn foot(listing: Listing) -> &'static [u8]
+    ensures { result.now ≡ foot listing }
+{
+    match listing {
+        Listing::Games(_) | Listing::Refuted(_) | Listing::Csv => b"",
+        Listing::Latex => b"\\end{tabular}\n",
+    }
 }
 
 // Appends what is told of the games.
@@ -64,41 +91,41 @@ fn append_games<A: Allocator + Copy>(
     out: &mut Vec<u8, A>,
     said: &Record<A>,
     codes: &[Code],
-    names: &[&Op<A>],
-    what: Told,
-    form: Form,
+    names: &Names<'_, A>,
+    which: &[Condition],
+    listing: Listing,
 ) -> Result<(), AllocError>
-    ensures ok { OnOk result (out.new.items ≡ out.old.items ++ flat_map (λ c. told what form (map (λ op. op.now) names.now) (game_sheet (listed said.now.ops) c)) codes.now) }
+    ensures ok { OnOk result (out.new.items ≡ out.old.items ++ flat_map (λ c. told_if which.now listing names.now (game_sheet (listed said.now.ops) c)) codes.now) }
     ensures grown { Extends out.old.items out.new.items }
 {
     for code in codes {
-        append_game(out, said, *code, names, what, form)?;
+        append_game(out, said, *code, names, which, listing)?;
     }
     Ok(())
 }
 
-// Appends what is told of a game.
+// Appends what is told of a game, if the conditions hold.
 fn append_game<A: Allocator + Copy>(
     out: &mut Vec<u8, A>,
     said: &Record<A>,
     code: Code,
-    names: &[&Op<A>],
-    what: Told,
-    form: Form,
+    names: &Names<'_, A>,
+    which: &[Condition],
+    listing: Listing,
 ) -> Result<(), AllocError>
-    ensures ok { OnOk result (out.new.items ≡ out.old.items ++ told what form (map (λ op. op.now) names.now) (game_sheet (listed said.now.ops) code)) }
+    ensures ok { OnOk result (out.new.items ≡ out.old.items ++ told_if which.now listing names.now (game_sheet (listed said.now.ops) code)) }
     ensures grown { Extends out.old.items out.new.items }
 {
     match said.game(code) {
-        Some(ops) => append_built(out, said, code, ops, names, what, form),
+        Some(ops) => append_built(out, said, code, ops, names, which, listing),
         None => append_built(
             out,
             said,
             code,
             &OpSet::new(said.allocator()),
             names,
-            what,
-            form,
+            which,
+            listing,
         ),
     }
 }
@@ -109,33 +136,57 @@ fn append_built<A: Allocator + Copy>(
     said: &Record<A>,
     code: Code,
     ops: &OpSet<A>,
-    names: &[&Op<A>],
-    what: Told,
-    form: Form,
+    names: &Names<'_, A>,
+    which: &[Condition],
+    listing: Listing,
 ) -> Result<(), AllocError>
     requires { ops.now ≡ summary.of_game said.now.ops code }
-    ensures ok { OnOk result (out.new.items ≡ out.old.items ++ told what form (map (λ op. op.now) names.now) (game_sheet (listed said.now.ops) code)) }
+    ensures ok { OnOk result (out.new.items ≡ out.old.items ++ told_if which.now listing names.now (game_sheet (listed said.now.ops) code)) }
     ensures grown { Extends out.old.items out.new.items }
 {
     let game = game_of(said, code)?;
     let sheet = GameSheet::of_game(said.allocator(), &game, ops)?;
-    append_told(out, &sheet, names, what, form)
+    let found = game.find_period();
+    let line = GameLine::of(&sheet, &found);
+    append_selected(out, &sheet, &line, names, which, listing)
+}
+
+// Appends what is told of a sheet, if the conditions hold of its line.
+fn append_selected<A: Allocator + Copy>(
+    out: &mut Vec<u8, A>,
+    sheet: &GameSheet<'_, A>,
+    line: &GameLine,
+    names: &Names<'_, A>,
+    which: &[Condition],
+    listing: Listing,
+) -> Result<(), AllocError>
+    requires { line.now ≡ line_of (game_content sheet.now) }
+    ensures ok { OnOk result (out.new.items ≡ out.old.items ++ told_if which.now listing names.now (game_content sheet.now)) }
+    ensures grown { Extends out.old.items out.new.items }
+{
+    if line.is_selected(which) {
+        append_told(out, sheet, line, names, listing)
+    } else {
+        append_pieces(out, &[])
+    }
 }
 
 // Appends what is told of a sheet.
 fn append_told<A: Allocator + Copy>(
     out: &mut Vec<u8, A>,
     sheet: &GameSheet<'_, A>,
-    names: &[&Op<A>],
-    what: Told,
-    form: Form,
+    line: &GameLine,
+    names: &Names<'_, A>,
+    listing: Listing,
 ) -> Result<(), AllocError>
-    ensures ok { OnOk result (out.new.items ≡ out.old.items ++ told what form (map (λ op. op.now) names.now) (game_content sheet.now)) }
+    ensures ok { OnOk result (out.new.items ≡ out.old.items ++ told listing names.now (game_content sheet.now) line.now) }
     ensures grown { Extends out.old.items out.new.items }
 {
-    match what {
-        Told::Counts => append_counts(out, sheet, form),
-        Told::Refutations => append_refutations(out, sheet, names, form),
+    match listing {
+        Listing::Games(form) => append_line(out, line, form),
+        Listing::Refuted(form) => append_refutations(out, sheet, names, form),
+        Listing::Csv => append_csv_row(out, line),
+        Listing::Latex => append_latex_row(out, line),
     }
 }
 
@@ -152,28 +203,17 @@ fn word(form: Form, line: &'static [u8], object: &'static [u8]) -> &'static [u8]
 // ---- the line of a game
 
 // Appends the line of a game.
-fn append_counts<A: Allocator + Copy>(
+fn append_line<A: Allocator>(
     out: &mut Vec<u8, A>,
-    sheet: &GameSheet<'_, A>,
+    line: &GameLine,
     form: Form,
 ) -> Result<(), AllocError>
-    ensures ok { OnOk result (out.new.items ≡ out.old.items ++ counts_line form (game_content sheet.now)) }
+    ensures ok { OnOk result (out.new.items ≡ out.old.items ++ line_text form line.now) }
     ensures grown { Extends out.old.items out.new.items }
 {
-    append_summary(out, &Summary::of(sheet), form)
-}
-
-// Appends the line of a summary.
-fn append_summary<A: Allocator>(
-    out: &mut Vec<u8, A>,
-    row: &Summary,
-    form: Form,
-) -> Result<(), AllocError>
-    ensures ok { OnOk result (out.new.items ≡ out.old.items ++ summary_line form row.now) }
-    ensures grown { Extends out.old.items out.new.items }
-{
+    let row = &line.summary;
     append_known(out, row.code, row.known, form)?;
-    append_period(out, &row.proved, form)?;
+    append_period(out, &line.least, form)?;
     append_blocks(out, row.blocks, form)?;
     append_claims(out, row.claims, form)?;
     append_word(out, form, b"\n", b"}}\n")
@@ -213,26 +253,38 @@ fn append_known<A: Allocator>(
     )
 }
 
-// Appends the period that is proved, or that there is none.
+// Appends the least period that is proved, and whether nobody claimed it, or that there is none.
 fn append_period<A: Allocator>(
     out: &mut Vec<u8, A>,
-    proved: &Option<Period>,
+    least: &Option<LeastPeriod>,
     form: Form,
 ) -> Result<(), AllocError>
-    ensures ok { OnOk result (out.new.items ≡ out.old.items ++ period_words form proved.now) }
+    ensures ok { OnOk result (out.new.items ≡ out.old.items ++ period_words form least.now) }
     ensures grown { Extends out.old.items out.new.items }
 {
-    match proved {
-        Some(claim) => append_pieces(
+    match least {
+        Some(least) => append_pieces(
             out,
             &[
                 Text(word(form, b" period ", b",\"period\":")),
-                Number(u64::from(claim.period())),
+                Number(u64::from(least.period.period())),
                 Text(word(form, b" from ", b",\"from\":")),
-                Number(u64::from(claim.start())),
+                Number(u64::from(least.period.start())),
+                Text(claim_word(form, least.is_claimed)),
             ],
         ),
         None => append_pieces(out, &[Text(word(form, b" no period", b",\"period\":null"))]),
+    }
+}
+
+// What stands behind a period: nothing where it is claimed.
+fn claim_word(form: Form, is_claimed: bool) -> &'static [u8]
+    ensures { result.now ≡ claim_word form is_claimed }
+{
+    if is_claimed {
+        b""
+    } else {
+        word(form, b" unclaimed", b",\"claimed\":false")
     }
 }
 
@@ -291,10 +343,10 @@ fn append_tally<A: Allocator>(
 fn append_refutations<A: Allocator + Copy>(
     out: &mut Vec<u8, A>,
     sheet: &GameSheet<'_, A>,
-    names: &[&Op<A>],
+    names: &Names<'_, A>,
     form: Form,
 ) -> Result<(), AllocError>
-    ensures ok { OnOk result (out.new.items ≡ out.old.items ++ refutations form (map (λ op. op.now) names.now) (game_content sheet.now)) }
+    ensures ok { OnOk result (out.new.items ≡ out.old.items ++ refutations form names.now (game_content sheet.now)) }
     ensures grown { Extends out.old.items out.new.items }
 {
     append_wrong_blocks(out, sheet.code, &sheet.blocks, names, form)?;
@@ -302,14 +354,14 @@ fn append_refutations<A: Allocator + Copy>(
 }
 
 // Appends a line for each refuted block.
-fn append_wrong_blocks<A: Allocator, B: Allocator>(
+fn append_wrong_blocks<A: Allocator, B: Allocator + Copy>(
     out: &mut Vec<u8, A>,
     code: Code,
     rows: &[BlockRow],
-    names: &[&Op<B>],
+    names: &Names<'_, B>,
     form: Form,
 ) -> Result<(), AllocError>
-    ensures ok { OnOk result (out.new.items ≡ out.old.items ++ flat_map (block_refutation form (map (λ op. op.now) names.now) code) rows.now) }
+    ensures ok { OnOk result (out.new.items ≡ out.old.items ++ flat_map (block_refutation form names.now code) rows.now) }
     ensures grown { Extends out.old.items out.new.items }
 {
     for row in rows {
@@ -319,14 +371,14 @@ fn append_wrong_blocks<A: Allocator, B: Allocator>(
 }
 
 // Appends the line of a block, if it is refuted.
-fn append_block_refutation<A: Allocator, B: Allocator>(
+fn append_block_refutation<A: Allocator, B: Allocator + Copy>(
     out: &mut Vec<u8, A>,
     code: Code,
     row: &BlockRow,
-    names: &[&Op<B>],
+    names: &Names<'_, B>,
     form: Form,
 ) -> Result<(), AllocError>
-    ensures ok { OnOk result (out.new.items ≡ out.old.items ++ block_refutation form (map (λ op. op.now) names.now) code row.now) }
+    ensures ok { OnOk result (out.new.items ≡ out.old.items ++ block_refutation form names.now code row.now) }
     ensures grown { Extends out.old.items out.new.items }
 {
     match row.status {
@@ -373,16 +425,16 @@ fn append_wrong_block<A: Allocator>(
 }
 
 // Appends the name of the author, where there is one, and the end of the line.
-fn append_line_end<A: Allocator, B: Allocator>(
+fn append_line_end<A: Allocator, B: Allocator + Copy>(
     out: &mut Vec<u8, A>,
-    names: &[&Op<B>],
+    names: &Names<'_, B>,
     dot: Dot,
     form: Form,
 ) -> Result<(), AllocError>
-    ensures ok { OnOk result (out.new.items ≡ out.old.items ++ line_end form (map (λ op. op.now) names.now) dot) }
+    ensures ok { OnOk result (out.new.items ≡ out.old.items ++ line_end form names.now dot) }
     ensures grown { Extends out.old.items out.new.items }
 {
-    append_name(out, author_name(names, dot.author()), form)?;
+    append_name(out, names.of_author(dot.author()), form)?;
     append_word(out, form, b"\n", b"}\n")
 }
 
@@ -418,15 +470,15 @@ fn append_called<A: Allocator>(
 }
 
 // Appends a line for each refuted claim.
-fn append_wrong_claims<A: Allocator, B: Allocator>(
+fn append_wrong_claims<A: Allocator, B: Allocator + Copy>(
     out: &mut Vec<u8, A>,
     code: Code,
     values: &[u32],
     rows: &[PeriodRow],
-    names: &[&Op<B>],
+    names: &Names<'_, B>,
     form: Form,
 ) -> Result<(), AllocError>
-    ensures ok { OnOk result (out.new.items ≡ out.old.items ++ flat_map (claim_refutation form (map (λ op. op.now) names.now) code values.now) rows.now) }
+    ensures ok { OnOk result (out.new.items ≡ out.old.items ++ flat_map (claim_refutation form names.now code values.now) rows.now) }
     ensures grown { Extends out.old.items out.new.items }
 {
     for row in rows {
@@ -436,15 +488,15 @@ fn append_wrong_claims<A: Allocator, B: Allocator>(
 }
 
 // Appends the line of a claim, if it is refuted.
-fn append_claim_refutation<A: Allocator, B: Allocator>(
+fn append_claim_refutation<A: Allocator, B: Allocator + Copy>(
     out: &mut Vec<u8, A>,
     code: Code,
     values: &[u32],
     row: &PeriodRow,
-    names: &[&Op<B>],
+    names: &Names<'_, B>,
     form: Form,
 ) -> Result<(), AllocError>
-    ensures ok { OnOk result (out.new.items ≡ out.old.items ++ claim_refutation form (map (λ op. op.now) names.now) code values.now row.now) }
+    ensures ok { OnOk result (out.new.items ≡ out.old.items ++ claim_refutation form names.now code values.now row.now) }
     ensures grown { Extends out.old.items out.new.items }
 {
     match row.status {
@@ -456,16 +508,16 @@ fn append_claim_refutation<A: Allocator, B: Allocator>(
 }
 
 // Appends the line of a claim that breaks at this heap first.
-fn append_refuted_claim<A: Allocator, B: Allocator>(
+fn append_refuted_claim<A: Allocator, B: Allocator + Copy>(
     out: &mut Vec<u8, A>,
     code: Code,
     values: &[u32],
     row: &PeriodRow,
     heap: u32,
-    names: &[&Op<B>],
+    names: &Names<'_, B>,
     form: Form,
 ) -> Result<(), AllocError>
-    ensures ok { OnOk result (out.new.items ≡ out.old.items ++ refuted_claim form (map (λ op. op.now) names.now) code values.now row.now heap) }
+    ensures ok { OnOk result (out.new.items ≡ out.old.items ++ refuted_claim form names.now code values.now row.now heap) }
     ensures grown { Extends out.old.items out.new.items }
 {
     append_wrong_claim(out, code, row, heap, form)?;

@@ -1,11 +1,10 @@
-use Rattle.std.proofs.Common.{map}
 use Rattle.oct_ops.proofs.Growing.{grown_each}
 use Rattle.oct_ops.specs.Operations.{listed}
 use Rattle.oct_pages.specs.Sheet.{game_sheet}
-use Rattle.oct_overview.specs.Overview.{told}
+use Rattle.oct_overview.specs.Overview.{told_if}
 use Rattle.oct_overview.proofs.overview.append_games.Goals as goal
 
 pub loop-code-preserved : goal.loop-code-preserved
 loop-code-preserved g c =
-    grown_each (λ x. told c.args.what c.args.form (map (λ op. op.now) c.args.names.now) (game_sheet (listed c.args.said.now.ops) x)) c.args.codes.now c.loop-code.code-index _ c.code-item.result c.args.out.now.items c.loop-code.out.items c.append_game.new.out.items
+    grown_each (λ x. told_if c.args.which.now c.args.listing c.args.names.now (game_sheet (listed c.args.said.now.ops) x)) c.args.codes.now c.loop-code.code-index _ c.code-item.result c.args.out.now.items c.loop-code.out.items c.append_game.new.out.items
     c.loop-code-test.true c.code-item.is c.loop-code.invariant c.in_ok-append_game.ensures.ok

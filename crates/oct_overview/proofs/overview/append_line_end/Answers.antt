@@ -4,4 +4,4 @@ use Rattle.oct_overview.proofs.overview.append_line_end.Goals as goal
 pub returns-clause-ok : goal.returns-clause-ok
 returns-clause-ok g c =
     joined_two c.append_word.result _ _ _ _ _
-    (rw (c.author_name.ensures.value, c.author.ensures.value) at c.in_ok-append_name.ensures.ok) c.append_word.ensures.ok
+    (rw (c.of_author.ensures.value, c.author.ensures.value) at c.in_ok-append_name.ensures.ok) c.append_word.ensures.ok

@@ -1,5 +1,5 @@
 use Rattle.oct_text.proofs.Joined.{joined_five}
-use Rattle.oct_overview.proofs.overview.append_summary.Goals as goal
+use Rattle.oct_overview.proofs.overview.append_line.Goals as goal
 
 pub returns-clause-ok : goal.returns-clause-ok
 returns-clause-ok g c =
