@@ -7,11 +7,14 @@ use Rattle.oct_pages.specs.GamesIn.{content_in}
 use Rattle.oct_record.specs.Content.{RecordContent}
 use Rattle.oct_store.specs.Summary.{of_game}
 use Rattle.oct_bfile.specs.Bfile.{bfile_text}
+use Rattle.oct_overview.specs.Line.{least_in}
+use Rattle.oct_overview.proofs.Choosing.{least_in-sheet_by}
 use Rattle.oct_plot.specs.Plot as picture
 use Rattle.oct_pages.specs.Sheet.{GameSheet, game_sheet, sheet_by}
 use Rattle.oct_pages.proofs.SheetLaws.{sheet_by-is}
 use Rattle.census_state.specs.Codes.{code_of, read_code}
 use Rattle.census_tell.specs.Questions.{told, told_of}
+use Rattle.census_tell.specs.Viewing.{known_values}
 use Rattle.census_state.specs.Replies.{Answer, text_alone}
 use Rattle.census_state.specs.Steps.{◌>>=◌, because}
 use Rattle.census_state.specs.Stored.{loaded}
@@ -36,4 +39,7 @@ pub told_is : (q : question.Question) (ops : Operations) (c : Code) → told_of 
 told_is (question.TheVariants.Value heaps form) ops c = refl
 told_is (question.TheVariants.Move heaps form) ops c = refl
 told_is question.TheVariants.Bfile ops c = ap (λ (s : GameSheet). bfile_text s.values) (sheet_is ops c)
-told_is question.TheVariants.Plot ops c = ap (λ (s : GameSheet). picture.plot c s.values s.proved) (sheet_is ops c)
+told_is question.TheVariants.Plot ops c =
+    let game = content_in ops c in
+    ap (picture.plot c (known_values game)) (least_in-sheet_by game (listed (of_game ops c)))
+    ∙ ap (λ (s : GameSheet). picture.plot c s.values (least_in s)) (sheet_is ops c)

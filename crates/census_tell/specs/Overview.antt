@@ -1,13 +1,14 @@
 -- What is told of games, and what is shown of some of them alone.
 use Rattle.std.specs.Prelude.{List, [], ◌∷◌, Result, Ok}
-use Rattle.std.specs.List.{flat_map}
 use Rattle.oct_code.specs.Code.{Code}
 use Rattle.oct_delta.specs.Text.{Bytes}
 use Rattle.oct_ops.specs.Operations.{Operations, listed}
 use Rattle.oct_pages.specs.Catalogue as catalogue
 use Rattle.oct_text.specs.Words.{Text}
-use Rattle.oct_overview.specs.Overview.{told}
-use Rattle.oct_sheet.specs.Sheet.{game_sheet, names_of}
+use Rattle.oct_overview.specs.Line.{listing_of, selected}
+use Rattle.oct_overview.specs.Overview.{overview}
+use Rattle.oct_overview.specs.declared.listing.Condition.{Condition}
+use Rattle.oct_overview.specs.declared.listing.Listing.{Listing}
 use Rattle.oct_text.specs.declared.form.Form.{Form}
 use Rattle.oct_text.specs.declared.told.Told.{Told}
 use Rattle.census_state.specs.Alone.{only_of}
@@ -24,16 +25,21 @@ abbrev pub named_or : List Code → List Code → List Code
 named_or [] all = all
 named_or (c ∷ named) all = c ∷ named
 
-abbrev pub games_in : Operations → List Code → Told → Form → Text
-games_in ops named what form = flat_map (λ c. told what form (names_of (listed ops)) (game_sheet (listed ops) c)) (named_or named (catalogue.games (listed ops)))
+-- what is listed of those for which each of the conditions holds
+abbrev pub games_in : Operations → List Code → List Condition → Listing → Text
+games_in ops named which listing = overview listing (listed ops) (selected which (listed ops) (named_or named (catalogue.games (listed ops))))
 
 -- ---- the commands
 
-abbrev pub games : Bytes → List Bytes → Told → Form → Result Answer Fault
-games state words what form = do
+abbrev pub list_games : Bytes → List Bytes → List Condition → Listing → Result Answer Fault
+list_games state words which listing = do
   replica ← loaded state
   named ← codes_of words
-  Ok (text_alone (games_in replica.ops named what form))
+  Ok (text_alone (games_in replica.ops named which listing))
+
+-- where there is no condition, each of them is told of
+abbrev pub games : Bytes → List Bytes → Told → Form → Result Answer Fault
+games state words what form = list_games state words [] (listing_of what form)
 
 abbrev pub only : Bytes → List Bytes → View → Result Answer Fault
 only state words view = do

@@ -1,20 +1,24 @@
 -- The files of a site, which any web server shows as they are: HTML, a picture, a b-file and a JSON document of each game, the index, and the
 -- style sheet. A name is a code, that is digits and a point, with a word behind it, or one of three words.
-use Rattle.std.specs.Prelude.{◌≡◌, ◌++◌, List, [], ◌∷◌, codes, Result, Ok}
+use Rattle.std.specs.Prelude.{ℕ, ◌≡◌, ◌⊎◌, ◌++◌, List, [], ◌∷◌, codes, Result, Ok, Err}
 use Rattle.std.specs.List.{flat_map}
 use Rattle.oct_code.specs.CodeText.{code_text}
 use Rattle.oct_delta.specs.Text.{Bytes}
-use Rattle.oct_ops.specs.Body.{Operation}
 use Rattle.oct_ops.specs.Operations.{listed}
 use Rattle.oct_bfile.specs.Bfile.{bfile_text}
 use Rattle.oct_json.specs.Json.{game_data}
 use Rattle.oct_plot.specs.Plot.{plot}
 use Rattle.oct_views.specs.Report.{game_html, index, style_sheet}
+use Rattle.oct_views.specs.declared.site.Beside.{Beside}
+use Rattle.oct_overview.specs.Line.{with_least}
+use Rattle.oct_sheet.specs.Names.{author_name}
 use Rattle.oct_sheet.specs.Sheet.{GameSheet, Sheet, sheet}
+use Rattle.oct_text.specs.Words.{Text}
 use Rattle.serde_json.specs.Written.{compact_text}
 use Rattle.census_state.specs.Steps.{◌>>=◌}
 use Rattle.census_state.specs.Stored.{loaded}
 use Rattle.census_state.specs.declared.fault.Fault.{Fault}
+use Rattle.census_state.specs.declared.fault.Fault.TheVariants.{OutOfMemory}
 
 -- a file of a folder
 pub record File : Type 0 where
@@ -40,23 +44,27 @@ bfile_of g = named g (codes ".txt") (bfile_text g.values)
 abbrev pub json_of : GameSheet → File
 json_of g = named g (codes ".json") (compact_text (game_data g) ++ codes "\n")
 
-abbrev pub html_of : List Operation → GameSheet → File
-html_of names g = named g (codes ".html") (game_html names g)
+abbrev pub html_of : Beside → (ℕ → Text) → GameSheet → File
+html_of beside names g = named g (codes ".html") (game_html beside names g)
 
--- the files of a game, whose HTML calls authors by these notes
-abbrev pub files_of : List Operation → GameSheet → List File
-files_of names g = picture_of g ∷ bfile_of g ∷ json_of g ∷ html_of names g ∷ []
+-- the files of a game, whose HTML calls authors by these names
+abbrev pub files_of : Beside → (ℕ → Text) → GameSheet → List File
+files_of beside names g = picture_of g ∷ bfile_of g ∷ json_of g ∷ html_of beside names g ∷ []
+
+-- the period that they show is the least one that its known values prove, whether or not somebody claimed it
+abbrev pub shown_files : Beside → (ℕ → Text) → GameSheet → List File
+shown_files beside names g = files_of beside names (with_least g)
 
 abbrev pub index_of : Sheet → File
 index_of s = record { name = codes "index.html"; bytes = index s }
 
 -- the files in the order in which they are written: the index comes last, so that its links lead somewhere
-abbrev pub site : Sheet → List File
-site s = marker ∷ style ∷ flat_map (files_of s.names) s.games ++ index_of s ∷ []
+abbrev pub site : Beside → Sheet → List File
+site beside s = marker ∷ style ∷ flat_map (shown_files beside (author_name s.names)) s.games ++ index_of s ∷ []
 
 -- those of a state, or why it is none
-abbrev pub site_of : Bytes → Result (List File) Fault
-site_of state = loaded state >>= λ replica. Ok (site (sheet (listed replica.ops)))
+abbrev pub site_of : Beside → Bytes → Result (List File) Fault
+site_of beside state = loaded state >>= λ replica. Ok (site beside (sheet (listed replica.ops)))
 
 -- what became of a place by these files, put there one after another
 abbrev pub Filled : {S : Type 0} → (S → Bytes → Bytes → S → Type 0) → S → List File → S → Type 0
@@ -64,7 +72,15 @@ Filled puts old [] new = new ≡ old
 Filled {S} puts old (file ∷ files) new = (mid : S) × puts old file.name file.bytes mid × Filled puts mid files new
 
 -- the files of the state, and no others, are there
-pub record IsSite {S : Type 0} (puts : S → Bytes → Bytes → S → Type 0) (state : Bytes) (old new : S) : Type 0 where
+pub record IsSite {S : Type 0} (puts : S → Bytes → Bytes → S → Type 0) (beside : Beside) (state : Bytes) (old new : S) : Type 0 where
   pub files : List File
-  pub are : site_of state ≡ Ok files
+  pub are : site_of beside state ≡ Ok files
   pub filled : Filled puts old files new
+
+-- the place refused a file by this fault, or memory was refused
+abbrev pub IsPutFault : (Fault → Type 0) → Fault → Type 0
+IsPutFault refuses e = refuses e ⊎ (e ≡ OutOfMemory)
+
+-- the fault is that of the state, or else one of these
+abbrev pub IsSiteFault : (Fault → Type 0) → Beside → Bytes → Fault → Type 0
+IsSiteFault refuses beside state e = (site_of beside state ≡ Err e) ⊎ IsPutFault refuses e

@@ -1,13 +1,12 @@
 -- What the commands give that show a census in other forms than the catalogue.
-use Rattle.std.specs.Prelude.{ℕ, ◌++◌, List, codes, Option, option_map, Result, Ok}
+use Rattle.std.specs.Prelude.{ℕ, ◌++◌, List, codes, Result, Ok}
 use Rattle.oct_code.specs.Code.{Code}
 use Rattle.oct_delta.specs.Text.{Bytes}
 use Rattle.oct_mex.specs.NimValues.{nim_values}
-use Rattle.oct_ops.specs.Operation.{Period}
 use Rattle.oct_ops.specs.Operations.{Operations, listed}
-use Rattle.oct_ops.specs.Sets as sets
 use Rattle.oct_text.specs.Words.{Text}
-use Rattle.oct_period.specs.Claims.{Claim, first_proved}
+use Rattle.oct_overview.specs.Line.{least_in}
+use Rattle.oct_period.specs.Found.{found_period}
 use Rattle.oct_period.specs.GameContent.{GameContent}
 use Rattle.oct_verify.specs.Filing.{blocks_in}
 use Rattle.oct_verify.specs.Known.{known}
@@ -28,9 +27,9 @@ use Rattle.census_state.specs.declared.fault.Fault.{Fault}
 abbrev pub bfile_in : Operations → Code → Text
 bfile_in ops c = let game = game_sheet (listed ops) c in bfile_text game.values
 
--- and as a picture
+-- and as a picture, with the least period that they prove, whether or not somebody claimed it
 abbrev pub plot_in : Operations → Code → Text
-plot_in ops c = let game = game_sheet (listed ops) c in picture.plot c game.values game.proved
+plot_in ops c = let game = game_sheet (listed ops) c in picture.plot c game.values (least_in game)
 
 -- the same, by the blocks and claims of the game
 abbrev pub known_values : GameContent → List ℕ
@@ -39,12 +38,8 @@ known_values game = nim_values game.code (known (blocks_in game.blocks))
 abbrev pub bfile_of : GameContent → Text
 bfile_of game = bfile_text (known_values game)
 
--- the first claim that is proved
-abbrev pub proved_of : GameContent → Option Period
-proved_of game = option_map (λ (p : Claim). p.1) (first_proved (blocks_in game.blocks) (sets.listed game.claims))
-
 abbrev pub plot_of : GameContent → Text
-plot_of game = picture.plot game.code (known_values game) (proved_of game)
+plot_of game = picture.plot game.code (known_values game) (found_period game.code (blocks_in game.blocks))
 
 -- all that is known as a JSON document, on one line
 abbrev pub json_in : Operations → Text

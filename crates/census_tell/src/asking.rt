@@ -5,13 +5,12 @@ ghost use Rattle.oct_ops.specs.Operations.{listed};
 ghost use Rattle.census_tell.specs.Asking.{known_text, outcome_line, page, page_of, unknown_text, value_of, value_text};
 ghost use Rattle.census_tell.specs.Questions.{answered, told_of};
 ghost use Rattle.census_state.specs.Replies.{answer_of};
-ghost use Rattle.census_tell.specs.Viewing.{bfile_of, plot_of, proved_of};
+ghost use Rattle.census_tell.specs.Viewing.{bfile_of, plot_of};
 
 use crate::json_lines::{unknown_object, value_object};
 use crate::moving::move_text;
 use census_state::{Fault, Reply, load, number_line, read_code};
 use oct_bfile::write_bfile;
-use oct_ops::Period;
 use oct_pages::{game_of, write_page_of};
 use oct_period::{Game, Outcome, outcome_of};
 use oct_plot::write_plot;
@@ -130,22 +129,15 @@ fn bfile_text(alloc: Global, game: &Game<Global>) -> Result<Vec<u8>, AllocError>
     Ok(text)
 }
 
-// The known nim-values of a game as a picture.
+// The known nim-values of a game as a picture, with the period that they prove.
 fn plot_text(alloc: Global, game: &Game<Global>) -> Result<Vec<u8>, AllocError>
     ensures { IfOk result (λ text. text.items ≡ plot_of game.now) }
 {
     let code = game.code();
-    let proved = proved_period(game);
+    let found = game.find_period();
     let mut text = Vec::new(alloc);
-    write_plot(&code, game.ledger().known_values(), &proved, &mut text)?;
+    write_plot(&code, game.ledger().known_values(), &found, &mut text)?;
     Ok(text)
-}
-
-// The first claim of a game that is proved.
-fn proved_period(game: &Game<Global>) -> Option<Period>
-    ensures { result ≡ proved_of game.now }
-{
-    game.proved_claim().map(|claim| claim.period)
 }
 
 /// One page of the catalogue.

@@ -3,19 +3,19 @@
 ghost use Rattle.std.specs.Prelude.{◌≡◌, ◌≢◌, Ok, Err, IfOk, IfErr, map};
 ghost use Rattle.oct_ops.specs.Operations.{listed};
 ghost use Rattle.oct_pages.specs.Catalogue as catalogue;
-ghost use Rattle.census_tell.specs.Overview.{games, games_in, named_or, only};
+ghost use Rattle.census_tell.specs.Overview.{games, games_in, list_games, named_or, only};
 ghost use Rattle.census_state.specs.Replies.{answer_of};
 
 use crate::viewing::view_text;
 use census_state::{Fault, Reply, View, games_alone, load, read_codes};
 use oct_code::Code;
-use oct_overview::write_overview;
+use oct_overview::{Condition, Listing, write_overview};
 use oct_pages::codes_of;
 use oct_record::Record;
 use oct_text::{Form, Told};
 use std::alloc::{AllocError, Global};
 
-/// What is told of the games that are named, or of all where none is. One game is built at a time.
+/// What is told in lines of the games that are named, or of all where none is. One game is built at a time.
 pub fn games(
     alloc: Global,
     state: &[u8],
@@ -26,25 +26,40 @@ pub fn games(
     ensures ok { IfOk result (λ reply. games state.now (map (λ word. word.items) words.now) what form ≡ Ok (answer_of reply)) }
     ensures err { IfErr result (λ e. e ≢ Fault.OutOfMemory → games state.now (map (λ word. word.items) words.now) what form ≡ Err e) }
 {
+    list_games(alloc, state, words, &[], Listing::of(what, form))
+}
+
+/// What is listed of those of the games that are named, or of all where none is, for which each of the conditions holds. One game
+/// is built at a time.
+pub fn list_games(
+    alloc: Global,
+    state: &[u8],
+    words: &[Vec<u8>],
+    which: &[Condition],
+    listing: Listing,
+) -> Result<Reply, Fault>
+    ensures ok { IfOk result (λ reply. list_games state.now (map (λ word. word.items) words.now) which.now listing ≡ Ok (answer_of reply)) }
+    ensures err { IfErr result (λ e. e ≢ Fault.OutOfMemory → list_games state.now (map (λ word. word.items) words.now) which.now listing ≡ Err e) }
+{
     let held = load(alloc, state)?;
     let named = read_codes(alloc, words)?;
-    let text = games_text(alloc, &held, named, what, form)?;
+    let text = games_text(alloc, &held, named, which, listing)?;
     Ok(Reply::text_alone(text))
 }
 
-// What is told of them.
+// What is listed of them.
 fn games_text(
     alloc: Global,
     held: &Record<Global>,
     named: Vec<Code>,
-    what: Told,
-    form: Form,
+    which: &[Condition],
+    listing: Listing,
 ) -> Result<Vec<u8>, AllocError>
-    ensures { IfOk result (λ text. text.items ≡ games_in held.now.ops named.items what form) }
+    ensures { IfOk result (λ text. text.items ≡ games_in held.now.ops named.items which.now listing) }
 {
     let codes = named_or_all(held, named)?;
     let mut text = Vec::new(alloc);
-    write_overview(held, &codes, what, form, &mut text)?;
+    write_overview(held, &codes, which, listing, &mut text)?;
     Ok(text)
 }
 

@@ -4,62 +4,85 @@ ghost use Rattle.std.specs.Prelude.{◌≡◌, ◌++◌, ◌∷◌, [], IfErr, O
 ghost use Rattle.std.specs.List.{flat_map};
 ghost use Rattle.oct_code.specs.CodeText.{code_text};
 ghost use Rattle.oct_ops.specs.Operations.{listed};
+ghost use Rattle.oct_overview.specs.Line.{period_of};
 ghost use Rattle.oct_pages.specs.Contents.{game_content};
 ghost use Rattle.oct_store.specs.Summary as summary;
-ghost use Rattle.oct_views.specs.Report.{index_by};
+ghost use Rattle.oct_views.specs.Report.{index_by, shown_summary};
+ghost use Rattle.oct_sheet.specs.Names.{name_in};
 ghost use Rattle.oct_sheet.specs.Sheet.{game_sheet, sheet};
-ghost use Rattle.oct_sheet.specs.Summary.{summary_of};
-ghost use Rattle.census_tell.specs.Site.{Filled, IsSite, bfile_of, files_of, html_of, json_of, picture_of, site, site_of, style};
+ghost use Rattle.census_tell.specs.Site.{Filled, IsPutFault, IsSite, IsSiteFault, bfile_of, files_of, html_of, json_of, picture_of, shown_files, site, site_of, style};
 
 use census_state::{Fault, load};
 use oct_bfile::write_bfile;
 use oct_code::Code;
 use oct_join::OpSet;
 use oct_json::write_game_json;
-use oct_ops::Op;
+use oct_overview::{LeastPeriod, with_least};
 use oct_pages::{GameSheet, game_of};
 use oct_plot::write_plot;
 use oct_record::Record;
-use oct_sheet::{Summary, naming_notes};
-use oct_views::{write_game_html, write_index, write_style};
+use oct_sheet::{Summary, names_by_author, naming_notes};
+use oct_views::{Beside, write_game_html, write_index, write_style};
 use std::alloc::Global;
+use std::collections::BTreeMap;
 
 /// A place for files, as a folder is.
 pub trait Folder {
+    ghost use Rattle.census_state.specs.declared.fault.Fault.{Fault};
+
     /// What becomes of the place by a file of this name and these bytes.
     ghost puts: { Self → List ℕ → List ℕ → Self → Type 0 };
 
+    /// By which faults it may refuse a file.
+    ghost refuses: { Fault → Type 0 };
+
     /// Puts a file there.
     fn put(&mut self, name: &[u8], bytes: &[u8]) -> Result<(), Fault>
-        ensures { OnOk result (puts self.old name.now bytes.now self.new) };
+        ensures ok { OnOk result (puts self.old name.now bytes.now self.new) }
+        ensures err { IfErr result refuses };
 }
 
-/// Puts the files of the site of a state into the folder, as `specs/Site` says which: each once, the index last.
-/// The games are built one after another, and each is let go before the next. The fault is that of the state, before any
-/// file is put there; else it is that of the folder, or `OutOfMemory`.
-pub fn write_site<S: Folder>(alloc: Global, state: &[u8], folder: &mut S) -> Result<(), Fault>
-    ensures ok { OnOk result (IsSite S.puts state.now folder.old folder.new) }
-    ensures unread { IfErr (site_of state.now) (λ e. folder.new ≡ folder.old) }
+/// Puts the files of the site of a state into the folder, as `specs/Site` says which: each once, the index last. Where the page
+/// that computes stands beside them, each game has a link to it; its files are not among these. The games are built one after
+/// another, and each is let go before the next. The fault is that of the state, before any file is put there; else it is that of
+/// the folder, or `OutOfMemory`.
+pub fn write_site<S: Folder>(
+    alloc: Global,
+    state: &[u8],
+    beside: Beside,
+    folder: &mut S,
+) -> Result<(), Fault>
+    ensures ok { OnOk result (IsSite S.puts beside state.now folder.old folder.new) }
+    ensures err { IfErr result (IsSiteFault S.refuses beside state.now) }
+    ensures unread { IfErr (site_of beside state.now) (λ e. folder.new ≡ folder.old) }
 {
     let held = load(alloc, state)?;
-    put_site(alloc, &held, folder)
+    put_site(alloc, &held, beside, folder)
 }
 
 // Puts all files of the site there.
-fn put_site<S: Folder>(alloc: Global, held: &Record<Global>, folder: &mut S) -> Result<(), Fault>
-    ensures { OnOk result (Filled S.puts folder.old (site (sheet (listed held.now.ops))) folder.new) }
+fn put_site<S: Folder>(
+    alloc: Global,
+    held: &Record<Global>,
+    beside: Beside,
+    folder: &mut S,
+) -> Result<(), Fault>
+    ensures ok { OnOk result (Filled S.puts folder.old (site beside (sheet (listed held.now.ops))) folder.new) }
+    ensures err { IfErr result (IsPutFault S.refuses) }
 {
     folder.put(b"census-site", b"census site 1\n")?;
     put_style(alloc, folder)?;
-    let names = naming_notes(held)?;
+    let notes = naming_notes(held)?;
+    let names = names_by_author(alloc, &notes)?;
     let mut rows = Vec::new(alloc);
-    put_games(alloc, held, &names, &mut rows, folder)?;
+    put_games(alloc, held, beside, &names, &mut rows, folder)?;
     put_index(alloc, held, &rows, folder)
 }
 
 // Puts the style sheet there.
 fn put_style<S: Folder>(alloc: Global, folder: &mut S) -> Result<(), Fault>
-    ensures { OnOk result (S.puts folder.old style.name style.bytes folder.new) }
+    ensures ok { OnOk result (S.puts folder.old style.name style.bytes folder.new) }
+    ensures err { IfErr result (IsPutFault S.refuses) }
 {
     let mut bytes = Vec::new(alloc);
     write_style(&mut bytes)?;
@@ -70,17 +93,19 @@ fn put_style<S: Folder>(alloc: Global, folder: &mut S) -> Result<(), Fault>
 fn put_games<S: Folder>(
     alloc: Global,
     held: &Record<Global>,
-    names: &[&Op<Global>],
+    beside: Beside,
+    names: &BTreeMap<u32, &[u8], Global>,
     rows: &mut Vec<Summary>,
     folder: &mut S,
 ) -> Result<(), Fault>
-    ensures rows { OnOk result (rows.new.items ≡ rows.old.items ++ map summary_of (sheet (listed held.now.ops)).games) }
-    ensures put { OnOk result (Filled S.puts folder.old (flat_map (files_of (map (λ op. op.now) names.now)) (sheet (listed held.now.ops)).games) folder.new) }
+    ensures rows { OnOk result (rows.new.items ≡ rows.old.items ++ map shown_summary (sheet (listed held.now.ops)).games) }
+    ensures put { OnOk result (Filled S.puts folder.old (flat_map (shown_files beside (name_in (λ text. text.now) names.now)) (sheet (listed held.now.ops)).games) folder.new) }
+    ensures err { IfErr result (IsPutFault S.refuses) }
 {
     let games = held.games();
     prove!(games.len() <= usize::MAX);
     for (code, ops) in games.iter() {
-        put_game(alloc, held, *code, ops, names, rows, folder)?;
+        put_game(alloc, held, *code, ops, beside, names, rows, folder)?;
     }
     Ok(())
 }
@@ -91,33 +116,42 @@ fn put_game<S: Folder>(
     held: &Record<Global>,
     code: Code,
     ops: &OpSet<Global>,
-    names: &[&Op<Global>],
+    beside: Beside,
+    names: &BTreeMap<u32, &[u8], Global>,
     rows: &mut Vec<Summary>,
     folder: &mut S,
 ) -> Result<(), Fault>
     requires { ops.now ≡ summary.of_game held.now.ops code }
-    ensures rows { OnOk result (rows.new.items ≡ rows.old.items ++ summary_of (game_sheet (listed held.now.ops) code) ∷ []) }
-    ensures put { OnOk result (Filled S.puts folder.old (files_of (map (λ op. op.now) names.now) (game_sheet (listed held.now.ops) code)) folder.new) }
+    ensures rows { OnOk result (rows.new.items ≡ rows.old.items ++ shown_summary (game_sheet (listed held.now.ops) code) ∷ []) }
+    ensures put { OnOk result (Filled S.puts folder.old (shown_files beside (name_in (λ text. text.now) names.now) (game_sheet (listed held.now.ops) code)) folder.new) }
+    ensures err { IfErr result (IsPutFault S.refuses) }
 {
     let game = game_of(held, code)?;
     let sheet = GameSheet::of_game(alloc, &game, ops)?;
-    Summary::add(rows, &sheet)?;
-    put_sheet(alloc, &sheet, names, folder)
+    let found = game.find_period();
+    let least = LeastPeriod::of(&sheet, &found);
+    let shown = with_least(sheet, &found);
+    Summary::add(rows, &shown)?;
+    put_sheet(alloc, &shown, &least, beside, names, folder)
 }
 
-// Puts the files of a game there.
+// Puts the files of a game with this least period there.
 fn put_sheet<S: Folder>(
     alloc: Global,
     game: &GameSheet<'_, Global>,
-    names: &[&Op<Global>],
+    least: &Option<LeastPeriod>,
+    beside: Beside,
+    names: &BTreeMap<u32, &[u8], Global>,
     folder: &mut S,
 ) -> Result<(), Fault>
-    ensures { OnOk result (Filled S.puts folder.old (files_of (map (λ op. op.now) names.now) (game_content game.now)) folder.new) }
+    requires { least.now ≡ period_of (game_content game.now) }
+    ensures ok { OnOk result (Filled S.puts folder.old (files_of beside (name_in (λ text. text.now) names.now) (game_content game.now)) folder.new) }
+    ensures err { IfErr result (IsPutFault S.refuses) }
 {
     put_picture(alloc, game, folder)?;
     put_bfile(alloc, game, folder)?;
-    put_json(alloc, game, folder)?;
-    put_html(alloc, game, names, folder)
+    put_json(alloc, game, least, folder)?;
+    put_html(alloc, game, beside, names, folder)
 }
 
 // Puts the picture of a game there.
@@ -126,7 +160,8 @@ fn put_picture<S: Folder>(
     game: &GameSheet<'_, Global>,
     folder: &mut S,
 ) -> Result<(), Fault>
-    ensures { OnOk result (S.puts folder.old (picture_of (game_content game.now)).name (picture_of (game_content game.now)).bytes folder.new) }
+    ensures ok { OnOk result (S.puts folder.old (picture_of (game_content game.now)).name (picture_of (game_content game.now)).bytes folder.new) }
+    ensures err { IfErr result (IsPutFault S.refuses) }
 {
     let mut bytes = Vec::new(alloc);
     write_plot(&game.code, game.values, &game.proved, &mut bytes)?;
@@ -139,23 +174,27 @@ fn put_bfile<S: Folder>(
     game: &GameSheet<'_, Global>,
     folder: &mut S,
 ) -> Result<(), Fault>
-    ensures { OnOk result (S.puts folder.old (bfile_of (game_content game.now)).name (bfile_of (game_content game.now)).bytes folder.new) }
+    ensures ok { OnOk result (S.puts folder.old (bfile_of (game_content game.now)).name (bfile_of (game_content game.now)).bytes folder.new) }
+    ensures err { IfErr result (IsPutFault S.refuses) }
 {
     let mut bytes = Vec::new(alloc);
     write_bfile(game.values, &mut bytes)?;
     put_named(alloc, &game.code, b".txt", &bytes, folder)
 }
 
-// Puts the JSON document of a game there.
+// Puts the JSON document of a game with this least period there.
 fn put_json<S: Folder>(
     alloc: Global,
     game: &GameSheet<'_, Global>,
+    least: &Option<LeastPeriod>,
     folder: &mut S,
 ) -> Result<(), Fault>
-    ensures { OnOk result (S.puts folder.old (json_of (game_content game.now)).name (json_of (game_content game.now)).bytes folder.new) }
+    requires { least.now ≡ period_of (game_content game.now) }
+    ensures ok { OnOk result (S.puts folder.old (json_of (game_content game.now)).name (json_of (game_content game.now)).bytes folder.new) }
+    ensures err { IfErr result (IsPutFault S.refuses) }
 {
     let mut bytes = Vec::new(alloc);
-    write_game_json(alloc, game, &mut bytes)?;
+    write_game_json(alloc, game, least, &mut bytes)?;
     bytes.extend_from_slice(b"\n")?;
     put_named(alloc, &game.code, b".json", &bytes, folder)
 }
@@ -164,13 +203,15 @@ fn put_json<S: Folder>(
 fn put_html<S: Folder>(
     alloc: Global,
     game: &GameSheet<'_, Global>,
-    names: &[&Op<Global>],
+    beside: Beside,
+    names: &BTreeMap<u32, &[u8], Global>,
     folder: &mut S,
 ) -> Result<(), Fault>
-    ensures { OnOk result (S.puts folder.old (html_of (map (λ op. op.now) names.now) (game_content game.now)).name (html_of (map (λ op. op.now) names.now) (game_content game.now)).bytes folder.new) }
+    ensures ok { OnOk result (S.puts folder.old (html_of beside (name_in (λ text. text.now) names.now) (game_content game.now)).name (html_of beside (name_in (λ text. text.now) names.now) (game_content game.now)).bytes folder.new) }
+    ensures err { IfErr result (IsPutFault S.refuses) }
 {
     let mut bytes = Vec::new(alloc);
-    write_game_html(names, game, &mut bytes)?;
+    write_game_html(beside, names, game, &mut bytes)?;
     put_named(alloc, &game.code, b".html", &bytes, folder)
 }
 
@@ -182,7 +223,8 @@ fn put_named<S: Folder>(
     bytes: &[u8],
     folder: &mut S,
 ) -> Result<(), Fault>
-    ensures { OnOk result (S.puts folder.old (code_text code.now ++ end.now) bytes.now folder.new) }
+    ensures ok { OnOk result (S.puts folder.old (code_text code.now ++ end.now) bytes.now folder.new) }
+    ensures err { IfErr result (IsPutFault S.refuses) }
 {
     let mut name = Vec::new(alloc);
     code.append_text(&mut name)?;
@@ -197,7 +239,8 @@ fn put_index<S: Folder>(
     rows: &[Summary],
     folder: &mut S,
 ) -> Result<(), Fault>
-    ensures { OnOk result (S.puts folder.old (codes "index.html") (index_by rows.now (sheet (listed held.now.ops))) folder.new) }
+    ensures ok { OnOk result (S.puts folder.old (codes "index.html") (index_by rows.now (sheet (listed held.now.ops))) folder.new) }
+    ensures err { IfErr result (IsPutFault S.refuses) }
 {
     let mut bytes = Vec::new(alloc);
     write_index(held, rows, &mut bytes)?;

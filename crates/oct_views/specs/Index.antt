@@ -101,25 +101,25 @@ games_part way rows = concat (
 
 -- ---- notes, forks, authors
 
-abbrev pub noted_row : List Operation → Dot → Note → Text
+abbrev pub noted_row : (ℕ → Text) → Dot → Note → Text
 noted_row names d n = concat (
     codes "<tr><th scope=\"row\">" ∷ escaped n.name ∷ codes "</th><td>" ∷ dot_text d ∷ name_of_author names d ∷ codes "</td><td class=\"text\">" ∷ escaped n.text
     ∷ codes "</td></tr>\n" ∷ [])
 
-abbrev pub note_row : List Operation → Operation → Text
+abbrev pub note_row : (ℕ → Text) → Operation → Text
 note_row names o = elim o.body [ kind.Block b ↦ [] | kind.Period p ↦ [] | kind.Note n ↦ noted_row names o.dot n | kind.Removal r ↦ [] ]
 
 abbrev pub notes_columns : List Text
 notes_columns = codes "name" ∷ codes "note" ∷ codes "text" ∷ []
 
-abbrev pub notes_table : List Operation → List Operation → Text
+abbrev pub notes_table : (ℕ → Text) → List Operation → Text
 notes_table names notes = table (codes "Notes") notes_columns (flat_map (note_row names) notes)
 
-abbrev pub fork_row : List Operation → Fork → Text
+abbrev pub fork_row : (ℕ → Text) → Fork → Text
 fork_row names f = concat (
     codes "<tr><th scope=\"row\">" ∷ dot_text f.dot ∷ name_of_author names f.dot ∷ codes "</th><td>" ∷ decimal f.contents ∷ codes "</td></tr>\n" ∷ [])
 
-abbrev pub forks_table : List Operation → List Fork → Text
+abbrev pub forks_table : (ℕ → Text) → List Fork → Text
 forks_table names forks = table (codes "Forks") (codes "dot" ∷ codes "contents" ∷ []) (flat_map (fork_row names) forks)
 
 abbrev pub called_row : Author → Text → Text

@@ -1,15 +1,16 @@
 -- A census as HTML that is also well-formed XML: a report of all, and a site with a file for each game.
-use Rattle.std.specs.Prelude.{ℕ, ◌++◌, List, [], ◌∷◌, length, map, codes, Option}
+use Rattle.std.specs.Prelude.{ℕ, ◌++◌, List, [], ◌∷◌, length, map, codes, Option, Some, None}
 use Rattle.std.specs.List.{concat, flat_map}
 use Rattle.std.specs.Fmt.{decimal}
 use Rattle.oct_code.specs.Code.{Code}
 use Rattle.oct_code.specs.CodeText.{code_text}
-use Rattle.oct_ops.specs.Body.{Operation}
 use Rattle.oct_ops.specs.Operation.{Period}
 use Rattle.oct_text.specs.Words.{Text}
 use Rattle.oct_views.specs.Game.{game_tables}
 use Rattle.oct_views.specs.Index.{authors_table, forks_table, games_part, notes_table}
 use Rattle.oct_plot.specs.Plot.{plot_with, title}
+use Rattle.oct_overview.specs.Line.{with_least}
+use Rattle.oct_sheet.specs.Names.{author_name}
 use Rattle.oct_sheet.specs.Sheet.{GameSheet, Sheet}
 use Rattle.oct_views.specs.Styles.{html_style}
 use Rattle.oct_plot.specs.Style.{plot_style}
@@ -17,6 +18,8 @@ use Rattle.oct_sheet.specs.Summary.{summary_of}
 use Rattle.oct_tables.specs.Values.{front_values}
 use Rattle.oct_plot.specs.Sentence.{sentence}
 use Rattle.oct_views.specs.declared.index.Links.TheVariants.{Files, Here}
+use Rattle.oct_views.specs.declared.site.Beside.{Beside}
+use Rattle.oct_views.specs.declared.site.Beside.TheVariants.{Nothing, Page}
 use Rattle.oct_text.specs.declared.shown.Shown.{Shown}
 use Rattle.oct_text.specs.declared.shown.Shown.TheVariants.{Brief}
 use Rattle.oct_sheet.specs.declared.summary.Summary.{Summary}
@@ -45,7 +48,7 @@ games_head style = concat (
 -- notes, forks and authors
 abbrev pub records_part : Sheet → Text
 records_part s = concat (
-    codes "</div>\n<div id=\"records\">\n" ∷ notes_table s.names s.notes ∷ forks_table s.names s.forks ∷ authors_table s.authors ∷ codes "</div>\n" ∷ [])
+    codes "</div>\n<div id=\"records\">\n" ∷ notes_table (author_name s.names) s.notes ∷ forks_table (author_name s.names) s.forks ∷ authors_table s.authors ∷ codes "</div>\n" ∷ [])
 
 abbrev pub html_end : Text
 html_end = codes "</main>\n</body>\n</html>\n"
@@ -55,20 +58,28 @@ html_end = codes "</main>\n</body>\n</html>\n"
 abbrev pub section_head : Code → Text
 section_head c = concat (codes "<section id=\"game-" ∷ code_text c ∷ codes "\">\n<h2>" ∷ code_text c ∷ codes "</h2>\n<figure>\n" ∷ [])
 
-abbrev pub figure_end : Text
-figure_end = codes "<figcaption>Each point is the nim-value of a heap. Where a period is proved, its first two runs are shaded.</figcaption>\n</figure>\n"
+abbrev pub figure_end : Option Period → Text
+figure_end None = codes "<figcaption>Each point is the nim-value of a heap.</figcaption>\n</figure>\n"
+figure_end (Some p) = codes "<figcaption>Each point is the nim-value of a heap. The first two runs of the period are shaded.</figcaption>\n</figure>\n"
 
 -- the picture has the first values that are shown
 abbrev pub figure : Shown → GameSheet → Text
-figure how g = concat (section_head g.code ∷ plot_with [] g.code (front_values how g.values g.proved) g.proved ∷ figure_end ∷ [])
+figure how g = concat (section_head g.code ∷ plot_with [] g.code (front_values how g.values g.proved) g.proved ∷ figure_end g.proved ∷ [])
 
-abbrev pub section : List Operation → Shown → GameSheet → Text
+abbrev pub section : (ℕ → Text) → Shown → GameSheet → Text
 section names how g = concat (figure how g ∷ game_tables names how g ∷ codes "<p><a href=\"#games\">All games</a></p>\n</section>\n" ∷ [])
+
+-- each game is shown with the least period that its known values prove, whether or not somebody claimed it
+abbrev pub shown_summary : GameSheet → Summary
+shown_summary g = summary_of (with_least g)
+
+abbrev pub shown_section : (ℕ → Text) → Shown → GameSheet → Text
+shown_section names how g = section names how (with_least g)
 
 -- a report of all
 abbrev pub report : Shown → Sheet → Text
 report how s = concat (
-    games_head style_inside ∷ games_part Here (map summary_of s.games) ∷ records_part s ∷ flat_map (section s.names how) s.games ∷ html_end ∷ [])
+    games_head style_inside ∷ games_part Here (map shown_summary s.games) ∷ records_part s ∷ flat_map (shown_section (author_name s.names) how) s.games ∷ html_end ∷ [])
 
 -- ---- the files of a site
 
@@ -77,7 +88,7 @@ abbrev pub index_by : List Summary → Sheet → Text
 index_by rows s = concat (games_head style_link ∷ games_part Files rows ∷ records_part s ∷ html_end ∷ [])
 
 abbrev pub index : Sheet → Text
-index s = index_by (map summary_of s.games) s
+index s = index_by (map shown_summary s.games) s
 
 -- the picture of a game, which is a file beside its HTML
 abbrev pub image_head : Code → Text → Text
@@ -87,7 +98,8 @@ abbrev pub image : Code → List ℕ → Option Period → Text
 image c values proved = concat (
     image_head c (title c (length values) proved)
     ∷ sentence values proved
-    ∷ (codes "\"/>\n" ++ figure_end)
+    ∷ codes "\"/>\n"
+    ∷ figure_end proved
     ∷ [])
 
 abbrev pub game_head : Code → ℕ → Text
@@ -97,9 +109,14 @@ game_head c known = concat (
     ∷ decimal known ∷ codes " values known: all of them as a <a href=\"" ∷ code_text c ∷ codes ".txt\">b-file</a> and as <a href=\"" ∷ code_text c
     ∷ codes ".json\">JSON</a></p>\n" ∷ [])
 
+-- the link to the page that computes nim-values in the browser, where it stands beside the tables
+abbrev pub page_link : Beside → Code → Text
+page_link Nothing c = []
+page_link Page c = concat (codes "<p><a href=\"compute.html?code=" ∷ code_text c ∷ codes "\">Compute it here</a>, in this browser</p>\n" ∷ [])
+
 -- a game as a file of a site
-abbrev pub game_html : List Operation → GameSheet → Text
-game_html names g = concat (game_head g.code (length g.values) ∷ image g.code g.values g.proved ∷ game_tables names Brief g ∷ html_end ∷ [])
+abbrev pub game_html : Beside → (ℕ → Text) → GameSheet → Text
+game_html beside names g = concat (game_head g.code (length g.values) ∷ page_link beside g.code ∷ image g.code g.values g.proved ∷ game_tables names Brief g ∷ html_end ∷ [])
 
 abbrev pub style_sheet : Text
 style_sheet = html_style ++ codes "\n"

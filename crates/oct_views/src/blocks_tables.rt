@@ -1,32 +1,34 @@
 //! The tables of a game's blocks: of those that are refuted, and of all.
 #![tactic(auto, using(oct_ops::proofs::Growing::growing))]
 
-ghost use Rattle.std.specs.Prelude.{◌≡◌, ◌++◌, OnOk, map};
+ghost use Rattle.oct_sheet.specs.Names.{name_in};
+ghost use Rattle.std.specs.Prelude.{◌≡◌, ◌++◌, OnOk};
 ghost use Rattle.oct_ops.specs.Growth.{Extends};
 ghost use Rattle.oct_views.specs.Game.{refutation_row, status_word};
 
-use oct_ops::{Dot, Op};
+use oct_ops::Dot;
 use oct_pages::BlockRow;
-use oct_sheet::author_name;
+use oct_sheet::name_in;
 use oct_tables::Rows;
 use oct_text::Piece::{Beside, Dot as DotText, Number, Text};
 use oct_text::append_pieces;
 use oct_verify::Status;
 use std::alloc::{AllocError, Allocator};
+use std::collections::BTreeMap;
 
-/// Rows of the table of refuted blocks, with the names of authors by these notes.
+/// Rows of the table of refuted blocks, with the names of authors.
 #[derive(Drop)]
-pub(crate) struct RefutationRows<'a, 'b, B: Allocator + Copy>(pub &'a [&'b Op<B>]);
+pub(crate) struct RefutationRows<'a, 'b, B: Allocator + Copy>(pub &'a BTreeMap<u32, &'b [u8], B>);
 
-/// Rows of the table of all blocks, with the names of authors by these notes.
+/// Rows of the table of all blocks, with the names of authors.
 #[derive(Drop)]
-pub(crate) struct BlockRows<'a, 'b, B: Allocator + Copy>(pub &'a [&'b Op<B>]);
+pub(crate) struct BlockRows<'a, 'b, B: Allocator + Copy>(pub &'a BTreeMap<u32, &'b [u8], B>);
 
 impl<'a, 'b, B: Allocator + Copy> Rows<BlockRow> for RefutationRows<'a, 'b, B> {
-    ghost use Rattle.std.specs.Prelude.{map};
+    ghost use Rattle.oct_sheet.specs.Names.{name_in};
     ghost use Rattle.oct_views.specs.Game.{refuted_row};
 
-    ghost text = { λ way row. refuted_row (map (λ op. op.now) way.0.now) row.dot row.status };
+    ghost text = { λ way row. refuted_row (name_in (λ text. text.now) way.0.now) row.dot row.status };
 
     fn append_row<A: Allocator + Copy>(
         &self,
@@ -43,10 +45,10 @@ impl<'a, 'b, B: Allocator + Copy> Rows<BlockRow> for RefutationRows<'a, 'b, B> {
 }
 
 impl<'a, 'b, B: Allocator + Copy> Rows<BlockRow> for BlockRows<'a, 'b, B> {
-    ghost use Rattle.std.specs.Prelude.{map};
+    ghost use Rattle.oct_sheet.specs.Names.{name_in};
     ghost use Rattle.oct_views.specs.Game.{block_row};
 
-    ghost text = { λ way row. block_row (map (λ op. op.now) way.0.now) row };
+    ghost text = { λ way row. block_row (name_in (λ text. text.now) way.0.now) row };
 
     fn append_row<A: Allocator + Copy>(
         &self,
@@ -58,7 +60,7 @@ impl<'a, 'b, B: Allocator + Copy> Rows<BlockRow> for BlockRows<'a, 'b, B> {
             &[
                 Text(b"<tr><th scope=\"row\">"),
                 DotText(row.dot),
-                Beside(author_name(self.0, row.dot.author())),
+                Beside(name_in(self.0, row.dot.author())),
                 Text(b"</th><td>"),
                 Number(row.start as u64),
                 Text(b"</td><td>"),
@@ -72,15 +74,15 @@ impl<'a, 'b, B: Allocator + Copy> Rows<BlockRow> for BlockRows<'a, 'b, B> {
 }
 
 // Appends the row of a refuted block.
-fn append_refutation<A: Allocator, B: Allocator>(
+fn append_refutation<A: Allocator, B: Allocator + Copy>(
     out: &mut Vec<u8, A>,
-    names: &[&Op<B>],
+    names: &BTreeMap<u32, &[u8], B>,
     dot: Dot,
     heap: u32,
     claimed: u32,
     truth: u32,
 ) -> Result<(), AllocError>
-    ensures ok { OnOk result (out.new.items ≡ out.old.items ++ refutation_row (map (λ op. op.now) names.now) dot heap claimed truth) }
+    ensures ok { OnOk result (out.new.items ≡ out.old.items ++ refutation_row (name_in (λ text. text.now) names.now) dot heap claimed truth) }
     ensures grown { Extends out.old.items out.new.items }
 {
     append_pieces(
@@ -88,7 +90,7 @@ fn append_refutation<A: Allocator, B: Allocator>(
         &[
             Text(b"<tr><th scope=\"row\">"),
             DotText(dot),
-            Beside(author_name(names, dot.author())),
+            Beside(name_in(names, dot.author())),
             Text(b"</th><td>"),
             Number(heap as u64),
             Text(b"</td><td>"),

@@ -4,14 +4,15 @@
 ghost use Rattle.std.specs.Prelude.{◌≡◌, ◌++◌, IfOk, OnOk};
 ghost use Rattle.oct_ops.specs.Operations.{listed};
 ghost use Rattle.oct_ops.specs.Growth.{Extends};
-ghost use Rattle.oct_views.specs.Report.{games_head, html_end, records_part, style_inside};
+ghost use Rattle.oct_views.specs.Report.{figure_end, games_head, html_end, records_part, style_inside};
 ghost use Rattle.oct_sheet.specs.Sheet.{sheet};
 
 use crate::records::{AuthorRows, ForkRows, NoteRows};
 use crate::styles::HTML_STYLE;
+use oct_ops::Period;
 use oct_plot::PLOT_STYLE;
 use oct_record::Record;
-use oct_sheet::{naming_among, with_names};
+use oct_sheet::{names_by_author, naming_among, with_names};
 use oct_tables::append_table;
 use oct_text::Piece::Text;
 use oct_text::append_pieces;
@@ -21,12 +22,25 @@ use std::alloc::{AllocError, Allocator};
 pub(crate) const HEAD_BEGIN: &[u8] =
     b"<!DOCTYPE html>\n<html xmlns=\"http://www.w3.org/1999/xhtml\" lang=\"en\">\n<head>\n<meta charset=\"utf-8\"/>\n<meta name=\"viewport\" content=\"width=device-width, initial-scale=1\"/>\n<title>";
 
-/// What stands below the picture of a game.
-pub(crate) const FIGURE_END: &[u8] =
-    b"<figcaption>Each point is the nim-value of a heap. Where a period is proved, its first two runs are shaded.</figcaption>\n</figure>\n";
-
 /// A link to the style sheet of a site.
 pub(crate) const STYLE_LINK: &[u8] = b"<link rel=\"stylesheet\" href=\"style.css\"/>";
+
+/// Appends what stands below the picture of a game with this period.
+pub(crate) fn append_figure_end<A: Allocator>(
+    out: &mut Vec<u8, A>,
+    proved: &Option<Period>,
+) -> Result<(), AllocError>
+    ensures ok { OnOk result (out.new.items ≡ out.old.items ++ figure_end proved.now) }
+    ensures grown { Extends out.old.items out.new.items }
+{
+    let caption: &[u8] = match proved {
+        Some(_) => {
+            b"<figcaption>Each point is the nim-value of a heap. The first two runs of the period are shaded.</figcaption>\n</figure>\n"
+        }
+        None => { b"<figcaption>Each point is the nim-value of a heap.</figcaption>\n</figure>\n" }
+    };
+    append_pieces(out, &[Text(caption)])
+}
 
 /// Appends what stands before the tables of all games, with the style inside or with a link to that of a site.
 pub(crate) fn append_head<A: Allocator>(
@@ -76,7 +90,8 @@ pub(crate) fn append_records<A: Allocator + Copy>(
 {
     append_pieces(out, &[Text(b"</div>\n<div id=\"records\">\n")])?;
     let notes = said.notes().live_refs()?;
-    let names = naming_among(said.allocator(), &notes)?;
+    let naming = naming_among(said.allocator(), &notes)?;
+    let names = names_by_author(said.allocator(), &naming)?;
     append_table(
         out,
         &NoteRows(&names),

@@ -27,4 +27,4 @@ mod site;
 mod styles;
 
 pub use report::write_report;
-pub use site::{write_game_html, write_index, write_style};
+pub use site::{Beside, write_game_html, write_index, write_style};

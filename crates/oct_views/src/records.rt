@@ -1,35 +1,37 @@
 //! The tables of what belongs to no game: notes, forks and authors.
 #![tactic(auto, using(oct_ops::proofs::Growing::growing))]
 
-ghost use Rattle.std.specs.Prelude.{◌≡◌, ◌++◌, OnOk, map};
+ghost use Rattle.std.specs.Prelude.{◌≡◌, ◌++◌, OnOk};
 ghost use Rattle.oct_ops.specs.Growth.{Extends};
+ghost use Rattle.oct_sheet.specs.Names.{name_in};
 ghost use Rattle.oct_views.specs.Index.{called_row, noted_row};
 
 use oct_ops::{Body, Dot, Note, Op};
-use oct_sheet::{Called, author_name};
+use oct_sheet::{Called, name_in};
 use oct_store::{Author, Fork};
 use oct_tables::Rows;
 use oct_text::Piece::{Beside, Dot as DotText, Escaped, Number, Text};
 use oct_text::append_pieces;
 use std::alloc::{AllocError, Allocator};
+use std::collections::BTreeMap;
 
-/// Rows of the table of notes, with the names of authors by these notes.
+/// Rows of the table of notes, with the names of authors.
 #[derive(Drop)]
-pub(crate) struct NoteRows<'a, 'b, B: Allocator + Copy>(pub &'a [&'b Op<B>]);
+pub(crate) struct NoteRows<'a, 'b, B: Allocator + Copy>(pub &'a BTreeMap<u32, &'b [u8], B>);
 
-/// Rows of the table of forks, with the names of authors by these notes.
+/// Rows of the table of forks, with the names of authors.
 #[derive(Drop)]
-pub(crate) struct ForkRows<'a, 'b, B: Allocator + Copy>(pub &'a [&'b Op<B>]);
+pub(crate) struct ForkRows<'a, 'b, B: Allocator + Copy>(pub &'a BTreeMap<u32, &'b [u8], B>);
 
 /// Rows of the table of authors.
 #[derive(Clone, Copy)]
 pub(crate) struct AuthorRows;
 
 impl<'a, 'b, 'c, B: Allocator + Copy> Rows<&'c Op<B>> for NoteRows<'a, 'b, B> {
-    ghost use Rattle.std.specs.Prelude.{map};
+    ghost use Rattle.oct_sheet.specs.Names.{name_in};
     ghost use Rattle.oct_views.specs.Index.{note_row};
 
-    ghost text = { λ way op. note_row (map (λ o. o.now) way.0.now) op.now };
+    ghost text = { λ way op. note_row (name_in (λ text. text.now) way.0.now) op.now };
 
     fn append_row<A: Allocator + Copy>(
         &self,
@@ -44,10 +46,10 @@ impl<'a, 'b, 'c, B: Allocator + Copy> Rows<&'c Op<B>> for NoteRows<'a, 'b, B> {
 }
 
 impl<'a, 'b, B: Allocator + Copy> Rows<Fork> for ForkRows<'a, 'b, B> {
-    ghost use Rattle.std.specs.Prelude.{map};
+    ghost use Rattle.oct_sheet.specs.Names.{name_in};
     ghost use Rattle.oct_views.specs.Index.{fork_row};
 
-    ghost text = { λ way row. fork_row (map (λ o. o.now) way.0.now) row };
+    ghost text = { λ way row. fork_row (name_in (λ text. text.now) way.0.now) row };
 
     fn append_row<A: Allocator + Copy>(
         &self,
@@ -59,7 +61,7 @@ impl<'a, 'b, B: Allocator + Copy> Rows<Fork> for ForkRows<'a, 'b, B> {
             &[
                 Text(b"<tr><th scope=\"row\">"),
                 DotText(row.dot),
-                Beside(author_name(self.0, row.dot.author())),
+                Beside(name_in(self.0, row.dot.author())),
                 Text(b"</th><td>"),
                 Number(row.contents as u64),
                 Text(b"</td></tr>\n"),
@@ -108,13 +110,13 @@ fn append_called<A: Allocator>(
 }
 
 // Appends the row of a note.
-fn append_note<'a, A: Allocator, B: Allocator + Copy>(
+fn append_note<'n, A: Allocator, B: Allocator + Copy>(
     out: &mut Vec<u8, A>,
-    names: &[&'a Op<B>],
+    names: &'n BTreeMap<u32, &[u8], B>,
     dot: Dot,
-    note: &'a Note<B>,
+    note: &'n Note<B>,
 ) -> Result<(), AllocError>
-    ensures ok { OnOk result (out.new.items ≡ out.old.items ++ noted_row (map (λ o. o.now) names.now) dot note.now) }
+    ensures ok { OnOk result (out.new.items ≡ out.old.items ++ noted_row (name_in (λ text. text.now) names.now) dot note.now) }
     ensures grown { Extends out.old.items out.new.items }
 {
     append_pieces(
@@ -124,10 +126,17 @@ fn append_note<'a, A: Allocator, B: Allocator + Copy>(
             Escaped(note.name()),
             Text(b"</th><td>"),
             DotText(dot),
-            Beside(author_name(names, dot.author())),
+            Beside(name_of(names, dot.author())),
             Text(b"</td><td class=\"text\">"),
             Escaped(note.text()),
             Text(b"</td></tr>\n"),
         ],
     )
+}
+
+// The name of an author, for as long as the names are lent.
+fn name_of<'n, B: Allocator + Copy>(names: &'n BTreeMap<u32, &[u8], B>, author: u32) -> &'n [u8]
+    ensures { result.now ≡ name_in (λ text. text.now) names.now author }
+{
+    name_in(names, author)
 }

@@ -1,21 +1,22 @@
 //! The files of a site: HTML for each game, an index of all games, and their style.
 #![tactic(auto, using(oct_ops::proofs::Growing::growing))]
 
-ghost use Rattle.std.specs.Prelude.{◌≡◌, ◌++◌, OnErr, OnOk, codes, map};
+ghost use Rattle.oct_sheet.specs.Names.{name_in};
+ghost use Rattle.std.specs.Prelude.{◌≡◌, ◌++◌, OnErr, OnOk, codes};
 ghost use Rattle.oct_ops.specs.Operations.{listed};
 ghost use Rattle.oct_pages.specs.Contents.{game_content};
 ghost use Rattle.oct_ops.specs.Growth.{Extends};
-ghost use Rattle.oct_views.specs.Report.{game_head, game_html, image, image_head, index_by, style_sheet};
+ghost use Rattle.oct_views.specs.Report.{game_head, game_html, image, image_head, index_by, page_link, style_sheet};
 ghost use Rattle.oct_sheet.specs.Sheet.{sheet};
 
 use crate::common::{
-    FIGURE_END, HEAD_BEGIN, STYLE_LINK, append_head, append_html_end, append_records,
+    HEAD_BEGIN, STYLE_LINK, append_figure_end, append_head, append_html_end, append_records,
 };
 use crate::game_tables::append_game_tables;
 use crate::index::{Links, append_games};
 use crate::styles::HTML_STYLE;
 use oct_code::Code;
-use oct_ops::{Op, Period};
+use oct_ops::Period;
 use oct_pages::GameSheet;
 use oct_plot::{append_sentence, title_of};
 use oct_record::Record;
@@ -23,20 +24,31 @@ use oct_sheet::Summary;
 use oct_text::Piece::{Code as CodeText, Number, Text};
 use oct_text::{Shown, append_pieces};
 use std::alloc::{AllocError, Allocator};
+use std::collections::BTreeMap;
+
+/// What stands beside the tables of a site.
+#[derive(Clone, Copy)]
+pub enum Beside {
+    /// Nothing else.
+    Nothing,
+    /// The page that computes nim-values in the browser, as `compute.html`: each game has a link to it.
+    Page,
+}
 
 /// Appends the HTML of a game, a file of a site beside `index.html`, `style.css`, and the game's picture, b-file and JSON,
 /// which have the code for their names: what is proved of all heaps, its values in short, its blocks and its claims. Authors
-/// are called by these notes. The one error is that memory is refused, and then `out` stays as it is.
-pub fn write_game_html<A: Allocator + Copy, B: Allocator + Copy>(
-    names: &[&Op<B>],
+/// are called by these names. The one error is that memory is refused, and then `out` stays as it is.
+pub fn write_game_html<'n, A: Allocator + Copy, B: Allocator + Copy + 'n>(
+    beside: Beside,
+    names: &BTreeMap<u32, &'n [u8], B>,
     game: &GameSheet<'_, B>,
     out: &mut Vec<u8, A>,
 ) -> Result<(), AllocError>
-    ensures ok { OnOk result (out.new.items ≡ out.old.items ++ game_html (map (λ op. op.now) names.now) (game_content game.now)) }
+    ensures ok { OnOk result (out.new.items ≡ out.old.items ++ game_html beside (name_in (λ text. text.now) names.now) (game_content game.now)) }
     ensures err { OnErr result (out.new.items ≡ out.old.items) }
 {
     let before = out.len();
-    let written = append_game_html(out, names, game);
+    let written = append_game_html(out, beside, names, game);
     if written.is_err() {
         out.truncate(before);
     }
@@ -75,15 +87,17 @@ pub fn write_style<A: Allocator>(out: &mut Vec<u8, A>) -> Result<(), AllocError>
 }
 
 // Appends the HTML of a game.
-fn append_game_html<A: Allocator + Copy, B: Allocator + Copy>(
+fn append_game_html<'n, A: Allocator + Copy, B: Allocator + Copy + 'n>(
     out: &mut Vec<u8, A>,
-    names: &[&Op<B>],
+    beside: Beside,
+    names: &BTreeMap<u32, &'n [u8], B>,
     game: &GameSheet<'_, B>,
 ) -> Result<(), AllocError>
-    ensures ok { OnOk result (out.new.items ≡ out.old.items ++ game_html (map (λ op. op.now) names.now) (game_content game.now)) }
+    ensures ok { OnOk result (out.new.items ≡ out.old.items ++ game_html beside (name_in (λ text. text.now) names.now) (game_content game.now)) }
     ensures grown { Extends out.old.items out.new.items }
 {
     append_game_head(out, &game.code, game.values.len())?;
+    append_page_link(out, beside, &game.code)?;
     append_image(out, &game.code, game.values, &game.proved)?;
     append_game_tables(out, names, Shown::Brief, game)?;
     append_html_end(out)
@@ -120,6 +134,28 @@ fn append_game_head<A: Allocator>(
     )
 }
 
+// Appends the link to the page that computes, where it stands beside.
+fn append_page_link<A: Allocator>(
+    out: &mut Vec<u8, A>,
+    beside: Beside,
+    code: &Code,
+) -> Result<(), AllocError>
+    ensures ok { OnOk result (out.new.items ≡ out.old.items ++ page_link beside code.now) }
+    ensures grown { Extends out.old.items out.new.items }
+{
+    match beside {
+        Beside::Nothing => Ok(()),
+        Beside::Page => append_pieces(
+            out,
+            &[
+                Text(b"<p><a href=\"compute.html?code="),
+                CodeText(*code),
+                Text(b"\">Compute it here</a>, in this browser</p>\n"),
+            ],
+        ),
+    }
+}
+
 // Appends the picture, which is a file of its own, and what it shows in words.
 fn append_image<A: Allocator + Copy>(
     out: &mut Vec<u8, A>,
@@ -133,7 +169,8 @@ fn append_image<A: Allocator + Copy>(
     let title = title_of(*out.allocator(), code, values.len(), proved)?;
     append_image_head(out, code, &title)?;
     append_sentence(out, values, proved)?;
-    append_pieces(out, &[Text(b"\"/>\n"), Text(FIGURE_END)])
+    append_pieces(out, &[Text(b"\"/>\n")])?;
+    append_figure_end(out, proved)
 }
 
 // Appends what stands before those words.

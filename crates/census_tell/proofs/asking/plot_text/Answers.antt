@@ -9,5 +9,5 @@ pub returns : goal.returns
 returns c =
     let values = c.known_values.ensures.values ∙ ap (λ (h : GameBlocks). nim_values h.code (known (blocks_in h.blocks))) c.ledger.ensures in
     c.in_ok-write_plot.ensures.ok
-    ∙ ap (λ front. front ++ plot c.code-code.result c.known_values.result.now c.proved_period-proved.result) c.new-text.ensures.items
-    ∙ (λ i. plot (c.code-code.ensures i) (values i) (c.proved_period-proved.ensures i))
+    ∙ ap (λ front. front ++ plot c.code-code.result c.known_values.result.now c.find_period-found.result) c.new-text.ensures.items
+    ∙ (λ i. plot (c.code-code.ensures i) (values i) (c.find_period-found.ensures.value i))

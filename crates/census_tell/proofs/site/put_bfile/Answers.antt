@@ -5,8 +5,8 @@ use Rattle.census_tell.specs.Site.{bfile_of}
 use Rattle.oct_bfile.specs.Bfile.{bfile_text}
 use Rattle.census_tell.proofs.site.put_bfile.Goals as goal
 
-pub returns : goal.returns
-returns g c =
+pub returns-clause-ok : goal.returns-clause-ok
+returns-clause-ok g c =
     let game = game_content c.args.game.now in
     let bytes = c.deref.ensures.value ∙ c.in_ok-write_bfile.ensures.ok ∙ ap (λ t. t ++ bfile_text game.values) c.new-bytes.ensures.items in
-    on_ok_weaker c.put_named.result (λ e. subst (λ b. g.S.Folder.puts c.args.folder.now (bfile_of game).name b c.put_named.new.folder) bytes e) c.put_named.ensures
+    on_ok_weaker c.put_named.result (λ e. subst (λ b. g.S.Folder.puts c.args.folder.now (bfile_of game).name b c.put_named.new.folder) bytes e) c.put_named.ensures.ok

@@ -7,8 +7,8 @@ use Rattle.serde_json.specs.Written.{compact_text}
 use Rattle.std.specs.Prelude.{codes}
 use Rattle.census_tell.proofs.site.put_json.Goals as goal
 
-pub returns : goal.returns
-returns g c =
+pub returns-clause-ok : goal.returns-clause-ok
+returns-clause-ok g c =
     let game = game_content c.args.game.now in
     let bytes = c.deref.ensures.value ∙ c.in_ok-extend_from_slice.ensures.items ∙ ap (λ t. t ++ codes "\n") (c.in_ok-write_game_json.ensures.ok ∙ ap (λ t. t ++ compact_text (game_data game)) c.new-bytes.ensures.items) in
-    on_ok_weaker c.put_named.result (λ e. subst (λ b. g.S.Folder.puts c.args.folder.now (json_of game).name b c.put_named.new.folder) bytes e) c.put_named.ensures
+    on_ok_weaker c.put_named.result (λ e. subst (λ b. g.S.Folder.puts c.args.folder.now (json_of game).name b c.put_named.new.folder) bytes e) c.put_named.ensures.ok
