@@ -113,8 +113,8 @@ fn proved_count(all: &[JudgedClaim]) -> usize
     all.iter().filter(|one| says_proved(one.verdict)).count()
 }
 
-// Whether the verdict is that it is proved.
-fn says_proved(verdict: Verdict) -> bool
+/// Whether the verdict is that it is proved.
+pub(crate) fn says_proved(verdict: Verdict) -> bool
     ensures { result ≡ says_proved verdict }
 {
     match verdict {
@@ -133,8 +133,8 @@ fn refuted_count(all: &[JudgedClaim]) -> usize
     all.iter().filter(|one| says_refuted(one.verdict)).count()
 }
 
-// Whether the verdict is that it is refuted.
-fn says_refuted(verdict: Verdict) -> bool
+/// Whether the verdict is that it is refuted.
+pub(crate) fn says_refuted(verdict: Verdict) -> bool
     ensures { result ≡ says_refuted verdict }
 {
     match verdict {
@@ -150,8 +150,8 @@ fn pending_count(all: &[JudgedClaim]) -> usize
     all.iter().filter(|one| says_pending(one.verdict)).count()
 }
 
-// Whether nothing decides it yet.
-fn says_pending(verdict: Verdict) -> bool
+/// Whether nothing decides it yet.
+pub(crate) fn says_pending(verdict: Verdict) -> bool
     ensures { result ≡ says_pending verdict }
 {
     match verdict {
@@ -193,8 +193,8 @@ fn judge_held(
     judge_ops(all, before, &game, ops)
 }
 
-// Whether one of the operations was not there before.
-fn has_new(before: &Record<Global>, ops: &OpSet<Global>) -> bool
+/// Whether one of the operations was not there before.
+pub(crate) fn has_new(before: &Record<Global>, ops: &OpSet<Global>) -> bool
     ensures { result ≡ list_any (λ o. not (contains before.now.ops o)) (listed ops.now) }
 {
     for op in ops.iter() {
@@ -249,8 +249,12 @@ fn judge_op(
     Ok(())
 }
 
-// The verdict on an operation of a game; none where it is neither a block nor a claim.
-fn verdict_of(game: &Game<Global>, first: &Option<PeriodClaim>, op: &Op<Global>) -> Option<Verdict>
+/// The verdict on an operation of a game; none where it is neither a block nor a claim.
+pub(crate) fn verdict_of(
+    game: &Game<Global>,
+    first: &Option<PeriodClaim>,
+    op: &Op<Global>,
+) -> Option<Verdict>
     requires here { list_all (sets.contains game.now.blocks) (blocks_of game.now.code (op.now ∷ [])) ≡ true }
     requires of_game { of_code game.now.code op.now ≡ true }
     requires first { first.now ≡ first_proved (blocks_in game.now.blocks) (sets.listed game.now.claims) }
@@ -274,8 +278,8 @@ fn block_verdict(status: Status) -> Verdict
     }
 }
 
-// The verdict on a claim of the game.
-fn claim_verdict(game: &Game<Global>, claim: &Period) -> Verdict
+/// The verdict on a claim of the game.
+pub(crate) fn claim_verdict(game: &Game<Global>, claim: &Period) -> Verdict
     requires { claim.now.code ≡ game.now.code }
     ensures { result ≡ claim_verdict (blocks_in game.now.blocks) claim.now }
 {
