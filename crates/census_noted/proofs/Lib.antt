@@ -1,0 +1,6 @@
+pub mod Numerals
+mod Reading
+mod ReadingNames
+mod So
+pub mod Spelled
+pub mod Valid
