@@ -123,6 +123,21 @@ pub fn name_of(alloc: Global, fault: Fault) -> Result<String, AllocError> {
     Ok(name)
 }
 
+/// The names of all faults without their causes, each once, with blanks between.
+pub fn fault_names(alloc: Global) -> Result<String, AllocError> {
+    let mut names = String::new(alloc);
+    for group in &faults() {
+        for fault in *group {
+            let name = name_of(alloc, *fault)?;
+            let first = name.split_whitespace().next().unwrap_or("");
+            if !names.split_whitespace().any(|word| word == first) {
+                append_word(&mut names, first)?;
+            }
+        }
+    }
+    Ok(names)
+}
+
 // Whether the name is what is asked for, or begins with it as with a word.
 fn is_called(name: &str, asked: &str) -> bool {
     match name.strip_prefix(asked) {

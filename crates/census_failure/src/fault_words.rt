@@ -95,6 +95,7 @@ const WORDS_REFUSED: &[Fault] = &[
 const OTHERS_REFUSED: &[Fault] = &[
     Fault::Author,
     Fault::Apart,
+    Fault::Authors { count: 1, most: 1 },
     Fault::Issue(IssueError::LastNumber),
     Fault::TooMany,
     Fault::PastValue,
@@ -145,6 +146,7 @@ pub fn words_of(fault: Fault) -> FaultWords {
         Fault::NoPage => NO_PAGE,
         Fault::Author => AUTHOR,
         Fault::Apart => APART,
+        Fault::Authors { .. } => AUTHORS,
         Fault::Issue(cause) => of_issue(cause),
         Fault::TooMany => TOO_MANY,
         Fault::PastValue => PAST_VALUE,
@@ -197,6 +199,12 @@ const APART: FaultWords = FaultWords {
     subject: "the other side",
     meaning: "holds other operations after the session: a number was used twice",
     remedy: "exchange all: census sync --all STATE HOST:PORT; whoever has the number goes on by census renumber STATE",
+};
+
+const AUTHORS: FaultWords = FaultWords {
+    subject: "the session",
+    meaning: "would have brought the table above the authors that --authors lets it have; nothing of it is kept",
+    remedy: "see who the new authors are; where all are members, start again with a greater --authors",
 };
 
 const TOO_MANY: FaultWords = FaultWords {

@@ -228,6 +228,22 @@ impl Lock {
     }
 }
 
+/// Whether the lock is held whose file stands at the path; none where that can't be seen. It is taken for a moment where it
+/// is free, and nothing is made or changed.
+pub(crate) fn is_locked<R: Files<File = File>>(rt: &R, path: &str) -> Option<bool> {
+    match standing(rt, path) {
+        Ok(None) => return Some(false),
+        Ok(Some(there)) if there.is_file() => {}
+        _ => return None,
+    }
+    let file = fs::open(rt, path).ok()?;
+    match file.try_lock() {
+        Ok(()) => Some(false),
+        Err(TryLockError::WouldBlock) => Some(true),
+        Err(TryLockError::Error(_)) => None,
+    }
+}
+
 // What a lock says whose new file has these metadata.
 fn naming(there: &Metadata) -> [u8; NAMING] {
     let mut said = [0; NAMING];

@@ -4,6 +4,7 @@ use crate::files::{beside, unless_missing};
 use crate::hindrance::{Hindrance, unlocked, unreplaced};
 use crate::lock::{Lock, Telling};
 use crate::new_text::NewText;
+use crate::page_folder::is_of_page;
 use census_failure::{Advice, Failure};
 use census_state::Fault;
 use oct_code::Code;
@@ -15,7 +16,7 @@ use std::rt::Files;
 use std::time::Clock;
 
 // The file by which a folder is known as a site, and what else belongs to no game.
-const MARKER: &str = "census-site";
+pub(crate) const MARKER: &str = "census-site";
 
 const COMMON: [&str; 3] = [MARKER, "index.html", "style.css"];
 
@@ -227,14 +228,16 @@ where
     Ok(names)
 }
 
-// Whether a site has files of this name: one of three names, or a code with one of four ends. A file that is being written
-// has `.new` behind its name. The lock is one too.
+// Whether a site has files of this name: one of three names, one of the page that computes, or a code with one of four ends. A
+// file that is being written has `.new` behind its name. The lock is one too.
 fn is_of_site(name: &str) -> bool {
     if name == LOCK {
         return true;
     }
     let name = name.strip_suffix(".new").unwrap_or(name);
-    COMMON.iter().any(|common| *common == name) || ENDS.iter().any(|end| is_of_game(name, end))
+    COMMON.iter().any(|common| *common == name)
+        || is_of_page(name)
+        || ENDS.iter().any(|end| is_of_game(name, end))
 }
 
 // Whether the name is a code with this end.

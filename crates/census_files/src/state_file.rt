@@ -2,7 +2,7 @@
 
 use crate::files::{beside, check_length, real_path, standing};
 use crate::hindrance::{Hindrance, unlocked, unreplaced, unwritten};
-use crate::lock::{Lock, Silent, Telling, Waiting};
+use crate::lock::{Lock, Silent, Telling, Waiting, is_locked};
 use crate::new_text::{NewText, remove_left};
 use crate::seen::Seen;
 use census_failure::{Advice, Failure, shown};
@@ -21,6 +21,18 @@ const SHARED: u32 = 0o666;
 const PRIVATE: u32 = 0o600;
 // Without this permission the owner keeps a file from being changed.
 const OWNER_WRITES: u32 = 0o200;
+
+/// What a new file is to hold.
+pub trait Text {
+    /// Writes it to the file, which has nothing as yet.
+    fn write_to(&self, file: &mut File) -> io::Result<()>;
+}
+
+impl Text for &[u8] {
+    fn write_to(&self, file: &mut File) -> io::Result<()> {
+        file.write_all(self)
+    }
+}
 
 /// The file of a state, which no other command changes until `release`: it holds the exclusive lock of the system on
 /// the file of that name with `.lock` behind it. The system opens the lock where the process ends.
@@ -96,6 +108,18 @@ impl StateFile {
         })
     }
 
+    /// Whether another command holds the lock of the state just now; none where that can't be seen. The fault is `OutOfMemory`.
+    pub fn is_locked<R>(rt: &R, state: &str) -> Result<Option<bool>, Failure>
+    where
+        R: Files<File = File> + AllocGlobal,
+    {
+        let Some(path) = real_path(rt, state)? else {
+            return Ok(None);
+        };
+        let lock_path = beside(rt.alloc(), path.as_str(), ".lock")?;
+        Ok(is_locked(rt, lock_path.as_str()))
+    }
+
     /// Where the state stands, without links.
     pub fn path(&self) -> &str {
         self.path.as_str()
@@ -127,10 +151,19 @@ impl StateFile {
         R: Files<File = File> + AllocGlobal,
     {
         check_length(rt.alloc(), bytes, self.path.as_str())?;
+        self.replace_by(rt, &bytes)
+    }
+
+    /// Replaces the state likewise by a text that is written as it is made, and is not longer than a file may be.
+    pub fn replace_by<R, T>(&self, rt: &R, text: &T) -> Result<(), Failure>
+    where
+        R: Files<File = File> + AllocGlobal,
+        T: Text,
+    {
         let Some(lock) = &self.lock else {
             return Err(self.not_held(rt.alloc()));
         };
-        match self.renew(rt, lock, bytes) {
+        match self.renew(rt, lock, text) {
             Ok(()) => Ok(()),
             Err(hindrance) => Err(unreplaced(
                 rt.alloc(),
@@ -143,16 +176,17 @@ impl StateFile {
     }
 
     // The same under the lock. Where it is hindered, the new file is removed.
-    fn renew<R>(&self, rt: &R, lock: &Lock, bytes: &[u8]) -> Result<(), Hindrance>
+    fn renew<R, T>(&self, rt: &R, lock: &Lock, text: &T) -> Result<(), Hindrance>
     where
         R: Files<File = File>,
+        T: Text,
     {
         let old = standing(rt, self.path.as_str())?;
         check_replaceable(old.as_ref())?;
         lock.check(rt, self.lock_path.as_str())?;
         let mode = if old.is_some() { PRIVATE } else { SHARED };
         let mut new = NewText::make(rt, self.new_path.as_str(), mode)?;
-        let done = match fill(lock, new.file(), old.as_ref(), bytes) {
+        let done = match fill(lock, new.file(), old.as_ref(), text) {
             Ok(()) => new.take_name(rt, self.path.as_str(), lock, self.lock_path.as_str()),
             Err(error) => Err(Hindrance::System(error)),
         };
@@ -227,12 +261,12 @@ fn warn_of_other_name<R: AllocGlobal, E: Write>(rt: &R, path: &str, advice: &mut
 }
 
 // Has the lock name the new file, gives that the permissions of the old one, and writes it.
-fn fill(lock: &Lock, new: &mut File, old: Option<&Metadata>, bytes: &[u8]) -> io::Result<()> {
+fn fill<T: Text>(lock: &Lock, new: &mut File, old: Option<&Metadata>, text: &T) -> io::Result<()> {
     lock.name(new)?;
     if let Some(old) = old {
         resemble(new, old)?;
     }
-    new.write_all(bytes)?;
+    text.write_to(new)?;
     new.sync_all()
 }
 

@@ -1,5 +1,6 @@
 //! Where a state meets its peers.
 
+use crate::allowance::Allowance;
 use crate::connection::Patience;
 use crate::sockets::{Listener, Stream};
 use census_diagnosis::{unbound, unbound_at, unconnected, unconnected_at, unmet, unserved};
@@ -43,7 +44,7 @@ impl<'a> Place<'a> {
     }
 }
 
-/// A state, the place at which it meets its peers, and how long it waits for them there.
+/// A state, the place at which it meets its peers, how long it waits for them there, and how much it takes of each.
 #[derive(Clone, Copy)]
 pub struct Endpoint<'a> {
     /// The path of the state file.
@@ -52,6 +53,8 @@ pub struct Endpoint<'a> {
     pub place: Place<'a>,
     /// How long a peer is waited for.
     pub patience: Patience,
+    /// How much one peer may bring.
+    pub allowance: Allowance,
 }
 
 /// Listens at the place. The fault is `Net`.

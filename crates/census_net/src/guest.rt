@@ -1,18 +1,23 @@
 //! One session of a hub, which goes on when its connection is ready.
 
+use crate::allowance::Allowance;
 use crate::connection::Patience;
 use crate::kept::{Kept, Settled};
 use crate::sockets::Peer;
 use crate::visitors::Visitor;
+use crate::ways::HEAD;
 use census_failure::Failure;
-use census_fold::{REFUSAL, closing_frame};
+use census_fold::{Refusal, closing_frame, refusal_frame};
 use census_state::Fault;
 use mio::{Registry, Token};
+use oct_answer::Missing;
+use oct_delta::decode_clock;
 use oct_record::Record;
 use oct_sync::{Progress, Session, SyncError};
-use std::alloc::{AllocError, Global};
+use std::alloc::Global;
 use std::fs::File;
 use std::io::{self, ErrorKind};
+use std::mem;
 use std::rt::Files;
 use std::time::Instant;
 
@@ -21,8 +26,8 @@ use std::time::Instant;
 pub(crate) struct Bounds {
     /// How long its session may last, and be silent.
     pub(crate) patience: Patience,
-    /// The most bytes that it may send.
-    pub(crate) most: u64,
+    /// How much it may bring.
+    pub(crate) allowance: Allowance,
 }
 
 /// A peer of a hub, and how far its session is.
@@ -35,13 +40,17 @@ pub(crate) struct Guest {
     session: Session<Global>,
     /// What came. It is not in the state before it is saved.
     brought: Record<Global>,
-    /// The digest of what the state had as the session answered the peer's clock; none before that.
-    answered: Option<Vec<u8>>,
-    /// What is to be sent, and how much of it was.
+    /// The revision of the state as the session answered the peer's clock; none before that.
+    answered: Option<u64>,
+    /// What came of the frame of the peer's clock; nothing once it was answered.
+    greeting: Vec<u8>,
+    /// What is still to be sent of the answer to it, behind what is owed.
+    missing: Option<Missing<Global>>,
+    /// What is to be sent next, and how much of it was.
     owed: Vec<u8>,
     sent: usize,
-    /// How much of it ends the session; what stands behind that the peer need not read. 0 where there is nothing behind it.
-    done: usize,
+    /// How much of it ends the session; what stands behind that the peer need not read. None where there is nothing behind it.
+    done: Option<usize>,
     /// How many bytes came.
     came: u64,
     /// What stands in the state after the session; none before all came, and what came was saved.
@@ -75,9 +84,11 @@ impl Guest {
             session: Session::server(alloc),
             brought,
             answered: None,
+            greeting: Vec::new(alloc),
+            missing: None,
             owed: Vec::new(alloc),
             sent: 0,
-            done: 0,
+            done: None,
             came: 0,
             settled: None,
             is_ready: true,
@@ -154,6 +165,7 @@ impl Guest {
         R: Files<File = File> + AllocGlobal,
     {
         if self.is_ready {
+            self.owe_next()?;
             if self.owed.is_empty() {
                 self.receive(rt, state, kept, buffer, now)?;
             } else {
@@ -186,7 +198,21 @@ impl Guest {
 
     // Whether the last frame was sent, so that the session is done without what stands behind it.
     fn is_told(&self) -> bool {
-        self.done > 0 && self.sent >= self.done
+        self.done.is_some_and(|done| self.sent >= done)
+    }
+
+    // Owes the next frame of the answer to the peer's clock, where all is sent that was owed.
+    fn owe_next(&mut self) -> Result<(), Failure> {
+        let Some(missing) = &mut self.missing else {
+            return Ok(());
+        };
+        if self.owed.is_empty() {
+            missing.put_next(&mut self.owed)?;
+            if missing.is_over() {
+                self.missing = None;
+            }
+        }
+        Ok(())
     }
 
     // All is sent that is owed.
@@ -212,7 +238,7 @@ impl Guest {
             Ok(0) => Err(Failure::from(Fault::Sync(SyncError::Cut))),
             Ok(count) => {
                 self.hear(now);
-                self.take(rt, state, kept, &buffer[..count])
+                self.take(rt, state, kept, &buffer[..count], now)
             }
             Err(e) => self.wait_after(&e, SyncError::Read),
         }
@@ -220,31 +246,66 @@ impl Guest {
 
     // Feeds the session what came, of one frame at most: the peer's clock over the state as its file says now, and what
     // follows over what this session brought. Where the session is done, its last frame is owed once all that came is saved.
-    // A peer that sends too much is told so.
-    fn take<R>(&mut self, rt: &R, state: &str, kept: &mut Kept, piece: &[u8]) -> Result<(), Failure>
+    // A peer that brings too much is told so.
+    fn take<R>(
+        &mut self,
+        rt: &R,
+        state: &str,
+        kept: &mut Kept,
+        piece: &[u8],
+        now: Instant,
+    ) -> Result<(), Failure>
     where
         R: Files<File = File> + AllocGlobal,
     {
         self.came = self.came.saturating_add(piece.len() as u64);
-        if self.came > self.bounds.most {
-            self.refuse();
-            return Err(Failure::from(Fault::TooLong).found(most_text(
-                rt.alloc(),
-                self.bounds.most,
-            )));
+        if self.came > self.bounds.allowance.most {
+            self.refuse(rt.alloc(), Refusal::Most);
+            return Err(self.bounds.allowance.exceeded(rt.alloc()));
         }
         if self.answered.is_none() {
             return self.greet(rt, state, kept, piece);
         }
         if let Progress::Done = self.session.feed(&mut self.brought, piece, &mut self.owed)? {
-            let settled = kept.settle(rt, state, &self.brought)?;
-            self.close(rt.alloc(), kept, &settled);
-            self.settled = Some(settled);
+            return self.settle(rt, state, kept, now);
         }
         Ok(())
     }
 
-    // Feeds the session bytes of the peer's clock. The answer is the first that is sent, and no delta is taken before it.
+    // Has what came saved, and sends the last frame: the peer then goes on while the digest is computed that stands behind it.
+    fn settle<R>(
+        &mut self,
+        rt: &R,
+        state: &str,
+        kept: &mut Kept,
+        now: Instant,
+    ) -> Result<(), Failure>
+    where
+        R: Files<File = File> + AllocGlobal,
+    {
+        let most = self.bounds.allowance.authors;
+        match kept.settle(rt, state, &self.brought, most) {
+            Ok(settled) => {
+                let before = settled.before;
+                self.settled = Some(settled);
+                self.send(rt.alloc(), now)?;
+                self.close(rt.alloc(), kept, before);
+                if self.owed.is_empty() {
+                    return Ok(());
+                }
+                self.send(rt.alloc(), now)
+            }
+            Err(failure) => {
+                if let Fault::Authors { .. } = failure.fault {
+                    self.refuse(rt.alloc(), Refusal::Authors(most));
+                }
+                Err(failure)
+            }
+        }
+    }
+
+    // Feeds the session bytes of the peer's clock, over what it brought, which is nothing as yet. So its own answer is that of one
+    // who holds nothing, and is not sent: what the state has is sent in its place, a frame at a time, and before any delta is taken.
     fn greet<R>(
         &mut self,
         rt: &R,
@@ -256,27 +317,47 @@ impl Guest {
         R: Files<File = File> + AllocGlobal,
     {
         kept.renew(rt, state)?;
-        self.session.feed(&mut kept.said, piece, &mut self.owed)?;
-        if !self.owed.is_empty() {
-            self.answered = Some(kept.digest().to_vec(rt.alloc())?);
+        self.greeting.extend_from_slice(piece)?;
+        let mut unsent = Vec::new(rt.alloc());
+        self.session.feed(&mut self.brought, piece, &mut unsent)?;
+        if unsent.is_empty() {
+            return Ok(());
         }
+        self.answer(rt.alloc(), kept)
+    }
+
+    // Owes the peer the clock of the state, and behind it the frames of all that the peer's clock does not cover.
+    fn answer(&mut self, alloc: Global, kept: &mut Kept) -> Result<(), Failure> {
+        let frame = mem::replace(&mut self.greeting, Vec::new(alloc));
+        let Ok(clock) = decode_clock(alloc, frame.get(HEAD..).unwrap_or(&[])) else {
+            return Err(Failure::from(Fault::OutOfMemory));
+        };
+        let snapshot = kept.snapshot(alloc)?;
+        snapshot.put_clock(&mut self.owed)?;
+        self.missing = Some(Missing::new(alloc, snapshot, clock));
+        self.answered = Some(kept.revision());
         Ok(())
     }
 
     // Owes the peer the digest of what it should hold now, behind the last frame. It can't be said where the state changed
     // between the answer to the peer's clock and what this session brought to it.
-    fn close(&mut self, alloc: Global, kept: &Kept, settled: &Settled) {
-        if self.answered.as_deref() == Some(&settled.before[..]) {
-            if let Ok(frame) = closing_frame(alloc, kept.digest()) {
-                self.done = self.owed.len();
+    fn close(&mut self, alloc: Global, kept: &mut Kept, before: u64) {
+        if self.answered != Some(before) {
+            return;
+        }
+        if let Ok(digest) = kept.digest(alloc) {
+            if let Ok(frame) = closing_frame(alloc, digest) {
+                self.done = Some(self.owed.len());
                 let _ = self.owed.extend_from_slice(&frame);
             }
         }
     }
 
-    // Says to the peer, if it takes that at once, that it has sent too much.
-    fn refuse(&mut self) {
-        let _ = self.stream.write_some(&REFUSAL);
+    // Says to the peer, if it takes that at once, why its session ends.
+    fn refuse(&mut self, alloc: Global, why: Refusal) {
+        if let Ok(frame) = refusal_frame(alloc, why) {
+            let _ = self.stream.write_some(&frame);
+        }
     }
 
     // After a call that was not done: it is made again at once where a signal interrupted it, and where the connection
@@ -316,7 +397,7 @@ impl Guest {
 
     // The fault of a peer that is silent: of a read, or of a write where something is owed.
     fn awaited(&self) -> SyncError {
-        if self.owed.is_empty() {
+        if self.owed.is_empty() && self.missing.is_none() {
             SyncError::Read
         } else {
             SyncError::Write
@@ -330,13 +411,6 @@ impl Guest {
             None => false,
         }
     }
-}
-
-// What is said of a peer that sends too much.
-fn most_text(alloc: Global, most: u64) -> Result<String, AllocError> {
-    format!(in alloc;
-        "the other side sent over {most} bytes, the most that --most lets one session send"
-    )
 }
 
 /// The sooner of two times, of which there may be none.

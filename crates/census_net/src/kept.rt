@@ -1,33 +1,38 @@
 //! What a hub keeps of its state between sessions.
 
-use crate::record_file::{Saved, record_of, save_held, written};
+use crate::record_file::{Saved, Standing, record_of, save_grown, save_held};
 use crate::shares::{Share, count_of, news, shares};
 use census_failure::Failure;
-use census_files::{Seen, StateFile, open_file, read_open, stateless};
-use census_fold::{new_forks, record_digest};
-use census_state::{Fault, rejoin_grown, unchanged};
+use census_files::StateFile;
+use census_fold::{authors_cut, check_authors, new_forks, record_digest};
+use census_state::{Fault, unchanged};
+use oct_answer::Snapshot;
 use oct_ops::Dot;
 use oct_record::Record;
 use oct_store::Fork;
 use std::alloc::Global;
-use std::fs::{self, File};
-use std::mem;
+use std::fs::File;
+use std::rc::Rc;
 use std::rt::Files;
 
 /// What a state file says, as it was last read or written.
 #[derive(Drop)]
 pub(crate) struct Kept {
     /// The record that it says. Nothing is in it that is not saved.
-    pub(crate) said: Record<Global>,
+    said: Record<Global>,
+    /// What it holds, as those are sent it whose clocks came since it changed.
+    snapshot: Option<Rc<Snapshot<Global>, Global>>,
     /// How many of its operations are by each author.
     shares: Vec<Share>,
     /// The dots that are used twice in it.
     forks: Vec<Fork>,
-    /// Its digest.
-    digest: Vec<u8>,
-    /// The file. While it is open, no other has its inode.
-    file: File,
-    seen: Seen,
+    /// Its digest, where somebody asked for it since it changed.
+    digest: Option<Vec<u8>>,
+    /// How often what it says was changed or read again.
+    revision: u64,
+    /// How many authors are left out of its clock.
+    cut: usize,
+    standing: Standing,
 }
 
 /// What stands in a state after a session of a hub.
@@ -38,8 +43,8 @@ pub(crate) struct Settled {
     pub(crate) news: Vec<Share>,
     /// The dots that are used twice since.
     pub(crate) forks: Vec<Dot>,
-    /// The digest of what the file had before.
-    pub(crate) before: Vec<u8>,
+    /// The revision of what the file had before.
+    pub(crate) before: u64,
 }
 
 impl Settled {
@@ -55,25 +60,34 @@ impl Kept {
     where
         R: Files<File = File> + AllocGlobal,
     {
-        let mut file = match open_file(rt, state) {
-            Ok(file) => file,
-            Err(failure) => return Err(stateless(rt.alloc(), failure, state)),
-        };
-        // Before it is read, so that what is written into it meanwhile is seen afterwards.
-        let there = match file.metadata() {
-            Ok(there) => there,
-            Err(error) => return Err(Failure::of(rt.alloc(), Fault::File, state).because(error)),
-        };
-        let bytes = read_open(rt.alloc(), &mut file, state)?;
+        let mut standing = Standing::at(rt, state)?;
+        let bytes = standing.read(rt.alloc(), state)?;
         let said = record_of(rt.alloc(), state, &bytes)?;
         Ok(Kept {
             shares: shares(rt.alloc(), &said)?,
             forks: said.store().forks()?,
-            digest: record_digest(rt.alloc(), &said)?,
+            digest: None,
+            revision: 0,
+            cut: authors_cut(&said)?,
+            snapshot: None,
             said,
-            file,
-            seen: Seen::of(&there),
+            standing,
         })
+    }
+
+    /// What it holds now, to be sent. All who are sent the same share it.
+    pub(crate) fn snapshot(
+        &mut self,
+        alloc: Global,
+    ) -> Result<Rc<Snapshot<Global>, Global>, Failure> {
+        if let Some(snapshot) = &self.snapshot {
+            return Ok(snapshot.clone()?);
+        }
+        let Ok(snapshot) = Rc::new(alloc, Snapshot::of(alloc, &self.said)?) else {
+            return Err(Failure::from(Fault::OutOfMemory));
+        };
+        self.snapshot = Some(snapshot.clone()?);
+        Ok(snapshot)
     }
 
     /// A record without operations, for what a session brings.
@@ -90,8 +104,10 @@ impl Kept {
     where
         R: Files<File = File> + AllocGlobal,
     {
-        if !self.stands(rt, state) {
+        if !self.standing.stands(rt, state) {
+            let revision = self.revision.saturating_add(1);
             *self = Kept::read(rt, state)?;
+            self.revision = revision;
         }
         Ok(())
     }
@@ -102,13 +118,14 @@ impl Kept {
         brought.store().iter().any(|op| !there.contains(op))
     }
 
-    /// Saves the union of what the file holds by now and of what a session brought, where the file has not all of it. After
-    /// a fault what is kept is what the file says.
+    /// Saves the union of what the file holds by now and of what a session brought, where the file has not all of it, and where
+    /// that brings it to no more authors than these. After a fault what is kept is what the file says.
     pub(crate) fn settle<R>(
         &mut self,
         rt: &R,
         state: &str,
         brought: &Record<Global>,
+        authors: u32,
     ) -> Result<Settled, Failure>
     where
         R: Files<File = File> + AllocGlobal,
@@ -118,7 +135,7 @@ impl Kept {
             return self.settled_already(rt.alloc());
         }
         let file = StateFile::wait(rt, state)?;
-        let settled = self.save(rt, &file, state, brought);
+        let settled = self.save(rt, &file, state, brought, authors);
         file.release(rt);
         settled
     }
@@ -132,13 +149,29 @@ impl Kept {
             },
             news: Vec::new(alloc),
             forks: Vec::new(alloc),
-            before: self.digest.to_vec(alloc)?,
+            before: self.revision,
         })
     }
 
-    /// The digest of what is saved, in hexadecimal digits.
-    pub(crate) fn digest(&self) -> &[u8] {
-        &self.digest
+    /// Which revision is saved. It is another one wherever another set is.
+    pub(crate) fn revision(&self) -> u64 {
+        self.revision
+    }
+
+    /// The digest of what is saved, in hexadecimal digits. It is computed once for each revision, by a pass over all operations.
+    pub(crate) fn digest(&mut self, alloc: Global) -> Result<&[u8], Failure> {
+        if self.digest.is_none() {
+            self.digest = Some(record_digest(alloc, &self.said)?);
+        }
+        match &self.digest {
+            Some(digest) => Ok(digest),
+            None => unreachable!(),
+        }
+    }
+
+    /// How many authors are left out of the clock of what is saved.
+    pub(crate) fn cut(&self) -> usize {
+        self.cut
     }
 
     // The same, while no other command changes the file, which is read first where it is not known.
@@ -148,6 +181,7 @@ impl Kept {
         file: &StateFile,
         state: &str,
         brought: &Record<Global>,
+        authors: u32,
     ) -> Result<Settled, Failure>
     where
         R: Files<File = File> + AllocGlobal,
@@ -155,8 +189,9 @@ impl Kept {
         self.renew(rt, state)?;
         let fresh = self.fresh(rt.alloc(), brought)?;
         let before = self.said.len();
+        self.snapshot = None;
         let settled = match self.said.join(&fresh) {
-            Ok(()) => self.write(rt, file, state, before),
+            Ok(()) => self.write(rt, file, state, before, authors),
             Err(refused) => Err(Failure::from(refused)),
         };
         if settled.is_ok() {
@@ -185,31 +220,37 @@ impl Kept {
         }
     }
 
-    // Writes all, and knows then how many operations are by whom. So many were there before.
+    // Writes all, and knows then how many operations are by whom. So many were there before, and so many authors there may be.
     fn write<R>(
         &mut self,
         rt: &R,
         file: &StateFile,
         state: &str,
         before: usize,
+        authors: u32,
     ) -> Result<Settled, Failure>
     where
         R: Files<File = File> + AllocGlobal,
     {
+        check_authors(&self.said, self.shares.len(), authors)?;
         let alloc = rt.alloc();
         let shares = shares(alloc, &self.said)?;
         let news = news(alloc, &self.shares, &shares)?;
         let twice = self.said.store().forks()?;
         let forks = new_forks(alloc, &self.forks, &twice)?;
-        let digest = record_digest(alloc, &self.said)?;
+        let cut = authors_cut(&self.said)?;
         let saved = self.write_grown(rt, file, state, before, &shares)?;
+        self.cut = cut;
         self.shares = shares;
         self.forks = twice;
+        self.digest = None;
+        let revision = self.revision;
+        self.revision = revision.saturating_add(1);
         Ok(Settled {
             saved,
             news,
             forks,
-            before: mem::replace(&mut self.digest, digest),
+            before: revision,
         })
     }
 
@@ -230,14 +271,7 @@ impl Kept {
         if count_of(shares, author) != count_of(&self.shares, author) {
             return save_held(rt, file, state, &self.said);
         }
-        if before > self.said.len() {
-            return Err(Failure::from(Fault::File));
-        }
-        let reply = rejoin_grown(rt.alloc(), before, &self.said)?;
-        Ok(Saved {
-            text: written(rt, file, reply)?,
-            foreign: None,
-        })
+        save_grown(rt, file, state, before, &self.said)
     }
 
     // Takes the file that stands at the path for the one that says what is kept. Where it can't be seen, it is read again
@@ -246,20 +280,8 @@ impl Kept {
     where
         R: Files<File = File> + AllocGlobal,
     {
-        let Ok(file) = open_file(rt, state) else {
-            return;
-        };
-        if let Ok(there) = file.metadata() {
-            self.seen = Seen::of(&there);
-            self.file = file;
-        }
-    }
-
-    // Whether the file that was read stands at the path, and was not changed since. Nothing of it is read.
-    fn stands<R: Files>(&self, rt: &R, state: &str) -> bool {
-        match fs::metadata(rt, state) {
-            Ok(there) => Seen::of(&there) == self.seen,
-            Err(_) => false,
+        if let Ok(standing) = Standing::at(rt, state) {
+            self.standing = standing;
         }
     }
 }

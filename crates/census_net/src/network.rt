@@ -1,15 +1,14 @@
 //! Sessions over TCP, or a socket of this machine.
 
+use crate::bounded::Bounded;
 use crate::connection::Connection;
 use crate::endpoint::{Endpoint, accepted, bound, connected, leave};
-use crate::record_file::load;
+use crate::record_file::Loaded;
 use crate::session::{Outcome, Streams};
 use crate::sockets::Stream;
 use census_failure::{Advice, Failure};
 use census_state::Fault;
-use oct_record::Record;
 use oct_sync::Role;
-use std::alloc::Global;
 use std::fs::File;
 use std::io::Write;
 use std::net::{Net, TcpListener, TcpStream};
@@ -18,8 +17,8 @@ use std::time::Clock;
 
 /// Waits for one connection to the place, without end, and serves its session. Its last frame, by which the other side is
 /// done, is sent once the state is saved. The state is saved also where the session ended early. The fault is that of the
-/// state, as it is read first; then `Net`; then that of the session, or else of the state, as it is saved; then that of the
-/// last frame.
+/// state, as it is read first; then `Net`; then that of the session, `Sync` or `TooLong` where the other side sends more than it
+/// may, or else `Authors`, where it brings too many, or that of the state, as it is saved; then that of the last frame.
 pub fn serve<R, E>(
     rt: &R,
     endpoint: Endpoint<'_>,
@@ -29,23 +28,24 @@ where
     R: Files<File = File> + AllocGlobal + Net<Stream = TcpStream, Listener = TcpListener> + Clock,
     E: Write,
 {
-    let said = load(rt, endpoint.state)?;
+    let (mut loaded, _) = Loaded::read(rt, endpoint.state)?;
     let listener = bound(rt, endpoint.place)?;
     let taken = accepted(rt, &listener, endpoint.place);
     leave(rt, endpoint.place);
     let stream = taken?;
-    both_ways(rt, endpoint, &stream)?.answer(rt, endpoint.state, said, advice)
+    both_ways(rt, endpoint, &stream)?.answer(rt, endpoint.state, &mut loaded, advice)
 }
 
 /// Connects to the place, and has one session with what serves there, as this kind of client, over what the state said,
 /// which takes what the session brings. The state is saved once the session is done, and also where it ended early. The outcome
-/// is what the server says behind its last frame, if it says so. The fault is `Net`; then that of the session, or else of the
-/// state, as it is saved.
+/// is what the server says behind its last frame, if it says so. The fault is `Net`; then that of the session, `Sync` or
+/// `TooLong` where the other side sends more than it may, or else `Authors`, where it brings too many, or that of the state, as
+/// it is saved.
 pub fn sync<R, E>(
     rt: &R,
     endpoint: Endpoint<'_>,
     role: Role,
-    said: &mut Record<Global>,
+    loaded: &mut Loaded,
     advice: &mut Advice<'_, E>,
 ) -> Result<Outcome, Failure>
 where
@@ -53,7 +53,7 @@ where
     E: Write,
 {
     let stream = connected(rt, endpoint.place, endpoint.patience)?;
-    both_ways(rt, endpoint, &stream)?.ask(rt, endpoint.state, role, said, advice)
+    both_ways(rt, endpoint, &stream)?.ask(rt, endpoint.state, role, loaded, advice)
 }
 
 // The two directions of a connection, whose session begins now. The fault is `Net`.
@@ -68,8 +68,9 @@ fn both_ways<'a, R: AllocGlobal + Clock>(
     ) {
         (Ok(input), Ok(output)) => Ok(Streams {
             name: endpoint.place.name(),
-            input,
+            input: Bounded::new(input, endpoint.allowance.most),
             output,
+            allowance: endpoint.allowance,
         }),
         _ => Err(Failure::of(rt.alloc(), Fault::Net, endpoint.place.name())),
     }

@@ -6,7 +6,7 @@ use crate::kept::{Kept, Settled};
 use crate::moment::Moment;
 use crate::room::{OUTPUT, has_room};
 use crate::sockets::{Listener, Peer};
-use crate::unsaved::unsaved;
+use crate::unsaved::{is_of_peer, unsaved};
 use crate::visitors::{Door, Visitor};
 use census_diagnosis::unserved;
 use census_failure::{Failure, escaped, explanation, foreign_text};
@@ -40,15 +40,13 @@ const SILENCE: u64 = 10;
 /// The listener among the sources of events. The others are the guests, by their keys.
 const LISTENER: Token = Token(usize::MAX);
 
-/// How many peers a hub takes, and how much of each.
+/// How many peers a hub takes.
 #[derive(Clone, Copy)]
 pub struct Limits {
     /// After how many connections it ends.
     pub peers: u64,
     /// How many sessions it has at once, at least one.
     pub sessions: usize,
-    /// The most bytes that one peer may send.
-    pub most: u64,
 }
 
 /// A hub that runs. All its sessions speak for the one record that is kept.
@@ -253,7 +251,7 @@ where
     fn seat(&mut self, stream: Visitor, peer: Peer, now: Instant) -> Result<(), Failure> {
         let bounds = Bounds {
             patience: self.endpoint.patience,
-            most: self.limits.most,
+            allowance: self.endpoint.allowance,
         };
         let alloc = self.rt.alloc();
         let mut guest = Guest::new(alloc, stream, peer, bounds, self.kept.empty(alloc), now);
@@ -372,15 +370,16 @@ where
     }
 
     // The line of a session that was done: when and whose it was, how many operations are new and how many there are, the first
-    // digits of their digest, by whom the new ones are, and which dots are used twice since, as far as a line may be long.
-    fn line(&self, peer: Peer, settled: &Settled) -> Result<Vec<u8>, Failure> {
+    // digits of their digest, by whom the new ones are, and which dots are used twice since, as far as a line may be long; and how
+    // many authors are left out of its clock.
+    fn line(&mut self, peer: Peer, settled: &Settled) -> Result<Vec<u8>, Failure> {
         let alloc = self.rt.alloc();
         let mut line = Vec::new(alloc);
         let front = format!(in alloc; "{} peer {peer} ", Moment::now(self.rt))?;
         line.extend_from_slice(front.as_bytes())?;
         line.extend_from_slice(settled.saved.text.trim_ascii_end())?;
         line.extend_from_slice(b" digest ")?;
-        let digits = self.kept.digest();
+        let digits = self.kept.digest(alloc)?;
         line.extend_from_slice(digits.get(..DIGITS).unwrap_or(digits))?;
         for (at, share) in settled.news.iter().enumerate() {
             let mark = if at == 0 { ';' } else { ',' };
@@ -394,6 +393,7 @@ where
             line.extend_from_slice(text.as_bytes())?;
         }
         append_forks(alloc, &mut line, &settled.forks)?;
+        append_cut(alloc, &mut line, self.kept.cut())?;
         line.extend_from_slice(b"\n")?;
         Ok(line)
     }
@@ -406,7 +406,9 @@ where
         let brought = guest.into_brought();
         let mut failure = failure;
         if is_to_save && !brought.is_empty() {
-            match self.kept.settle(self.rt, self.endpoint.state, &brought) {
+            let authors = self.endpoint.allowance.authors;
+            let state = self.endpoint.state;
+            match self.kept.settle(self.rt, state, &brought, authors) {
                 Ok(settled) => warn_of_number(self.rt.alloc(), errors, settled.foreign()),
                 Err(why) => failure = unsaved(self.rt.alloc(), failure, &why),
             }
@@ -430,14 +432,18 @@ fn append_forks(alloc: Global, line: &mut Vec<u8>, forks: &[Dot]) -> Result<(), 
     Ok(())
 }
 
+// Appends how many authors a clock leaves out, where it does.
+fn append_cut(alloc: Global, line: &mut Vec<u8>, cut: usize) -> Result<(), AllocError> {
+    if cut == 0 {
+        return Ok(());
+    }
+    let text = format!(in alloc; "; clock cut by {cut} authors")?;
+    line.extend_from_slice(text.as_bytes())
+}
+
 // When a guest gives way that was last heard then.
 fn way_given(heard: Instant) -> Option<Instant> {
     heard.checked_add(Duration::from_secs(SILENCE))
-}
-
-// Whether a session ended by what its peer did.
-fn is_of_peer(failure: &Failure) -> bool {
-    matches!(failure.fault, Fault::Sync(_) | Fault::TooLong)
 }
 
 // Listens at the place without waiting, and reports each connection under the token of the listener. The fault is `Net`.

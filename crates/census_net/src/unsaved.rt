@@ -4,6 +4,11 @@ use census_failure::Failure;
 use census_state::Fault;
 use std::alloc::{AllocError, Global};
 
+/// Whether a session ended by what its peer did. What came before is saved then.
+pub(crate) fn is_of_peer(failure: &Failure) -> bool {
+    matches!(failure.fault, Fault::Sync(_) | Fault::TooLong)
+}
+
 /// The failure of a session, with the advice of one of which nothing could be saved, and why.
 pub(crate) fn unsaved(alloc: Global, failure: Failure, why: &Failure) -> Failure {
     failure.advise(unsaved_text(alloc, why.fault))

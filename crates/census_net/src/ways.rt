@@ -6,11 +6,12 @@ use std::net::Net;
 use std::os::fd::RawFd;
 use std::time::Duration;
 
-/// For how many seconds it is waited for what a server may say behind its last frame. It comes with that frame, if at all.
-const BEHIND: u64 = 2;
+/// For how many seconds it is waited for what a server may say behind its last frame, which it computes then: as long as this side
+/// takes for the same, and this.
+const BEHIND: u64 = 5;
 
 /// How many bytes a frame has before its payload.
-const HEAD: usize = 5;
+pub(crate) const HEAD: usize = 5;
 
 /// The standard input of the program.
 const INPUT: RawFd = 0;
