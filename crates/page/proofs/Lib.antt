@@ -1,0 +1,6 @@
+pub mod FirstGames
+pub mod HeldFiles
+pub mod Outcomes
+pub mod RightlyTold
+pub mod Searches
+pub mod WrongLines

@@ -1,0 +1,15 @@
+use Rattle.std.proofs.Common.{◌++◌, Ok, sym, ap, ◌∙◌}
+use Rattle.std.proofs.lemmas.Result.{err_from_is_err_and}
+use Rattle.oct_ops.specs.Operations.{listed}
+use Rattle.oct_pages.specs.Catalogue.{catalogue}
+use Rattle.census_state.proofs.Stepping.{stopped, then_with}
+use Rattle.page.proofs.files.catalogue.Goals as goal
+
+pub returns-in_err-said-clause-err : goal.returns-in_err-said-clause-err
+returns-in_err-said-clause-err g c =
+    let p = err_from_is_err_and c.from_residual.result c.from_residual.ensures.1 in
+    rw (p.1, p.2) (λ other. stopped _ _ _ (c.in_err-said.ensures.err other))
+
+pub returns-clause-ok : goal.returns-clause-ok
+returns-clause-ok g c =
+    then_with _ _ c.in_ok-said.said.ops c.in_ok-said.ensures.ok ∙ ap Ok (sym (c.in_ok-write_catalogue_of.ensures.ok ∙ ap (λ front. front ++ catalogue (listed c.in_ok-said.said.ops)) c.new-text.ensures.items))

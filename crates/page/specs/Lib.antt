@@ -1,0 +1,6 @@
+pub mod Answers
+pub mod Asked
+pub mod Checked
+pub mod Files
+pub mod FirstGame
+pub mod Telling
