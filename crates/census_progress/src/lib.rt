@@ -6,8 +6,9 @@
 //! - `ProgressLine` is the line on a terminal.
 //! - `TurnSaver` saves the state while `extend` and `survey` give games their turns.
 //! - `search_saved` does a `WindowSearch` that is saved in a file, and goes on from there.
-//! - `say_what_became` says whether the blocks and claims that are new in a `Changed` state are proved, refuted or pending, where
-//!   that is wanted (`is_told`); `say_of_records` says so of what two records hold.
+//! - `say_what_became` says whether the blocks and claims that are new in a `Changed` state are proved, refuted or pending, and
+//!   which of those that were pending are decided now, where that is wanted (`is_told`); `say_of_records` says so of what two
+//!   records hold.
 #![tactic(auto)]
 
 mod pause;

@@ -1,6 +1,6 @@
 //! A search that is saved in a file, and goes on from there.
 
-ghost use Rattle.std.specs.Prelude.{IfOk, IfSome};
+ghost use Rattle.std.specs.Prelude.{◌≡◌, IfOk, IfSome, OnOk};
 ghost use Rattle.oct_window.specs.Places.{IsKept};
 
 use crate::pause::Pause;
@@ -98,6 +98,7 @@ fn search_from<K: Keeper<Global>>(
     keeper: &mut K,
 ) -> Result<Vec<u8>, Fault>
     requires { IfSome place IsKept }
+    ensures { OnOk result (K.has_refused keeper.new ≡ K.has_refused keeper.old) }
 {
     let WindowSearch { code, count, form } = sought;
     match place {
@@ -185,7 +186,9 @@ impl<R: Files<File = File> + AllocGlobal + Clock, P: Progress> Saver<'_, R, P> {
     }
 
     // Saves a place, unless another file was put there meanwhile.
-    fn save(&mut self, place: &Place<Global>) -> Result<(), Failure> {
+    fn save(&mut self, place: &Place<Global>) -> Result<(), Failure>
+        ensures { self.new.failure ≡ self.old.failure }
+    {
         let text = write_place(self.rt.alloc(), place)?;
         let there = self.file.seen(self.rt)?;
         if there.is_some() && there != self.seen {
@@ -211,16 +214,17 @@ impl<R: Files<File = File> + AllocGlobal + Clock, P: Progress> Saver<'_, R, P> {
     }
 }
 
-impl<R: Files<File = File> + AllocGlobal + Clock, P: Progress> Progress for Saver<'_, R, P> {
+impl<R: Files<File = File> + AllocGlobal + Clock, P: Progress> Keeper<Global> for Saver<'_, R, P> {
+    ghost use Rattle.std.specs.Prelude.{true};
+    ghost use Rattle.std.specs.Option.{is_some};
+
+    ghost may_refuse = { true };
+
+    ghost has_refused = { λ s. is_some s.failure };
+
     fn tell(&mut self, code: Code, known: u64, wanted: u64) {
         self.progress.tell(code, known, wanted);
     }
-}
-
-impl<R: Files<File = File> + AllocGlobal + Clock, P: Progress> Keeper<Global> for Saver<'_, R, P> {
-    ghost use Rattle.std.specs.Prelude.{true};
-
-    ghost may_refuse = { true };
 
     fn keep(&mut self, place: &Place<Global>, is_last: bool) -> Result<(), Unkept> {
         if !is_last && !self.pause.is_due(self.rt) {

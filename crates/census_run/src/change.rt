@@ -7,13 +7,13 @@ use crate::task::Task;
 use crate::undone::{Undone, without_done};
 use census_core::{Fault, Reply, Request, new_forks, perform_kept};
 use census_diagnosis::{Given, of_games, of_request};
-use census_failure::{Advice, Failure, INPUT_NAME};
+use census_failure::{Advice, Failure, INPUT_NAME, quoted, shown_bytes};
 use census_files::{StateFile, is_standard, read_delta, read_file, read_standard, read_state};
 use census_progress::{Changed, ProgressLine, TurnSaver, say_what_became};
 use census_words::words::{self, Word};
 use clap::ArgMatches;
 use oct_record::Record;
-use std::alloc::Global;
+use std::alloc::{AllocError, Global};
 use std::io::{Read, Write};
 use std::rt::Files;
 use written::write_out;
@@ -68,7 +68,10 @@ where
     let done = done?;
     print_unless(change.is_quiet, done.unprinted(), output)?;
     if !change.is_quiet && is_judged(&change.request) {
-        done.tell(rt.alloc(), change.state, progress.advice());
+        let refuted = done.tell(rt.alloc(), change.state, progress.advice());
+        if refuted > 0 {
+            say_check(rt.alloc(), change, progress.advice());
+        }
     }
     Ok(())
 }
@@ -88,17 +91,37 @@ impl Performed {
         self.reply.text.get(self.printed..).unwrap_or(b"")
     }
 
-    // Says what became of what is new in the state.
-    fn tell<E: Write>(&self, alloc: Global, state: &str, advice: &mut Advice<'_, E>) {
-        if let Some(later) = &self.reply.state {
-            let changed = Changed {
-                state,
-                before: &self.before,
-                later,
-            };
-            say_what_became(alloc, changed, advice);
+    // Says what became of what is new in the state, and gives how much of it is refuted.
+    fn tell<E: Write>(&self, alloc: Global, state: &str, advice: &mut Advice<'_, E>) -> usize {
+        match &self.reply.state {
+            Some(later) => {
+                let changed = Changed {
+                    state,
+                    before: &self.before,
+                    later,
+                };
+                say_what_became(alloc, changed, advice)
+            }
+            None => 0,
         }
     }
+}
+
+// Says of a b-file that was claimed, and of which something is refuted, what lists each wrong value.
+fn say_check<E: Write>(alloc: Global, change: &Change<'_>, advice: &mut Advice<'_, E>) {
+    if let (Request::Claim { code }, Some(path)) = (&change.request, change.read) {
+        if !is_standard(path) {
+            if let Ok(text) = check_text(alloc, code, path) {
+                advice.say(&text);
+            }
+        }
+    }
+}
+
+fn check_text(alloc: Global, code: &[u8], path: &str) -> Result<String, AllocError> {
+    let code = shown_bytes(alloc, code)?;
+    let path = quoted(alloc, path)?;
+    format!(in alloc; "census check {code} {path} lists each wrong value")
 }
 
 // Whether it is said what became of what the command says or takes in.

@@ -45,12 +45,14 @@ pub(crate) mod page;
 pub(crate) mod period;
 pub(crate) mod plot;
 pub(crate) mod read;
+pub(crate) mod recheck;
 pub(crate) mod renumber;
 pub(crate) mod report;
 pub(crate) mod search;
 pub(crate) mod serve;
 pub(crate) mod show;
 pub(crate) mod site;
+pub(crate) mod status;
 pub(crate) mod survey;
 pub(crate) mod sync;
 pub(crate) mod union;
@@ -60,23 +62,29 @@ pub(crate) mod winning_move;
 
 /// All commands, in the order in which the help has them. Each part has a function, so that whoever goes over all of them need
 /// not be checked with each of their texts.
-pub(crate) fn parts() -> [Part; 6] {
+pub(crate) fn parts() -> [Part; 8] {
     [
+        of_files(),
         without_state(),
         states(),
         many_games(),
         what_is_known(),
+        published(),
         by_files(),
         by_sessions(),
     ]
 }
 
+const OF_FILES: &[Row] = &[fold::ROW, read::ROW, log::ROW, diff::ROW, left::ROW];
+
+fn of_files() -> Part {
+    Part {
+        title: "Without a state, of files",
+        rows: OF_FILES,
+    }
+}
+
 const ALONE: &[Row] = &[
-    fold::ROW,
-    read::ROW,
-    log::ROW,
-    diff::ROW,
-    left::ROW,
     search::ROW,
     check::ROW,
     explain::ROW,
@@ -100,6 +108,7 @@ const OWN: &[Row] = &[
     period::ROW,
     note::ROW,
     unnote::ROW,
+    status::ROW,
 ];
 
 fn states() -> Part {
@@ -125,17 +134,22 @@ const KNOWN: &[Row] = &[
     find::ROW,
     value::ROW,
     winning_move::ROW,
-    bfile::ROW,
-    plot::ROW,
-    json::ROW,
-    report::ROW,
-    site::ROW,
+    recheck::ROW,
 ];
 
 fn what_is_known() -> Part {
     Part {
         title: "What is known",
         rows: KNOWN,
+    }
+}
+
+const PUBLISHED: &[Row] = &[bfile::ROW, plot::ROW, json::ROW, report::ROW, site::ROW];
+
+fn published() -> Part {
+    Part {
+        title: "What is known, to publish",
+        rows: PUBLISHED,
     }
 }
 

@@ -1,9 +1,9 @@
 //! Where a state meets its peers, as words say it.
 
 use crate::found::word;
-use crate::numbers::{mode, seconds};
+use crate::numbers::{FROM_1, mode, option_of, seconds};
 use census_failure::Failure;
-use census_net::{Endpoint, Patience, Place};
+use census_net::{Allowance, Endpoint, Patience, Place};
 use census_words::words;
 use clap::ArgMatches;
 use std::alloc::Global;
@@ -15,7 +15,10 @@ pub(crate) enum Meeting<'a> {
     /// At an address, or at a socket.
     At(Endpoint<'a>),
     /// Over standard input and output.
-    Streams { state: &'a str },
+    Streams {
+        state: &'a str,
+        allowance: Allowance,
+    },
 }
 
 impl<'a> Meeting<'a> {
@@ -23,7 +26,7 @@ impl<'a> Meeting<'a> {
     pub(crate) fn state(self) -> &'a str {
         match self {
             Meeting::At(endpoint) => endpoint.state,
-            Meeting::Streams { state } => state,
+            Meeting::Streams { state, .. } => state,
         }
     }
 }
@@ -34,8 +37,10 @@ pub(crate) fn meeting_of<'a>(
     found: &ArgMatches<'a>,
 ) -> Result<Meeting<'a>, Failure> {
     if found.get_flag(words::STDIO.name) {
-        let state = word(found, words::STATE)?;
-        return Ok(Meeting::Streams { state });
+        return Ok(Meeting::Streams {
+            state: word(found, words::STATE)?,
+            allowance: allowance(alloc, found)?,
+        });
     }
     Ok(Meeting::At(endpoint(alloc, found, None)?))
 }
@@ -53,6 +58,15 @@ pub(crate) fn endpoint<'a>(
             silence: seconds(alloc, found, words::PATIENCE)?,
             session,
         },
+        allowance: allowance(alloc, found)?,
+    })
+}
+
+// How much one peer may bring, as the words say. The options of a hub have the names of those of one session.
+fn allowance(alloc: Global, found: &ArgMatches<'_>) -> Result<Allowance, Failure> {
+    Ok(Allowance {
+        most: u64::from(option_of(alloc, found, words::MOST, FROM_1)?),
+        authors: option_of(alloc, found, words::AUTHORS, FROM_1)?,
     })
 }
 

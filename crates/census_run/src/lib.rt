@@ -25,6 +25,7 @@ mod drawing;
 mod endpoint;
 mod found;
 mod lists;
+mod noting;
 mod numbers;
 mod printing;
 mod program;

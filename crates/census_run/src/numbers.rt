@@ -6,6 +6,8 @@ use census_failure::{Failure, shown};
 use census_words::words::{self, Choice, Word};
 use clap::ArgMatches;
 use oct_code::LIMIT;
+use oct_join::Clock;
+use oct_ops::Dot;
 use std::alloc::{AllocError, Global};
 use std::time::Duration;
 
@@ -168,6 +170,38 @@ pub(crate) fn value_count(
         Some(count) if count >= range.least => Ok(count),
         _ => Err(misfit(alloc, words::VALUES.name, text, range)),
     }
+}
+
+/// The clock of the dots of an option: for each author the greatest number that is named.
+pub(crate) fn clock_of(
+    alloc: Global,
+    found: &ArgMatches<'_>,
+    choice: Choice,
+) -> Result<Clock<Global>, Failure> {
+    let mut clock = Clock::new(alloc);
+    if let Some(words) = found.get_strs(choice.name) {
+        for word in words {
+            let Some(dot) = dot_in(word) else {
+                return Err(Failure::from(Fault::Number).found(no_dot_text(alloc, choice, word)));
+            };
+            clock.raise(dot.author(), dot.number())?;
+        }
+    }
+    Ok(clock)
+}
+
+// The dot of a text: an author, a point, and a number.
+fn dot_in(text: &str) -> Option<Dot> {
+    let (author, count) = text.split_once('.')?;
+    let author = number(author, u64::from(u32::MAX))?;
+    let count = number(count, u64::from(u32::MAX))?;
+    Dot::new(u32::try_from(author).ok()?, u32::try_from(count).ok()?).ok()
+}
+
+fn no_dot_text(alloc: Global, choice: Choice, text: &str) -> Result<String, AllocError> {
+    let name = choice.name;
+    let text = shown(alloc, text)?;
+    format!(in alloc; "--{name} must be an author, a point and a number, as 2.5, and is {text}")
 }
 
 /// The heaps that stand under a name.

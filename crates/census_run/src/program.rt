@@ -1,8 +1,8 @@
 //! The program over any three streams.
 
 use crate::commands::{
-    check, completion, diff, digest, explain, fold, hub, init, left, log, manual, parts, read,
-    search, serve, site, sync, union,
+    check, completion, diff, digest, explain, fold, games, hub, init, left, log, manual, parts,
+    read, recheck, search, serve, site, status, sync, union,
 };
 use crate::system::System;
 use crate::task::{Task, read_task};
@@ -201,17 +201,22 @@ where
         Task::Fold => fold::run(rt.alloc(), input, output, errors)?,
         Task::Read { files } => read::run(rt, files, output)?,
         Task::Log { files, wanted } => log::run(rt, files, wanted, output)?,
-        Task::Diff { one, other } => return diff::run(rt, one, other, input, output),
+        Task::Diff(asked) => return diff::run(rt, asked, input, output),
         Task::Left(asked) => left::run(rt, asked, input, output)?,
+        Task::Status { state, is_full } => status::run(rt, state, *is_full, output)?,
         Task::Search(asked) => {
             let mut progress = ProgressLine::new(rt, errors, audience);
             search::run(rt, asked, output, &mut progress)?;
         }
+        Task::Recheck(asked) => return recheck::run(rt, asked, output),
         Task::List { count, code } => {
             let mut progress = ProgressLine::new(rt, errors, audience);
             search::list(rt, *code, *count, output, &mut progress)?;
         }
-        Task::Check { code, file } => return check::run(rt, code, file, input, output),
+        Task::Check { code, file } => {
+            let mut advice = Advice::new(errors, audience);
+            return check::run(rt, code, file, input, output, &mut advice);
+        }
         Task::Manual => manual::run(rt.alloc(), output)?,
         Task::Completion { shell } => completion::run(rt.alloc(), *shell, output)?,
         Task::Explain { words } => explain::run(rt.alloc(), words, output)?,
@@ -221,12 +226,18 @@ where
             change::run(rt, change, input, output, &mut progress)?;
         }
         Task::Ask(ask) => ask::run(rt, ask, output, &mut Advice::new(errors, audience))?,
+        Task::Games(asked) => games::run(rt, asked, output)?,
         Task::Union { out, deltas } => {
             let mut advice = Advice::new(errors, audience);
             union::run(rt, *out, deltas, input, output, &mut advice)?;
         }
-        Task::Site { state, folder } => {
-            site::run(rt, state, folder, &mut Advice::new(errors, audience))?;
+        Task::Site {
+            state,
+            folder,
+            page,
+        } => {
+            let mut advice = Advice::new(errors, audience);
+            site::run(rt, state, folder, *page, &mut advice)?;
         }
         Task::Digest { files, form } => digest::run(rt, files, *form, output)?,
         Task::Serve { meeting, is_quiet } => {

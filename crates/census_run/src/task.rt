@@ -2,7 +2,10 @@
 
 use crate::ask::Ask;
 use crate::change::Change;
+use crate::commands::diff::Compared;
+use crate::commands::games::Asked;
 use crate::commands::left::Left;
+use crate::commands::recheck::Recheck;
 use crate::commands::search::Search;
 use crate::commands::{self, parts};
 use crate::endpoint::Meeting;
@@ -31,17 +34,21 @@ pub(crate) enum Task<'a> {
     /// What was said in files: the operations that are wanted.
     Log {
         files: Vec<&'a str>,
-        wanted: Wanted,
+        wanted: Wanted<Global>,
     },
     /// What one file has and another has not.
-    Diff {
-        one: &'a str,
-        other: &'a str,
-    },
+    Diff(Compared<'a>),
     /// The games of a list that lack values in files.
     Left(Left<'a>),
+    /// What a state file holds, in a few lines.
+    Status {
+        state: &'a str,
+        is_full: bool,
+    },
     /// The period of each game.
     Search(Search<'a>),
+    /// The long periods that notes of a state say, searched again.
+    Recheck(Recheck<'a>),
     /// The first values of a game, as a b-file.
     List {
         count: u64,
@@ -71,15 +78,18 @@ pub(crate) enum Task<'a> {
     Change(Change<'a>),
     /// A command that reads a state file.
     Ask(Ask<'a>),
+    /// What is listed of games of a state file.
+    Games(Asked<'a>),
     /// The union of delta files as one.
     Union {
         out: Out<'a>,
         deltas: Vec<&'a str>,
     },
-    /// The site of a state file, in a folder.
+    /// The site of a state file, in a folder, with the page that another folder has, where one is named.
     Site {
         state: &'a str,
         folder: &'a str,
+        page: Option<&'a str>,
     },
     /// The digest of each file.
     Digest {
@@ -144,9 +154,11 @@ where
         "fold" => Ok(Task::Fold),
         "read" => commands::read::task(alloc, found),
         "log" => commands::log::task(alloc, found),
-        "diff" => commands::diff::task(alloc, found),
+        "diff" => commands::diff::task(rt, found, input),
         "left" => commands::left::task(alloc, found),
+        "status" => commands::status::task(found),
         "search" => commands::search::task(rt, found, input),
+        "recheck" => commands::recheck::task(alloc, found),
         "check" => commands::check::task(found),
         "explain" => commands::explain::task(alloc, found),
         "completion" => commands::completion::task(alloc, found),

@@ -13,7 +13,7 @@ pub fn command<'a>(
 ) -> Result<Command<'a>, AllocError> {
     let mut command = Command::new(alloc, "census")
         .bin_name("census")?
-        .version("2.2.0")
+        .version("2.3.0")
         .override_help(screen)
         .no_binary_name(true)
         .subcommand_required(true)
@@ -48,7 +48,7 @@ fn argument_of<'a>(alloc: Global, word: Word) -> Result<Arg<'a>, AllocError> {
     let argument = Arg::new(alloc, word.name).help(word.meaning);
     match word.times {
         Times::One => Ok(argument.required(true)),
-        Times::OneOr(options) => argument_or(alloc, argument, options),
+        Times::OneOr(options, shown) => argument_or(alloc, argument.value_name(shown), options),
         Times::OneOrNone => Ok(argument),
         Times::OneOrMore => Ok(
             argument

@@ -1,7 +1,7 @@
 //! How shells complete the words of a command line, made from the table of the commands.
 
 use crate::table::{Part, Row};
-use crate::words::{Choice, Takes};
+use crate::words::{self, Choice, Takes};
 use std::alloc::AllocError;
 
 /// A shell that completes words.
@@ -24,24 +24,42 @@ impl Shell {
     }
 }
 
-/// Appends the completions of these commands for a shell.
+/// Appends the completions of these commands for a shell. The names of faults, with blanks between, complete the words of a
+/// command that takes faults.
 pub fn append_completions(
     text: &mut String,
     shell: Shell,
     parts: &[Part],
+    faults: &str,
 ) -> Result<(), AllocError> {
     match shell {
-        Shell::Bash => append_bash(text, parts),
-        Shell::Zsh => append_zsh(text, parts),
-        Shell::Fish => append_fish(text, parts),
+        Shell::Bash => append_bash(text, parts, faults),
+        Shell::Zsh => append_zsh(text, parts, faults),
+        Shell::Fish => append_fish(text, parts, faults),
     }
+}
+
+// The names of the shells.
+const SHELLS: &str = "bash zsh fish";
+
+// The words that a command takes, where these are known: names of faults or of shells.
+fn known_words<'a>(row: &Row, faults: &'a str) -> Option<&'a str> {
+    for word in row.words {
+        if word.name == words::FAULT.name {
+            return Some(faults);
+        }
+        if word.name == words::SHELL.name {
+            return Some(SHELLS);
+        }
+    }
+    None
 }
 
 // What stands before the commands, for bash.
 const BASH_FRONT: &str =
     r#"# Completions of census for bash, as `census completion bash` prints them.
 _census() {
-  local command= options= word
+  local command= options= known= word
   for word in "${COMP_WORDS[@]:1:COMP_CWORD-1}"; do
     case $word in
     -*) ;;
@@ -56,6 +74,8 @@ const BASH_BACK: &str = r#"  esac
   word=${COMP_WORDS[COMP_CWORD]}
   if [[ -z $command || $word == -* ]]; then
     COMPREPLY=($(compgen -W "$options" -- "$word"))
+  elif [[ -n $known ]]; then
+    COMPREPLY=($(compgen -W "$known" -- "$word"))
   fi
 }
 complete -o default -F _census census
@@ -64,7 +84,7 @@ complete -o default -F _census census
 // The options that stand with every command, and without one.
 const EVERYWHERE: &str = "--explain --help";
 
-fn append_bash(text: &mut String, parts: &[Part]) -> Result<(), AllocError> {
+fn append_bash(text: &mut String, parts: &[Part], faults: &str) -> Result<(), AllocError> {
     text.push_str(BASH_FRONT)?;
     text.push_str("  '') options='")?;
     for part in parts {
@@ -76,14 +96,14 @@ fn append_bash(text: &mut String, parts: &[Part]) -> Result<(), AllocError> {
     append_all(text, &[EVERYWHERE, " --version' ;;\n"])?;
     for part in parts {
         for row in part.rows {
-            append_bash_row(text, row)?;
+            append_bash_row(text, row, faults)?;
         }
     }
     text.push_str(BASH_BACK)
 }
 
-// The options of a command, for bash.
-fn append_bash_row(text: &mut String, row: &Row) -> Result<(), AllocError> {
+// The options of a command and the words that it is known to take, for bash.
+fn append_bash_row(text: &mut String, row: &Row, faults: &str) -> Result<(), AllocError> {
     append_all(text, &["  ", row.name, ") options='"])?;
     for word in row.words {
         for option in word.times.instead() {
@@ -93,7 +113,12 @@ fn append_bash_row(text: &mut String, row: &Row) -> Result<(), AllocError> {
     for option in row.options {
         append_all(text, &["--", option.name, " "])?;
     }
-    append_all(text, &[EVERYWHERE, "' ;;\n"])
+    text.push_str(EVERYWHERE)?;
+    if let Some(known) = known_words(row, faults) {
+        text.push_str("' known='")?;
+        text.push_str(known)?;
+    }
+    text.push_str("' ;;\n")
 }
 
 // What stands before the commands, for zsh.
@@ -101,6 +126,7 @@ const ZSH_FRONT: &str = r#"#compdef census
 # Completions of census for zsh, as `census completion zsh` prints them.
 _census() {
   local -a commands options
+  local behind='*:file:_files'
   commands=(
 "#;
 
@@ -115,16 +141,17 @@ const ZSH_MIDDLE: &str = r#"  )
 
 // And behind them.
 const ZSH_BACK: &str = r#"  esac
-  _arguments $options '--explain[Says more on standard error]' '--help[Prints help]' '*:file:_files'
+  _arguments $options '--explain[Says more on standard error]' '--help[Prints help]' $behind
 }
 if [[ ${funcstack[1]} = _census ]]; then
   _census "$@"
 else
+  (( $+functions[compdef] )) || { autoload -Uz compinit && compinit -i }
   compdef _census census
 fi
 "#;
 
-fn append_zsh(text: &mut String, parts: &[Part]) -> Result<(), AllocError> {
+fn append_zsh(text: &mut String, parts: &[Part], faults: &str) -> Result<(), AllocError> {
     text.push_str(ZSH_FRONT)?;
     for part in parts {
         for row in part.rows {
@@ -136,14 +163,14 @@ fn append_zsh(text: &mut String, parts: &[Part]) -> Result<(), AllocError> {
     text.push_str(ZSH_MIDDLE)?;
     for part in parts {
         for row in part.rows {
-            append_zsh_row(text, row)?;
+            append_zsh_row(text, row, faults)?;
         }
     }
     text.push_str(ZSH_BACK)
 }
 
-// The options of a command, for zsh.
-fn append_zsh_row(text: &mut String, row: &Row) -> Result<(), AllocError> {
+// The options of a command and the words that it is known to take, for zsh.
+fn append_zsh_row(text: &mut String, row: &Row, faults: &str) -> Result<(), AllocError> {
     append_all(text, &["  ", row.name, ") options=("])?;
     for word in row.words {
         for option in word.times.instead() {
@@ -153,7 +180,13 @@ fn append_zsh_row(text: &mut String, row: &Row) -> Result<(), AllocError> {
     for option in row.options {
         append_zsh_option(text, *option)?;
     }
-    text.push_str(") ;;\n")
+    text.push_str(")")?;
+    if let Some(known) = known_words(row, faults) {
+        text.push_str(" behind='*:word:(")?;
+        text.push_str(known)?;
+        text.push_str(")'")?;
+    }
+    text.push_str(" ;;\n")
 }
 
 // An option, for zsh.
@@ -179,18 +212,18 @@ complete -c census -l explain -d 'Says more on standard error'
 complete -c census -l help -d 'Prints help'
 "#;
 
-fn append_fish(text: &mut String, parts: &[Part]) -> Result<(), AllocError> {
+fn append_fish(text: &mut String, parts: &[Part], faults: &str) -> Result<(), AllocError> {
     text.push_str(FISH_FRONT)?;
     for part in parts {
         for row in part.rows {
-            append_fish_row(text, row)?;
+            append_fish_row(text, row, faults)?;
         }
     }
     Ok(())
 }
 
-// A command and its options, for fish.
-fn append_fish_row(text: &mut String, row: &Row) -> Result<(), AllocError> {
+// A command, its options and the words that it is known to take, for fish.
+fn append_fish_row(text: &mut String, row: &Row, faults: &str) -> Result<(), AllocError> {
     let front = "complete -c census -f -n __fish_use_subcommand -a ";
     append_all(text, &[front, row.name, " -d '"])?;
     append_quoted(text, row.line, "\\'")?;
@@ -202,6 +235,12 @@ fn append_fish_row(text: &mut String, row: &Row) -> Result<(), AllocError> {
     }
     for option in row.options {
         append_fish_option(text, row.name, *option)?;
+    }
+    if let Some(known) = known_words(row, faults) {
+        let front = "complete -c census -f -n '__fish_seen_subcommand_from ";
+        append_all(text, &[front, row.name, "' -a '"])?;
+        text.push_str(known)?;
+        text.push_str("'\n")?;
     }
     Ok(())
 }

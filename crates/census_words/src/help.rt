@@ -84,7 +84,7 @@ pub fn words_text(alloc: Global, words: &[Word]) -> Result<String, AllocError> {
     let mut text = String::new(alloc);
     for word in words {
         let (front, back) = match word.times {
-            Times::One | Times::OneOr(_) => (" ", ""),
+            Times::One | Times::OneOr(..) => (" ", ""),
             Times::OneOrNone => (" [", "]"),
             Times::OneOrMore | Times::OneOrMoreUnless(_) | Times::Any => (" ", ".."),
         };

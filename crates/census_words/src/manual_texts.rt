@@ -91,8 +91,9 @@ stands before or after the command, and where the variable
 of the environment is 1, warnings and explanations stand there beside the lines that always do. After
 .BR compute ", " import ", " claim ", " period ", " merge ", " sync " and " survey
 a line says there what became of the blocks and claims that are new: proved, pending, or refuted at
-which heap; of several, how many there are of each. On a terminal it is left out where that might take
-over a second, and with
+which heap; of several, how many there are of each. Another says which of those that were pending
+before are decided now, one's own apart. On a terminal both are left out where that might take over a
+second, and with
 .B \-\-quiet
 everywhere.
 .SH SECURITY
@@ -140,7 +141,9 @@ with one of these names and, where there is one, its cause; behind
 .B Union
 stands the place of the file before it, and behind
 .B Bfile
-the line after it. Each has its exit status, what it means, and what to do.
+the line after it; behind
+.B Authors
+stands how many there would be, and how many there may be. Each has its exit status, what it means, and what to do.
 "#;
 
 /// What stands at the end.

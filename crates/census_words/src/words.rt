@@ -16,8 +16,8 @@ pub struct Word {
 pub enum Times {
     /// Once.
     One,
-    /// Once, or one of these options in its place.
-    OneOr(&'static [Choice]),
+    /// Once, or one of these options in its place; the usage of the command shows the word and them so.
+    OneOr(&'static [Choice], &'static str),
     /// Once or not at all.
     OneOrNone,
     /// Once or more.
@@ -32,7 +32,7 @@ impl Times {
     /// The options that may stand in place of the word, and are not among those of its command.
     pub(crate) fn instead(self) -> &'static [Choice] {
         match self {
-            Times::OneOr(options) => options,
+            Times::OneOr(options, _) => options,
             _ => &[],
         }
     }
@@ -73,7 +73,7 @@ pub const STATE: Word = Word {
 pub const ID: Word = Word {
     name: "ID",
     meaning: "The author of what is issued there, 1 to 4294967295; each person needs a different one",
-    times: Times::OneOr(&[DRAW, FOR]),
+    times: Times::OneOr(&[DRAW, FOR], "ID|--draw|--for TEXT"),
 };
 
 /// In place of the author: the number is drawn.
@@ -176,6 +176,14 @@ pub const DIR: Word = Word {
     times: Times::One,
 };
 
+/// The page that is put beside a site.
+pub const WEB: Choice = Choice {
+    name: "web",
+    takes: Takes::One("FOLDER"),
+    meaning: "Puts the page that computes in the browser, which this folder has, beside the tables",
+    default: None,
+};
+
 /// How many values of a game a report shows.
 pub const SHOWN: Choice = Choice {
     name: "values",
@@ -188,14 +196,14 @@ pub const SHOWN: Choice = Choice {
 pub const ADDR: Word = Word {
     name: "ADDR",
     meaning: "An address such as 127.0.0.1:4000",
-    times: Times::OneOr(&[UNIX]),
+    times: Times::OneOr(&[UNIX], "ADDR|--unix PATH"),
 };
 
 /// The address at which one other replica is met.
 pub const PEER: Word = Word {
     name: "ADDR",
     meaning: "An address such as 127.0.0.1:4000",
-    times: Times::OneOr(&[STDIO, UNIX]),
+    times: Times::OneOr(&[STDIO, UNIX], "ADDR|--stdio|--unix PATH"),
 };
 
 /// In place of the address: the session goes over the standard streams.
@@ -247,6 +255,13 @@ pub const CODES: Word = Word {
 pub const GAMES: Word = Word {
     name: "CODE",
     meaning: "Octal codes such as 0.77; all games where there is none, and no --codes",
+    times: Times::Any,
+};
+
+/// The codes of games whose notes are rechecked; there may be none.
+pub const NOTED: Word = Word {
+    name: "CODE",
+    meaning: "Octal codes such as 0.16; the games of all such notes where there is none",
     times: Times::Any,
 };
 
@@ -400,11 +415,83 @@ pub const SKIP_DONE: Choice = Choice {
     default: None,
 };
 
+/// The games in which alone two files are compared.
+pub const IN_GAMES: Choice = Choice {
+    name: "only",
+    takes: Takes::Many("CODE"),
+    meaning: "Compares the blocks and claims of this game alone; may stand several times",
+    default: None,
+};
+
 /// Whether refutations are listed.
 pub const REFUTED: Choice = Choice {
     name: "refuted",
     takes: Takes::Nothing,
     meaning: "Lists the refuted blocks and claims",
+    default: None,
+};
+
+/// The length of the period of the games that alone are told of.
+pub const OF_PERIOD: Choice = Choice {
+    name: "period",
+    takes: Takes::One("P"),
+    meaning: "Leaves out the games whose least proved period is not P, 1 to 4294967295",
+    default: None,
+};
+
+/// Whether the games alone are told of of which no period is proved.
+pub const NO_PERIOD: Choice = Choice {
+    name: "no-period",
+    takes: Takes::Nothing,
+    meaning: "Leaves out the games of which a period is proved",
+    default: None,
+};
+
+/// Whether the games alone are told of whose period nobody claimed.
+pub const UNCLAIMED: Choice = Choice {
+    name: "unclaimed",
+    takes: Takes::Nothing,
+    meaning: "Leaves out the games whose least proved period is claimed, and those that have none",
+    default: None,
+};
+
+/// How many heaps are not known of the games that alone are told of.
+pub const KNOWN_BELOW: Choice = Choice {
+    name: "known-below",
+    takes: Takes::One("N"),
+    meaning: "Leaves out the games of which N heaps or more are known, 1 to 4294967295",
+    default: None,
+};
+
+/// Whether games are told of as comma-separated values.
+pub const AS_CSV: Choice = Choice {
+    name: "csv",
+    takes: Takes::Nothing,
+    meaning: "Prints comma-separated values for a spreadsheet, behind a line of the columns",
+    default: None,
+};
+
+/// Whether games are told of as a table of LaTeX.
+pub const AS_LATEX: Choice = Choice {
+    name: "latex",
+    takes: Takes::Nothing,
+    meaning: "Prints codes, known heaps, periods and starts as a table of LaTeX",
+    default: None,
+};
+
+/// The dots up to which operations are known.
+pub const SINCE: Choice = Choice {
+    name: "since",
+    takes: Takes::Many("DOT"),
+    meaning: "Leaves out what its author said up to DOT, as 2.5; may stand several times",
+    default: None,
+};
+
+/// Whether the nim-values are computed too.
+pub const FULL: Choice = Choice {
+    name: "full",
+    takes: Takes::Nothing,
+    meaning: "Says also how many blocks and claims are proved, refuted and pending, which takes nim-values",
     default: None,
 };
 
@@ -429,6 +516,14 @@ pub const SAVE: Choice = Choice {
     name: "save",
     takes: Takes::One("FILE"),
     meaning: "With --window and one CODE: saves how far the search is in FILE, and goes on from there",
+    default: None,
+};
+
+/// The state in which long periods are noted.
+pub const NOTING: Choice = Choice {
+    name: "note",
+    takes: Takes::One("STATE"),
+    meaning: "Notes in STATE each period that no period claim can have: it or its start is above 65536",
     default: None,
 };
 
@@ -486,6 +581,30 @@ pub const MOST: Choice = Choice {
     takes: Takes::One("BYTES"),
     meaning: "How many bytes one session may send to the hub, 1 to 4294967295",
     default: Some("67108864"),
+};
+
+/// How many bytes the other side of one session may send.
+pub const MOST_OF_ONE: Choice = Choice {
+    name: "most",
+    takes: Takes::One("BYTES"),
+    meaning: "How many bytes the other side may send, 1 to 4294967295",
+    default: Some("134217728"),
+};
+
+/// How many authors a hub's table may have.
+pub const AUTHORS: Choice = Choice {
+    name: "authors",
+    takes: Takes::One("N"),
+    meaning: "How many authors the table may have for a session to bring a new one, 1 to 4294967295",
+    default: Some("1000"),
+};
+
+/// How many authors the table of one session may have.
+pub const AUTHORS_OF_ONE: Choice = Choice {
+    name: "authors",
+    takes: Takes::One("N"),
+    meaning: "How many authors the table may have for the session to bring a new one, 1 to 4294967295",
+    default: Some("60000"),
 };
 
 /// Whether a file is written over, whatever it is.

@@ -4,7 +4,7 @@ use crate::commands::parts;
 use crate::found::word;
 use crate::task::Task;
 use census_core::Fault;
-use census_failure::{Failure, shown};
+use census_failure::{Failure, fault_names, shown};
 use census_words::{Row, Shell, append_completions, words};
 use clap::ArgMatches;
 use std::alloc::{AllocError, Global};
@@ -44,6 +44,7 @@ fn shell_text(alloc: Global, name: &str) -> Result<String, AllocError> {
 /// Prints the completions for a shell.
 pub(crate) fn run<O: Write>(alloc: Global, shell: Shell, output: &mut O) -> Result<(), Failure> {
     let mut text = String::new(alloc);
-    append_completions(&mut text, shell, &parts())?;
+    let faults = fault_names(alloc)?;
+    append_completions(&mut text, shell, &parts(), &faults)?;
     Ok(write_out(output, text.as_bytes())?)
 }

@@ -3,9 +3,10 @@
 use super::check::read_input;
 use super::read::is_refused;
 use crate::found::word;
+use crate::lists::{is_listed, listed};
 use crate::task::Task;
-use census_core::{Fault, diff};
-use census_diagnosis::{Given, of_either};
+use census_core::{Fault, diff, diff_of_games};
+use census_diagnosis::{Given, of_either, of_games};
 use census_failure::Failure;
 use census_files::is_standard;
 use census_words::{Row, words};
@@ -19,38 +20,75 @@ use written::write_out;
 pub(crate) const ROW: Row = Row {
     name: "diff",
     words: &[words::ONE, words::OTHER],
-    options: &[],
+    options: &[words::IN_GAMES, words::LIST, words::PART],
     line: "What one file has, a state or a delta, and another has not",
     about: "Lists the operations that one of two files has, each a state or a delta, and the other has not",
     after: "\
 A line for each such operation is that of census log behind a sign: - of what FILE has alone, and + of
 what OTHER has alone. Blocks and periods come first, by games, and then notes and what is taken back.
-A number with both signs was used twice. Nothing is printed where both have the same operations,
-whoever their authors are. Nothing is computed, and no file is changed.
+A number of which each has something that the other has not was used twice: its lines come once more at
+the end, behind `used twice`. Nothing is printed where both have the same operations, whoever their
+authors are. Nothing is computed, and no file is changed.
+
+With --only or --codes the lines are those of the blocks and periods of the games that are named alone,
+in the order in which they are named, and with --part I/N those of every N-th of these games. The exit
+status is then that of these games.
 
 Exit status: 0 both have the same operations, 1 they have not, or refused: Load (a state), Merge (a
-file is neither); 2 command line, 3 file, 4 memory
+file is neither), Code; 2 command line, 3 file, 4 memory
 
 Examples:
   census diff anna.state ben.state
-  census diff anna.state - < ben.delta",
+  census diff anna.state - < ben.delta
+  census diff anna.state ben.state --only 0.77",
 };
 
-/// What its words ask for.
-pub(crate) fn task<'a>(alloc: Global, found: &ArgMatches<'a>) -> Result<Task<'a>, Failure> {
-    let (one, other) = (word(found, words::ONE)?, word(found, words::OTHER)?);
-    if is_standard(one) && is_standard(other) {
-        let text = String::from_str(alloc, "only one of the two files can be -");
-        return Err(Failure::from(Fault::Words).found(text));
-    }
-    Ok(Task::Diff { one, other })
+/// What is asked: how two files differ, in some games alone where these are named.
+#[derive(Drop)]
+pub(crate) struct Compared<'a> {
+    one: &'a str,
+    other: &'a str,
+    games: Option<Vec<Vec<u8>>>,
 }
 
-/// Prints what one file has and the other has not. The status is 0 where both have the same operations, and else 1.
+/// What its words ask for.
+pub(crate) fn task<'a, R, I>(
+    rt: &R,
+    found: &ArgMatches<'a>,
+    input: &mut I,
+) -> Result<Task<'a>, Failure>
+where
+    R: Files + AllocGlobal,
+    I: Read,
+{
+    let (one, other) = (word(found, words::ONE)?, word(found, words::OTHER)?);
+    let list = found.get_str(words::LIST.name).unwrap_or("");
+    if standard_inputs(one, other, list) > 1 {
+        let text = String::from_str(rt.alloc(), "only one of the files can be -");
+        return Err(Failure::from(Fault::Words).found(text));
+    }
+    let codes = listed(rt, found, words::IN_GAMES.name, input)?;
+    let games = if codes.is_empty() && !is_listed(found) {
+        None
+    } else {
+        Some(codes)
+    };
+    Ok(Task::Diff(Compared { one, other, games }))
+}
+
+// How many of the files are standard input.
+fn standard_inputs(one: &str, other: &str, list: &str) -> usize {
+    [one, other, list]
+        .iter()
+        .filter(|path| is_standard(path))
+        .count()
+}
+
+/// Prints what one file has and the other has not. The status is 0 where both have the same operations, of these games where
+/// some are named, and else 1.
 pub(crate) fn run<R, I, O>(
     rt: &R,
-    one: &str,
-    other: &str,
+    asked: &Compared<'_>,
     input: &mut I,
     output: &mut O,
 ) -> Result<u8, Failure>
@@ -60,44 +98,50 @@ where
     O: Write,
 {
     // standard input is read before any file
-    if is_standard(other) {
-        let (other, later) = read_input(rt, other, input)?;
-        let (one, bytes) = read_input(rt, one, input)?;
-        return told(
-            rt.alloc(),
-            Given::new(one, &bytes),
-            Given::new(other, &later),
-            output,
-        );
+    if is_standard(asked.other) {
+        let (other, later) = read_input(rt, asked.other, input)?;
+        let (one, bytes) = read_input(rt, asked.one, input)?;
+        let (one, other) = (Given::new(one, &bytes), Given::new(other, &later));
+        return told(rt.alloc(), one, other, &asked.games, output);
     }
-    let (one, bytes) = read_input(rt, one, input)?;
-    let (other, later) = read_input(rt, other, input)?;
-    told(
-        rt.alloc(),
-        Given::new(one, &bytes),
-        Given::new(other, &later),
-        output,
-    )
+    let (one, bytes) = read_input(rt, asked.one, input)?;
+    let (other, later) = read_input(rt, asked.other, input)?;
+    let (one, other) = (Given::new(one, &bytes), Given::new(other, &later));
+    told(rt.alloc(), one, other, &asked.games, output)
 }
 
-// Prints how the files differ, and gives the status.
+// Prints how the files differ, in these games where some are named, and gives the status.
 fn told<O: Write>(
     alloc: Global,
     one: Given<'_>,
     other: Given<'_>,
+    games: &Option<Vec<Vec<u8>>>,
     output: &mut O,
 ) -> Result<u8, Failure> {
-    match diff(alloc, one.bytes, other.bytes) {
+    let made = match games {
+        Some(codes) => diff_of_games(alloc, one.bytes, other.bytes, codes),
+        None => diff(alloc, one.bytes, other.bytes),
+    };
+    match made {
         Ok(text) => {
             write_out(output, &text)?;
             Ok(u8::from(!text.is_empty()))
         }
-        Err(fault) => Err(of_file(alloc, fault, one, other)),
+        Err(fault) => Err(refused(alloc, fault, one, other, games)),
     }
 }
 
-// The failure of the first of both files that is neither a state nor a delta.
-fn of_file(alloc: Global, fault: Fault, one: Given<'_>, other: Given<'_>) -> Failure {
+// The failure of a word that is no code, or of the first of both files that is neither a state nor a delta.
+fn refused(
+    alloc: Global,
+    fault: Fault,
+    one: Given<'_>,
+    other: Given<'_>,
+    games: &Option<Vec<Vec<u8>>>,
+) -> Failure {
+    if let (Fault::Code(_), Some(codes)) = (&fault, games) {
+        return of_games(alloc, fault, codes, one);
+    }
     if is_refused(one.bytes) {
         return of_either(alloc, fault, one);
     }

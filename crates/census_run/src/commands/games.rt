@@ -1,39 +1,72 @@
-//! `census games`: a line for each game, or for each refutation.
+//! `census games`: a line for each game, or for each refutation, or a table.
 
-use crate::ask::asking;
-use crate::found::form;
+use crate::found::word;
 use crate::lists::{is_listed, listed};
+use crate::numbers::{FROM_1, option_of};
 use crate::task::Task;
-use census_core::{Request, Told};
+use census_core::{Condition, Fault, Form, Listing, list_games};
+use census_diagnosis::{Given, of_games};
 use census_failure::Failure;
+use census_files::read_state;
+use census_words::words::Choice;
 use census_words::{Row, words};
 use clap::ArgMatches;
-use std::io::Read;
+use std::alloc::Global;
+use std::io::{Read, Write};
 use std::rt::Files;
+use written::write_out;
 
 /// Its row in the table.
 pub(crate) const ROW: Row = Row {
     name: "games",
     words: &[words::STATE, words::GAMES],
-    options: &[words::LIST, words::PART, words::REFUTED, words::EACH_JSON],
+    options: &[
+        words::LIST,
+        words::PART,
+        words::OF_PERIOD,
+        words::NO_PERIOD,
+        words::UNCLAIMED,
+        words::KNOWN_BELOW,
+        words::REFUTED,
+        words::EACH_JSON,
+        words::AS_CSV,
+        words::AS_LATEX,
+    ],
     line: "A line for each game, or for each refuted claim",
     about: "Says of each game how much is known, which period is proved, and what became of its claims",
     after: "\
-A line for each game has how many heaps are known, the period that is proved and the heap from which
-on it holds, and how many blocks and period claims are proved, refuted and pending. Where games are
-named, these have a line, in the order in which they are named, be anything known of them or not: the
-words CODE, and then those of --codes FILE, or of all these the part --part I/N.
+A line for each game has how many heaps are known, the least period that they prove and the least heap
+from which on it is so proved, and how many blocks and period claims are proved, refuted and pending.
+A period that no claim says with this start is `unclaimed`: census period or survey claims it. Where
+games are named, these have a line, in the order in which they are named, be anything known of them or
+not: the words CODE, and then those of --codes FILE, or of all these the part --part I/N.
+
+--period P, --no-period, --unclaimed and --known-below N leave games out, and together they leave out
+what one of them does. --no-period goes with neither --period nor --unclaimed.
 
 With --refuted there is a line for each refuted block and claim in place of these: the block's first
 wrong heap, what it claims there and the true value; or the first heap whose value does not come
-again, and both values. With --json each line is an object of JSON.
+again, and both values. With --json each line is an object of JSON. With --csv or --latex, which go
+with no other of these three, the lines are a table for a spreadsheet or for a paper.
 
 Exit status: 0 done, 1 refused: Load (the state), Code; 2 command line, 3 file, 4 memory
 
 Examples:
   census games anna.state
+  census games anna.state --unclaimed
+  census games anna.state --no-period --known-below 65536
+  census games anna.state --csv > games.csv
   census games anna.state --refuted",
 };
+
+/// What is asked: what is listed of games of a state, and of which.
+#[derive(Drop)]
+pub(crate) struct Asked<'a> {
+    state: &'a str,
+    codes: Vec<Vec<u8>>,
+    which: Vec<Condition>,
+    listing: Listing,
+}
 
 /// What its words ask for.
 pub(crate) fn task<'a, R, I>(
@@ -45,16 +78,105 @@ where
     R: Files + AllocGlobal,
     I: Read,
 {
+    let listing = listing(rt.alloc(), found)?;
+    let mut which = conditions(rt.alloc(), found)?;
     let codes = listed(rt, found, words::GAMES.name, input)?;
-    let form = form(found);
-    // No code stands for all games. A list of none is of no game, of which nothing is told.
+    // No code stands for all games. A list of none is of no game, and no game has fewer than 0 known heaps.
     if codes.is_empty() && is_listed(found) {
-        return asking(found, None, Request::Find { codes, form });
+        add(&mut which, Condition::KnownBelow(0))?;
     }
-    let what = if found.get_flag(words::REFUTED.name) {
-        Told::Refutations
-    } else {
-        Told::Counts
-    };
-    asking(found, None, Request::Games { codes, what, form })
+    Ok(Task::Games(Asked {
+        state: word(found, words::STATE)?,
+        codes,
+        which,
+        listing,
+    }))
+}
+
+// What is listed.
+fn listing(alloc: Global, found: &ArgMatches<'_>) -> Result<Listing, Failure> {
+    let is_refuted = found.get_flag(words::REFUTED.name);
+    let is_json = found.get_flag(words::EACH_JSON.name);
+    let is_csv = found.get_flag(words::AS_CSV.name);
+    let is_latex = found.get_flag(words::AS_LATEX.name);
+    match (is_refuted, is_json, is_csv, is_latex) {
+        (false, false, false, false) => Ok(Listing::Games(Form::Lines)),
+        (false, true, false, false) => Ok(Listing::Games(Form::Json)),
+        (true, false, false, false) => Ok(Listing::Refuted(Form::Lines)),
+        (true, true, false, false) => Ok(Listing::Refuted(Form::Json)),
+        (false, false, true, false) => Ok(Listing::Csv),
+        (false, false, false, true) => Ok(Listing::Latex),
+        _ => Err(apart(
+            alloc,
+            "--csv and --latex go with neither --json, --refuted nor one another",
+        )),
+    }
+}
+
+// What has to hold of the games.
+fn conditions(alloc: Global, found: &ArgMatches<'_>) -> Result<Vec<Condition>, Failure> {
+    let mut which = Vec::new(alloc);
+    if let Some(period) = number_of(alloc, found, words::OF_PERIOD)? {
+        add(&mut which, Condition::OfPeriod(period))?;
+    }
+    if found.get_flag(words::UNCLAIMED.name) {
+        add(&mut which, Condition::Unclaimed)?;
+    }
+    if found.get_flag(words::NO_PERIOD.name) {
+        if !which.is_empty() {
+            return Err(apart(
+                alloc,
+                "--no-period goes with neither --period nor --unclaimed",
+            ));
+        }
+        add(&mut which, Condition::NoPeriod)?;
+    }
+    if let Some(count) = number_of(alloc, found, words::KNOWN_BELOW)? {
+        add(&mut which, Condition::KnownBelow(u64::from(count)))?;
+    }
+    Ok(which)
+}
+
+// The number of an option, from 1 on, where it stands.
+fn number_of(
+    alloc: Global,
+    found: &ArgMatches<'_>,
+    choice: Choice,
+) -> Result<Option<u32>, Failure> {
+    if found.get_str(choice.name).is_none() {
+        return Ok(None);
+    }
+    Ok(Some(option_of(alloc, found, choice, FROM_1)?))
+}
+
+fn add(which: &mut Vec<Condition>, condition: Condition) -> Result<(), Failure> {
+    which.push(condition).or(Err(Fault::OutOfMemory))?;
+    Ok(())
+}
+
+// The failure of options that do not go together.
+fn apart(alloc: Global, text: &'static str) -> Failure {
+    Failure::from(Fault::Words).found(String::from_str(alloc, text))
+}
+
+/// Prints what is asked of a state file.
+pub(crate) fn run<R, O>(rt: &R, asked: &Asked<'_>, output: &mut O) -> Result<(), Failure>
+where
+    R: Files + AllocGlobal,
+    O: Write,
+{
+    let bytes = read_state(rt, asked.state)?;
+    match list_games(
+        rt.alloc(),
+        &bytes,
+        &asked.codes,
+        &asked.which,
+        asked.listing,
+    ) {
+        Ok(reply) => Ok(write_out(output, &reply.text)?),
+        Err(fault) => {
+            let state = Given::new(asked.state, &bytes);
+            Err(of_games(rt.alloc(), fault, &asked.codes, state))
+        }
+    }
 }

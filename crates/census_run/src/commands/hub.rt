@@ -1,7 +1,7 @@
 //! `census hub`: many sessions at once.
 
 use crate::endpoint::endpoint;
-use crate::numbers::{FROM_0, FROM_1, SESSIONS, option_of, seconds};
+use crate::numbers::{FROM_0, SESSIONS, option_of, seconds};
 use crate::task::Task;
 use census_failure::Failure;
 use census_net::Limits;
@@ -19,6 +19,7 @@ pub(crate) const ROW: Row = Row {
         words::PEERS,
         words::SESSIONS,
         words::MOST,
+        words::AUTHORS,
         words::MODE,
     ],
     line: "Serves many `sync` at once, for a whole group",
@@ -30,9 +31,11 @@ after each session `TIME peer ADDR:PORT new N operations M digest D; I by A, ..`
 are new, so many there are, the first eight digits of their digest, and how many of the new ones are
 by which author. A session that ends early has its fault on standard error, and the hub goes on.
 A number that is used twice since has its dot at the end of the line, as `; fork 15.3`. A `sync` is
-told that it is done once all that the hub has by then is saved. With --unix PATH it listens at a
-socket of this machine, which it makes and removes again: for ssh -L, containers, and the users that
---mode lets in (600: you alone; 660: your group too). Its peers are `local` then.
+told that it is done once all that the hub has by then is saved. One that brings a new author where
+there would be more than --authors says is refused (Authors), and the table stays as it was; where
+the table has more than a clock can say, the line ends `; clock cut by N authors`. With --unix PATH
+it listens at a socket of this machine, which it makes and removes again: for ssh -L, containers,
+and the users that --mode lets in (600: you alone; 660: your group too). Its peers are `local` then.
 ",
         "
 Exit status: 0 so many peers were served, 1 Load (the file is no state), 2 command line, 3 file,
@@ -53,12 +56,11 @@ pub(crate) fn task<'a>(alloc: Global, found: &ArgMatches<'a>) -> Result<Task<'a>
     })
 }
 
-// How many peers a hub takes, and how much of each.
+// How many peers a hub takes.
 fn limits(alloc: Global, found: &ArgMatches<'_>) -> Result<Limits, Failure> {
     Ok(Limits {
         peers: peers(alloc, found)?,
         sessions: option_of(alloc, found, words::SESSIONS, SESSIONS)? as usize,
-        most: u64::from(option_of(alloc, found, words::MOST, FROM_1)?),
     })
 }
 

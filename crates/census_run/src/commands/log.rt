@@ -2,7 +2,7 @@
 
 use super::read::{of_files, read_files};
 use crate::found::{game, repeated};
-use crate::numbers::{FROM_1, option_of};
+use crate::numbers::{FROM_1, clock_of, option_of};
 use crate::task::Task;
 use census_core::{Wanted, log_together};
 use census_failure::Failure;
@@ -18,7 +18,7 @@ use written::write_out;
 pub(crate) const ROW: Row = Row {
     name: "log",
     words: &[words::FILES],
-    options: &[words::BY, words::OF],
+    options: &[words::BY, words::OF, words::SINCE],
     line: "Who said what, in states and deltas together",
     about: "Lists the operations of some files together, each a state or a delta: who said what",
     after: "\
@@ -27,7 +27,8 @@ where it has one, and what was said, true or not: a block of values, its first h
 has; a period, the heap from which on it is claimed to hold and its length; a note, its name and text;
 or the notes that are taken back. They stand by author, then by number. Nothing is computed, and no
 file is changed. With --author and --game they are those of that author, and of that game: blocks and
-periods.
+periods. With --since DOT, where DOT is an author and a number, as 2.5, what that author said up to that
+number is left out; of authors that are not named all is listed.
 
 Exit status: 0 done, 1 refused: Code, Load (a state), Merge (a file is neither); 2 command line,
 3 file, 4 memory
@@ -35,7 +36,8 @@ Exit status: 0 done, 1 refused: Code, Load (a state), Merge (a file is neither);
 Examples:
   census log group.state
   census log anna.state ben.delta --author 2
-  census log group.state --game 0.77",
+  census log group.state --game 0.77
+  census log group.state --since 1.199 --since 2.31",
 };
 
 /// What its words ask for.
@@ -44,6 +46,7 @@ pub(crate) fn task<'a>(alloc: Global, found: &ArgMatches<'a>) -> Result<Task<'a>
         wanted: Wanted {
             author: author(alloc, found)?,
             game: game_found(alloc, found)?,
+            since: clock_of(alloc, found, words::SINCE)?,
         },
         files: repeated(alloc, found, words::FILES)?,
     })
@@ -69,7 +72,7 @@ fn game_found(alloc: Global, found: &ArgMatches<'_>) -> Result<Option<Code>, Fai
 pub(crate) fn run<R, O>(
     rt: &R,
     paths: &[&str],
-    wanted: &Wanted,
+    wanted: &Wanted<Global>,
     output: &mut O,
 ) -> Result<(), Failure>
 where

@@ -2,19 +2,20 @@
 
 use crate::found::{copies, game, games};
 use crate::lists::{is_listed, listed};
+use crate::noting::{check_state, note_found};
 use crate::numbers::{Range, heaps, value_count};
 use crate::system::System;
 use crate::task::Task;
 use census_core::{
-    Fault, Forgetful, Form, Progress, SEARCH_LIMIT, WINDOW_LIMIT, first_values, search,
+    Fault, Forgetful, Form, Progress, SEARCH_LIMIT, WINDOW_LIMIT, first_values, number, search,
     search_in_windows, write_values,
 };
-use census_failure::Failure;
+use census_failure::{Advice, Failure};
 use census_progress::{ProgressLine, WindowSearch, search_saved};
 use census_words::{Row, words};
 use clap::ArgMatches;
 use oct_code::Code;
-use std::alloc::Global;
+use std::alloc::{AllocError, Global};
 use std::io::{Read, Write};
 use std::rt::Files;
 use written::write_out;
@@ -31,6 +32,7 @@ pub(crate) const ROW: Row = Row {
         words::AS_BFILE,
         words::WINDOW,
         words::SAVE,
+        words::NOTING,
     ],
     line: "The period of each game, by at most COUNT values",
     about: "Computes values of each game until they prove a period, and says which",
@@ -58,6 +60,11 @@ line: how far it is stands in FILE, written every fifteen seconds and at the end
 and goes on from there, by more values where COUNT is greater than before. What FILE has is believed, and
 the line ends with `from a saved search`. FILE is locked meanwhile, and written as a state is; where it
 can't be written, the search ends. The first 65,536 values, or as many as are listed, are computed anew.
+
+With --note STATE a period above 65,536, or one that holds only from such a heap on, which no period claim
+can have, is noted in that state, behind its line: a note period-CODE, with a hyphen for the point, says
+the line as far as the start, if no live note says the same already. Its author and number are printed.
+census recheck searches again for what such notes say. --note takes no --json.
 
 The games are named as for extend; those of --bfile and --save are one word CODE.
 
@@ -88,6 +95,8 @@ pub(crate) struct Search<'a> {
     pub(crate) is_windowed: bool,
     /// The file in which the search in windows of one game is saved.
     pub(crate) save: Option<&'a str>,
+    /// The state in which periods are noted that no period claim can hold.
+    pub(crate) note: Option<&'a str>,
 }
 
 // How many values are computed at most.
@@ -121,7 +130,8 @@ where
 fn tabled<'a>(alloc: Global, found: &ArgMatches<'a>) -> Result<Task<'a>, Failure> {
     let is_more = found.get_flag(words::AS_JSON.name)
         || found.get_flag(words::WINDOW.name)
-        || found.get_str(words::SAVE.name).is_some();
+        || found.get_str(words::SAVE.name).is_some()
+        || found.get_str(words::NOTING.name).is_some();
     if is_more || is_listed(found) || found.get_strs(words::AT.name).is_some() {
         return Err(crowded(alloc));
     }
@@ -155,6 +165,10 @@ where
     if save.is_some() && (!is_windowed || is_listed(found) || !is_one(alloc, found)?) {
         return Err(unsaved(alloc));
     }
+    let note = found.get_str(words::NOTING.name);
+    if note.is_some() && form == Form::Json {
+        return Err(unnoted(alloc));
+    }
     let range = if is_windowed { WINDOWED } else { SEARCHED };
     Ok(Search {
         count: value_count(alloc, found, range)?,
@@ -163,6 +177,7 @@ where
         form,
         is_windowed,
         save,
+        note,
     })
 }
 
@@ -174,7 +189,7 @@ fn is_one(alloc: Global, found: &ArgMatches<'_>) -> Result<bool, Failure> {
 // The failure of a list of values, for which too much is asked.
 fn crowded(alloc: Global) -> Failure {
     let text =
-        "--bfile takes one CODE, and neither --codes, --part, --at, --json, --window nor --save";
+        "--bfile takes one CODE, and none of --codes, --part, --at, --json, --window, --save, --note";
     Failure::from(Fault::Words).found(String::from_str(alloc, text))
 }
 
@@ -187,6 +202,12 @@ fn forgotten(alloc: Global) -> Failure {
 // The failure of a search that can't be saved.
 fn unsaved(alloc: Global) -> Failure {
     let text = "--save takes one CODE, --window, and neither --codes nor --part";
+    Failure::from(Fault::Words).found(String::from_str(alloc, text))
+}
+
+// The failure of a search whose lines are not those that notes say.
+fn unnoted(alloc: Global) -> Failure {
+    let text = "--note takes no --json: a note says what a line says";
     Failure::from(Fault::Words).found(String::from_str(alloc, text))
 }
 
@@ -203,6 +224,9 @@ where
     E: Write,
 {
     let (count, form) = (asked.count, asked.form);
+    if let Some(state) = asked.note {
+        check_state(rt, state)?;
+    }
     for code in &asked.codes {
         let searched = if let Some(path) = asked.save {
             let sought = WindowSearch {
@@ -217,9 +241,46 @@ where
             Ok(search(rt.alloc(), *code, count, &asked.heaps, form, progress)?)
         };
         progress.clear();
-        write_out(output, &searched?)?;
+        let text = searched?;
+        write_out(output, &text)?;
+        if asked.is_windowed {
+            say_seen_early(rt.alloc(), &text, progress.advice());
+        }
+        if let Some(state) = asked.note {
+            note_found(rt, state, *code, &text, output, progress)?;
+        }
     }
     Ok(())
+}
+
+// Says of a period that a window saw by fewer values than the line says it needs why that is no contradiction.
+fn say_seen_early<E: Write>(alloc: Global, line: &[u8], advice: &mut Advice<'_, E>) {
+    let Ok(line) = str::from_utf8(line) else {
+        return;
+    };
+    if let (Some(needs), Some(values)) = (
+        number_behind(line, "needs"),
+        number_behind(line, "values"),
+    ) {
+        if values < needs {
+            if let Ok(text) = seen_early_text(alloc, needs, values) {
+                advice.say(&text);
+            }
+        }
+    }
+}
+
+// The number that stands behind this word of a line.
+fn number_behind(line: &str, word: &str) -> Option<u64> {
+    let mut words = line.split_whitespace();
+    words.find(|each| *each == word)?;
+    number(words.next()?, u64::MAX)
+}
+
+fn seen_early_text(alloc: Global, needs: u64, values: u64) -> Result<String, AllocError> {
+    format!(in alloc;
+        "a window of {values} values shows that the period goes on; a list, without --window, needs {needs}"
+    )
 }
 
 // Searches for the period of a game in windows, and saves nothing.

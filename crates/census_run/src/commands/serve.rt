@@ -19,7 +19,13 @@ use std::time::Clock;
 pub(crate) const ROW: Row = Row {
     name: "serve",
     words: &[words::STATE, words::PEER],
-    options: &[words::PATIENCE, words::MODE, words::QUIET],
+    options: &[
+        words::PATIENCE,
+        words::MOST_OF_ONE,
+        words::AUTHORS_OF_ONE,
+        words::MODE,
+        words::QUIET,
+    ],
     line: "Waits for one `sync`, and exchanges all that is new",
     about: "Waits for one connection to an address, and exchanges all that is new with its `sync`",
     after: of_sessions!(
@@ -29,8 +35,8 @@ With --stdio the session goes over standard input and output, and `done` is writ
 error; nothing is listened to, and --patience counts for nothing. So a line of authorized_keys with
 command=\"census serve --stdio group.state\",restrict lets whoever has that key sync, and nothing else.
 
-Exit status: 0 done, 1 refused: Load (the state), Sync (the other side's bytes), Author, TooMany;
-2 command line, 3 file or network, 4 memory
+Exit status: 0 done, 1 refused: Load (the state), Sync (the other side's bytes), Authors, Author,
+TooMany; 2 command line, 3 file or network, 4 memory
 
 Examples:
   census serve anna.state 127.0.0.1:4000
@@ -66,8 +72,8 @@ where
             serve(rt, endpoint, advice)?;
             print_unless(is_quiet, b"done\n", output)
         }
-        Meeting::Streams { state } => {
-            serve_over(rt, state, input, output, advice)?;
+        Meeting::Streams { state, allowance } => {
+            serve_over(rt, state, allowance, input, output, advice)?;
             tell_done(is_quiet, advice.errors());
             Ok(())
         }

@@ -2,12 +2,13 @@
 
 use crate::found::word;
 use crate::task::Task;
-use census_core::{Fault, Folder, write_site};
+use census_core::{Beside, Fault, Folder, write_site};
 use census_diagnosis::{Given, of_state};
 use census_failure::{Advice, Failure};
-use census_files::{SiteFolder, read_state};
+use census_files::{PageFile, SiteFolder, read_page, read_state};
 use census_words::{Row, words};
 use clap::ArgMatches;
+use std::alloc::Global;
 use std::fs::File;
 use std::io::Write;
 use std::rt::Files;
@@ -17,7 +18,7 @@ use std::time::Clock;
 pub(crate) const ROW: Row = Row {
     name: "site",
     words: &[words::STATE, words::DIR],
-    options: &[],
+    options: &[words::WEB],
     line: "All that is known, as a folder of pages for a web server",
     about: "Makes all that is known a site: a folder of pages that any web server shows as it is",
     after: "\
@@ -27,10 +28,15 @@ site stands there each file of it is replaced whole, and those of games that are
 folder that has anything else is not written to: that is the fault Occupied. The same operations make
 the same bytes.
 
+With --web the page that computes in the browser stands beside the tables, as compute.html with three
+files more, and each game has a link to it; FOLDER is that of the page, `web` where census comes from.
+Another site without --web has neither.
+
 Exit status: 0 done, 1 Load (the file is no state), 2 command line, 3 file, 4 memory
 
-Example:
-  census site anna.state public",
+Examples:
+  census site anna.state public
+  census site anna.state public --web web",
 };
 
 /// What its words ask for.
@@ -38,18 +44,21 @@ pub(crate) fn task<'a>(found: &ArgMatches<'a>) -> Result<Task<'a>, Failure> {
     Ok(Task::Site {
         state: word(found, words::STATE)?,
         folder: word(found, words::DIR)?,
+        page: found.get_str(words::WEB.name),
     })
 }
 
 /// Makes the site of a state file in a folder, which is made where there is none, or replaces the site that stands there:
 /// each file is written beside and takes its name whole, and those of games that are gone are removed. One command at a
-/// time writes the folder. The fault is that of the state, and `Occupied` where something stands there that is no folder,
-/// or a folder that has anything but a site; after these nothing is changed. It is `File` where the folder can't be
-/// written, with each file of it old or new.
+/// time writes the folder. Where the folder of the page that computes is named, its files are put beside the tables. The
+/// fault is that of the state, `File` and `TooLong` of a file of that page, and `Occupied` where something stands there that
+/// is no folder, or a folder that has anything but a site; after these nothing is changed. It is `File` where the folder
+/// can't be written, with each file of it old or new.
 pub(crate) fn run<R, E>(
     rt: &R,
     state: &str,
     path: &str,
+    page: Option<&str>,
     advice: &mut Advice<'_, E>,
 ) -> Result<(), Failure>
 where
@@ -57,7 +66,11 @@ where
     E: Write,
 {
     let bytes = read_state(rt, state)?;
-    let Err(failure) = filled(rt, &bytes, path, advice) else {
+    let page = match page {
+        Some(folder) => read_page(rt, folder)?,
+        None => Vec::new(rt.alloc()),
+    };
+    let Err(failure) = filled(rt, &bytes, &page, path, advice) else {
         return Ok(());
     };
     match failure.fault {
@@ -70,6 +83,7 @@ where
 fn filled<'a, R, E>(
     rt: &'a R,
     bytes: &[u8],
+    page: &[PageFile],
     path: &'a str,
     advice: &'a mut Advice<'_, E>,
 ) -> Result<(), Failure>
@@ -80,8 +94,32 @@ where
     let mut site = LockedFolder {
         folder: SiteFolder::open(rt, path, advice)?,
     };
-    let put = write_site(rt.alloc(), bytes, &mut site);
+    let put = match write_site(rt.alloc(), bytes, beside(page), &mut site) {
+        Ok(()) => put_page(page, &mut site.folder),
+        Err(fault) => Err(fault),
+    };
     site.folder.close(put)
+}
+
+// What stands beside the tables, where these are the files of the page.
+fn beside(page: &[PageFile]) -> Beside {
+    if page.is_empty() {
+        Beside::Nothing
+    } else {
+        Beside::Page
+    }
+}
+
+// Puts the files of the page there.
+fn put_page<R, E>(page: &[PageFile], folder: &mut SiteFolder<'_, '_, R, E>) -> Result<(), Fault>
+where
+    R: Files<File = File> + AllocGlobal + Clock + Clone + Drop,
+    E: Write,
+{
+    for file in page {
+        folder.put(file.name.as_bytes(), &file.bytes)?;
+    }
+    Ok(())
 }
 
 // A folder that no other command writes into meanwhile, as it takes the files of a site.
@@ -96,6 +134,8 @@ where
     E: Write,
 {
     ghost puts = { λ old name bytes new. Unit {0} };
+
+    ghost refuses = { λ fault. Unit {0} };
 
     fn put(&mut self, name: &[u8], bytes: &[u8]) -> Result<(), Fault> {
         self.folder.put(name, bytes)

@@ -7,8 +7,7 @@ use crate::printing::{print_unless, tell_done};
 use crate::task::Task;
 use census_core::Fault;
 use census_failure::{Advice, Failure};
-use census_files::read_state;
-use census_net::{Outcome, record_of, sync, sync_over};
+use census_net::{Loaded, Outcome, sync, sync_over};
 use census_progress::{is_told, say_of_records};
 use census_words::{Row, words};
 use clap::ArgMatches;
@@ -25,7 +24,14 @@ use std::time::Clock;
 pub(crate) const ROW: Row = Row {
     name: "sync",
     words: &[words::STATE, words::PEER],
-    options: &[words::ALL, words::GIVE, words::PATIENCE, words::QUIET],
+    options: &[
+        words::ALL,
+        words::GIVE,
+        words::PATIENCE,
+        words::MOST_OF_ONE,
+        words::AUTHORS_OF_ONE,
+        words::QUIET,
+    ],
     line: "Exchanges all that is new with a `serve` or a `hub`",
     about: "Connects to an address, and exchanges all that is new with the `serve` or `hub` there",
     after: of_sessions!(
@@ -43,8 +49,8 @@ to one hub, and stay parts.
 With --stdio the session goes over standard input and output, and `done` is written to standard
 error; --patience counts for nothing then. So ssh gives encryption, keys, and who may come in.
 
-Exit status: 0 done, 1 refused: Load (the state), Sync (the other side's bytes), Author, TooMany,
-Apart (a number was used twice); 2 command line, 3 file or network, 4 memory
+Exit status: 0 done, 1 refused: Load (the state), Sync (the other side's bytes), Authors, Author,
+TooMany, Apart (a number was used twice); 2 command line, 3 file or network, 4 memory
 
 Examples, the last over ssh:
   census sync ben.state 127.0.0.1:4000
@@ -100,8 +106,9 @@ where
             print_unless(is_quiet, b"done\n", output)?;
             outcome
         }
-        Meeting::Streams { .. } => {
-            let outcome = sync_over(rt, state, role, &mut brought.later, input, output, advice)?;
+        Meeting::Streams { allowance, .. } => {
+            let later = &mut brought.later;
+            let outcome = sync_over(rt, state, allowance, role, later, input, output, advice)?;
             tell_done(is_quiet, advice.errors());
             outcome
         }
@@ -118,7 +125,7 @@ where
 struct Brought {
     // None where nobody wants to know.
     before: Option<Record<Global>>,
-    later: Record<Global>,
+    later: Loaded,
 }
 
 impl Brought {
@@ -130,11 +137,10 @@ impl Brought {
         advice: &Advice<'_, E>,
     ) -> Result<Brought, Failure>
     where
-        R: Files + AllocGlobal,
+        R: Files<File = File> + AllocGlobal,
         E: Write,
     {
-        let bytes = read_state(rt, state)?;
-        let later = record_of(rt.alloc(), state, &bytes)?;
+        let (later, bytes) = Loaded::read(rt, state)?;
         let before = if !is_quiet && is_told(&bytes, advice) {
             Record::load(rt.alloc(), &bytes).ok()
         } else {
@@ -146,8 +152,9 @@ impl Brought {
     // Says what became of what the session brought, where that is wanted.
     fn tell<E: Write>(&self, alloc: Global, state: &str, advice: &mut Advice<'_, E>) {
         if let Some(before) = &self.before {
-            warn_of_forks(alloc, before, &self.later, advice);
-            say_of_records(alloc, state, before, &self.later, advice);
+            let later = self.later.said();
+            warn_of_forks(alloc, before, later, advice);
+            say_of_records(alloc, state, before, later, advice);
         }
     }
 }

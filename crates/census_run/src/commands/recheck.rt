@@ -1,0 +1,95 @@
+//! `census recheck`: the long periods that notes say, searched again.
+
+use crate::found::{copies, games, word};
+use crate::task::Task;
+use census_core::Fault;
+use census_diagnosis::{Given, of_games};
+use census_failure::Failure;
+use census_files::read_state;
+use census_noted::{PeriodNote, Rechecked, period_notes, recheck};
+use census_words::{Row, words};
+use clap::ArgMatches;
+use oct_code::Code;
+use oct_record::Record;
+use std::alloc::Global;
+use std::io::Write;
+use std::rt::Files;
+use written::write_out;
+
+/// Its row in the table.
+pub(crate) const ROW: Row = Row {
+    name: "recheck",
+    words: &[words::STATE, words::NOTED],
+    options: &[],
+    line: "Searches again for the long periods that notes say",
+    about: "Searches again for the period of each game of which a note says one",
+    after: "\
+A period above 65,536, or one that holds only from such a heap on, is in no period claim: a note says it.
+Its name is period-CODE, with a hyphen for the point of the code, and its text what census search prints,
+as far as the start: a note period-0-16 says `0.16 period 149459 from 105351`. census search --note
+issues such notes. For each live note of such a name, by whomever, in the order of the notes, the game
+is searched again by as many values as its line needs: 2E + 2P + k, k the number of digits of the code.
+A line says of it `is so`, and then it holds for all heaps; or which period was found, and not that
+one; or that there is no period in so many values. A note that says no period is named, and so is one
+that needs more than 4294967296 values, which is not searched. Where codes are named, the notes of
+these games alone are read. The state stays as it is.
+
+Exit status: 0 each note is so, 1 one is not, or refused: Load (the state), Code, PastValue (a value is
+above 65535); 2 command line, 3 file, 4 memory
+
+Example:
+  census recheck anna.state 0.16",
+};
+
+/// What is asked: which notes of a state are rechecked, those of some games or of all.
+#[derive(Drop)]
+pub(crate) struct Recheck<'a> {
+    state: &'a str,
+    codes: Vec<Code>,
+}
+
+/// What its words ask for.
+pub(crate) fn task<'a>(alloc: Global, found: &ArgMatches<'a>) -> Result<Task<'a>, Failure> {
+    Ok(Task::Recheck(Recheck {
+        state: word(found, words::STATE)?,
+        codes: games(alloc, &copies(alloc, found, words::NOTED.name)?)?,
+    }))
+}
+
+/// Rechecks the notes, and prints the line of each before it goes on to the next. The status is 0 where each is so, and else 1.
+pub(crate) fn run<R, O>(rt: &R, asked: &Recheck<'_>, output: &mut O) -> Result<u8, Failure>
+where
+    R: Files + AllocGlobal,
+    O: Write,
+{
+    let alloc = rt.alloc();
+    let bytes = read_state(rt, asked.state)?;
+    let notes = match notes_in(alloc, &bytes) {
+        Ok(notes) => notes,
+        Err(fault) => {
+            let state = Given::new(asked.state, &bytes);
+            return Err(of_games(alloc, fault, &Vec::new(alloc), state));
+        }
+    };
+    let mut status = 0;
+    for note in &notes {
+        if asked.codes.is_empty() || asked.codes.contains(&note.code) {
+            let done = rechecked(alloc, note)?;
+            write_out(output, &done.line)?;
+            if !done.is_so {
+                status = 1;
+            }
+        }
+    }
+    Ok(status)
+}
+
+// The notes of periods in a state.
+fn notes_in(alloc: Global, state: &[u8]) -> Result<Vec<PeriodNote>, Fault> {
+    Ok(period_notes(&Record::load(alloc, state)?)?)
+}
+
+// What a search says of a note.
+fn rechecked(alloc: Global, note: &PeriodNote) -> Result<Rechecked<Global>, Fault> {
+    Ok(recheck(alloc, note)?)
+}
