@@ -68,6 +68,7 @@ def check_game(code, values):
     same(f"blocks of {code} with one value changed", statuses(wrong), due)
 
     check_verdicts(code, values, at)
+    check_shifts(code, values)
 
     printed = done("bfile", true, code)
     same(f"b-file of {code}", printed, text(values))
@@ -100,6 +101,21 @@ def check_verdicts(code, values, at):
         lines = [f"heap {n}: {v + 1} in the file, {v} is right\n" for n, v in enumerate(values[:100])]
         wrong = text([v + 1 for v in values[:count]])
         same(f"check of {count} wrong values of {code}", answered(wrong, code), (1, "".join(lines) + end))
+
+
+def check_shifts(code, values):
+    """What is said of a part whose values are those of other heaps, and only where it was asked for."""
+    places = range(10, 60)
+    for by in (-3, -2, -1, 1, 2, 3):
+        write("b.txt", "".join(f"{n} {values[n + by]}\n" for n in places).encode())
+        way, sign = ("on", "+") if by > 0 else ("back", "-")
+        said = f"  all are right {abs(by)} further {way}: the file has under each n the value of heap n {sign} {abs(by)}\n"
+        answer = run("--explain", "check", code, "b.txt")
+        same(f"check of {code} shifted by {by}", (answer.status, answer.err), (1, said if abs(by) < 3 else ""))
+        same(f"check of {code} shifted by {by} that nobody asks", run("check", code, "b.txt"), (1, answer.out, ""))
+    # As where heap 0 stands under 1.
+    write("b.txt", "".join(f"{n + 1} {v}\n" for n, v in enumerate(values[:50])).encode())
+    same(f"check of {code} from 1 on", run("--explain", "check", code, "b.txt").err, "  all are right 1 further back: the file has under each n the value of heap n - 1\n")
 
 
 def check_faults():

@@ -25,7 +25,7 @@ PAGES = [TOP / "README.md", TOP / "CONTRIBUTING.md", *sorted((TOP / "docs").glob
 FUNCTION = re.compile(r"`(?P<path>[a-z_0-9]+::[A-Za-z_0-9:]*(?:\{[^`]*\})?)`(?:\s+\((?P<clauses>[a-z_0-9, \n]+)\))?")
 WRONG_BODY = re.compile(r"`(?P<crate>[a-z_0-9]+)/(?P<name>[a-z_0-9]+|\{[a-z_0-9, \n]+\})`")
 DEFINITION = re.compile(r"`(?P<file>[\w/]+\.antt)`(?:[:,]\s+(?P<words>`\w+`(?:,\s+`\w+`)*))?")
-FILE = re.compile(r"`(?P<path>(?:crates|docs|tests|examples|dist)/[\w./{}*, -]+)`")
+FILE = re.compile(r"`(?P<path>(?:crates|docs|tests|examples|dist|web)/[\w./{}*, -]+)`")
 WAYS = re.compile(r"(?ms)^## Five ways through the house$(.*?)^## ")
 STEP = re.compile(r"`(?:(?P<crate>\w+)/src/)?(?P<file>[\w/]+\.rt)`")
 
@@ -131,7 +131,7 @@ def below():
     for line in (TOP / "crates.txt").read_text(encoding="utf-8").splitlines():
         if line and not line.startswith("#"):
             name, _, named = line.partition(":")
-            found[name] = {more for it in named.split() for more in {it, *found.get(it, ())}}
+            found[name.split()[0]] = {more for it in named.split() for more in {it, *found.get(it, ())}}
     return found
 
 

@@ -1,9 +1,10 @@
 #!/usr/bin/env bash
-# Many games on many processors, by the job and the Makefile of docs/CLUSTER.md: 63 games in five parts, under a loop, xargs and make.
-# Of each, one part is killed on its way, one is lost and comes again, and one is handed in twice; files are joined in any order. There
-# is one digest, and what one survey says. Parts that are given to a hub stay parts. What is done costs nothing again, by the time of
-# the processor.
+# Many games on many processors, by the job and the Makefile of docs/CLUSTER.md: 63 games in five parts, under a loop, xargs and make,
+# and under GNU parallel and Slurm where they are installed. Under each, one part is killed on its way, one is lost and comes again, and
+# one is handed in twice; files are joined in any order. There is one digest, and what one survey says. Parts that are given to a hub
+# stay parts. What is done costs nothing again, by the time of the processor.
 . "$(dirname "${BASH_SOURCE[0]}")/lib.sh"
+. "$top/tests/slurm.sh"
 
 # The block of the document whose first line is this, by its first sign behind the four spaces of the indent.
 block() {
@@ -48,13 +49,32 @@ by_make() {
   make -k -j 4 N=5 COUNT=1024
 }
 
+by_parallel() {
+  seq 5 | parallel --will-cite -j 4 ./job codes 1024 {}/5
+}
+
+# What the tasks of an array say is in files of their own.
+by_slurm() {
+  local all=0
+  sbatch --wait --array=1-5 --output=%a.out --error=%a.out --wrap './job codes 1024 $SLURM_ARRAY_TASK_ID/5' || all=1
+  cat ?.out
+  return $all
+}
+
+engines=(loop xargs make)
+if command -v parallel > found && parallel --version 2> faults | grep -q GNU; then engines+=(parallel); fi
+if has_slurm; then
+  engines+=(slurm)
+  start_slurm
+fi
+
 # What one survey says, and what is left before.
 census init one.state 1 > told
 census survey one.state 1024 --codes codes > one.lines
 census games one.state > one.games
 census left 1024 --codes codes one.state | diff /dev/null -
 
-for engine in loop xargs make; do
+for engine in "${engines[@]}"; do
   mkdir "$engine"
   cp job codes Makefile "$engine"
   cd "$engine"
@@ -78,7 +98,7 @@ for engine in loop xargs make; do
   cd ..
 done
 test "$(sort -u digests | wc -l)" = 1
-test "$(wc -l < digests)" = 3
+test "$(wc -l < digests)" = "${#engines[@]}"
 
 # The parts are given to a hub, all at once, and stay what they are, whatever the hub has.
 census init hub.state 9 > told
@@ -129,4 +149,4 @@ if [ $((10 * again)) -gt "$first" ]; then
   echo "cluster: the first run took $first ms, and the same again $again" >&2
   exit 1
 fi
-echo 'cluster: parts that are killed, lost and given twice are one table; what is done costs nothing again'
+echo "cluster: under ${engines[*]}, parts that are killed, lost and given twice are one table; what is done costs nothing again"

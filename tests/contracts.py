@@ -27,7 +27,7 @@ LEFT_OUT = {"metered"}
 
 NAME = r"[A-Za-z_][A-Za-z0-9_]*"
 VISIBLE = r"(?P<visible>pub(?:\([a-z ]+\))?\s+)?"
-FUNCTION = re.compile(VISIBLE + rf"(?:const\s+)?(?:unsafe\s+)?fn\s+(?P<name>{NAME})")
+FUNCTION = re.compile(VISIBLE + rf"(?:const\s+)?(?:unsafe\s+)?(?:extern\s+\S*\s+)?fn\s+(?P<name>{NAME})")
 DECLARED = re.compile(VISIBLE + rf"(?P<kind>struct|enum|union|trait|type|const|static)\s+(?P<name>{NAME})")
 IMPLEMENTED = re.compile(r"(?:unsafe\s+)?impl\b")
 MODULE = re.compile(VISIBLE + rf"mod\s+(?P<name>{NAME})\s*(?P<end>[;{{])")
@@ -396,7 +396,8 @@ def seen_methods(implementation):
 def crates():
     """The names of the crates, lowest first."""
     lines = (TOP / "crates.txt").read_text(encoding="utf-8").splitlines()
-    return [line.split(":")[0].strip() for line in lines if line.strip() and not line.startswith("#")]
+    # behind the name may stand a word for the kind of the crate
+    return [line.split(":")[0].split()[0] for line in lines if line.strip() and not line.startswith("#")]
 
 
 def first_sentence(lines):

@@ -57,6 +57,14 @@ CASES = [
     ("search 70000 0.16 --window --save folder/none/new", "File", 3, ["folder/none/new: the folder for it is not there"]),
     ("search 70000 0.16 --window --save a.state.lock", "Occupied", 3, ["a.state.lock would be the lock"]),
     ("search 70000 0.16 --save new", "Words", 2, ["--save takes one CODE, --window, and neither --codes nor --part"]),
+    # Games that are left out.
+    ("games a.state --no-period --period 12", "Words", 2, ["--no-period goes with neither --period nor --unclaimed"]),
+    ("games a.state --no-period --unclaimed", "Words", 2, ["--no-period goes with neither --period nor --unclaimed"]),
+    ("games a.state --csv --latex", "Words", 2, ["--csv and --latex go with neither --json, --refuted nor one another"]),
+    ("games a.state --csv --json", "Words", 2, ["--csv and --latex go with neither --json, --refuted nor one another"]),
+    ("games a.state --latex --refuted", "Words", 2, ["--csv and --latex go with neither --json, --refuted nor one another"]),
+    ("games a.state --period 0", "Number", 2, ["--period must be 1 to 4294967295, and is 0"]),
+    ("games a.state --known-below many", "Number", 2, ["--known-below must be 1 to 4294967295, and is many"]),
     # Blocks and b-files.
     ("import a.state open.json", "Json", 1, ["open.json", "line 2 column 11", FORM]),
     ("import a.state short.json", "Import Shape", 1, ["short.json is no object with exactly", FORM]),
@@ -232,6 +240,18 @@ def try_closed_reader():
     os.close(master)
 
 
+def try_missing():
+    """A word that is missing is named with what may stand in its place."""
+    for words, shown in (
+        ("init new.state", "<ID|--draw|--for TEXT>"),
+        ("hub a.state", "<ADDR|--unix PATH>"),
+        ("sync a.state", "<ADDR|--stdio|--unix PATH>"),
+        ("serve a.state", "<ADDR|--stdio|--unix PATH>"),
+    ):
+        status, out, said = run(*words.split())
+        expect((status, out) == (2, "") and said.count(shown) == 2, f"{words}: {status}, {out!r}, {said!r}")
+
+
 def try_list():
     """`census explain` and the manual have each fault of the documents."""
     with open(TOP / "docs" / "FORMATS.md", encoding="utf-8") as file:
@@ -255,6 +275,7 @@ def main():
     try_table()
     try_streams()
     try_closed_reader()
+    try_missing()
     try_list()
     finish(f"faults: each of {len(CASES)} wrong inputs is explained where it should be, and only there")
 

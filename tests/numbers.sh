@@ -35,7 +35,7 @@ if census init none 1 --for one 2>fault; then exit 1; fi
 # A number, or one that is drawn, and not both; nor neither.
 if census init none 1 --draw 2>fault; then exit 1; fi
 if census init none 2>fault; then exit 1; fi
-grep -qx '  <ID>' fault
+grep -qx '  <ID|--draw|--for TEXT>' fault
 test ! -e none
 
 # States of different authors have one digest where they hold the same operations; it is that of their delta, and of its bytes.

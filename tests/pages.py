@@ -1,12 +1,15 @@
 #!/usr/bin/env python3
 """Makes a table with each kind of row, and compares its b-files, plots, page, site and JSON with what `show` says: each point that
 is drawn with the known values, each number and each status of the pages, that a note with the marks of a page stands there as
-text, and that the name of an author stands behind each of its dots. Also whether each text has contrast enough to what it stands
+text, that the name of an author stands behind each of its dots, and what `games` says in each form. Also whether each text has contrast enough to what it stands
 on, whether pictures and pages are well-formed XML with no script and nothing from outside, whether each link of the site leads
-somewhere, which folders a site is not written to, and, where there is a Chromium, that no part of a page is wider than the window
-at 360, 400, 768 and 1,280 pixels but those that scroll by themselves.
+somewhere, which folders a site is not written to, that the page that computes stands beside it where it is asked for, with a link
+from each game, and, where there is a Chromium, that no part of a page is wider than the window at 360, 400, 768 and 1,280 pixels
+but those that scroll by themselves.
 """
 
+import csv
+import io
 import json
 import os
 import re
@@ -15,6 +18,7 @@ import subprocess
 import xml.etree.ElementTree as xml
 
 import lib
+from browser import chromium
 from lib import done, fail, refused, same
 
 SVG = "{http://www.w3.org/2000/svg}"
@@ -67,7 +71,8 @@ def catalogue(text):
     for line in text.splitlines():
         kind, *words = line.split(" ")
         if kind == "game":
-            game = games[words[0]] = {"values": [], "blocks": [], "periods": []}
+            game = games[words[0]] = {"code": words[0], "values": [], "blocks": [], "periods": []}
+            game["known"] = game["values"]
         elif kind == "values":
             game["values"] += map(int, words[1:])
         elif kind == "block":
@@ -83,9 +88,20 @@ def catalogue(text):
     return games, notes, forks, authors
 
 
+def least(code, values):
+    """The least period that these values of a game prove, and the least heap from which on they do: 2E + 2P and one for each digit of
+    the code have to be known. None where they prove none."""
+    for period in range(1, len(values) // 2):
+        start = next((heap + 1 for heap in range(len(values) - period - 1, 0, -1) if values[heap] != values[heap + period]), 1)
+        if 2 * start + 2 * period + len(code.partition(".")[2]) <= len(values):
+            return period, start
+    return None
+
+
 def proved(game):
-    """Start and period of the first claim that is proved."""
-    return next(((int(start), int(period)) for _, start, period, status in game["periods"] if status == ["proved"]), None)
+    """Start and period of the least period that the known values of a game prove."""
+    found = least(game["code"], game["known"])
+    return found and found[::-1]
 
 
 # ---- pictures
@@ -259,8 +275,13 @@ def called(dot, names):
 def is_game(what, root, code, game, names, brief):
     """What a page shows of a game below its picture."""
     values, period = game["values"], proved(game)
-    if sentence(game) not in [element.text for element in root.iter(HTML + "p")]:
+    told = [element.text for element in root.iter(HTML + "p")]
+    if sentence(game) not in told:
         fail(f"{what} does not say {sentence(game)}")
+    caption = "Each point is the nim-value of a heap." + (" The first two runs of the period are shaded." if period else "")
+    same(f"{what}: below the picture", [element.text for element in root.iter(HTML + "figcaption")], [caption])
+    claimed = period in [(int(start), int(of)) for _, start, of, _ in game["periods"]]
+    same(f"{what}: that no claim says so", told.count("No claim says so."), int(bool(period) and not claimed))
     shown = front(game) if brief else len(values)
     back = 100 if brief and not period and len(values) > 1100 else 0
     run = (*period, True) if period else (0, 20, False)
@@ -323,13 +344,19 @@ def is_page(text, games, notes, forks, authors, names, brief):
 # ---- the site
 
 
+WEB = str(lib.TOP / "web")
+PAGE = {"compute.html": "index.html", "page.css": "page.css", "page.js": "page.js", "module.js": "module.js"}
+
+
 def files_in(folder):
     return {name: open(f"{folder}/{name}", encoding="utf-8").read() for name in os.listdir(folder)}
 
 
-def is_site(folder, state, games, notes, forks, authors, names):
+def is_site(folder, state, games, notes, forks, authors, names, page=False):
     files = files_in(folder)
     due = {"census-site", "index.html", "style.css"} | {code + end for code in games for end in (".html", ".svg", ".txt", ".json")}
+    beside = {name: files.pop(name, None) for name in PAGE} if page else {}
+    same("files of the page", beside, {name: files_in(WEB)[own] for name, own in PAGE.items()} if page else {})
     same("files of the site", set(files), due)
     if re.search(r"url|@import|http|expression", files["style.css"]):
         fail("the style sheet has a style from outside")
@@ -339,8 +366,11 @@ def is_site(folder, state, games, notes, forks, authors, names):
     for name, text in files.items():
         if name.endswith(".html"):
             root = xml.fromstring(text)
-            is_closed(name, root, due)
+            computed = f"compute.html?code={name.removesuffix('.html')}"
+            is_closed(name, root, due | {computed} if page else due)
             is_landmarked(name, root)
+            links = [element.get("href") for element in root.iter(HTML + "a")]
+            same(f"links of {name} to the page", links.count(computed), int(page and name != "index.html"))
     is_index("the index", xml.fromstring(files["index.html"]), games, notes, forks, authors, names)
     whole = json.loads(done("json", state))
     for code, game in games.items():
@@ -358,11 +388,40 @@ def is_site(folder, state, games, notes, forks, authors, names):
             fail(f"{element.get('href')} leads nowhere")
 
 
-def is_refused(folder, state, fault):
+def is_refused(folder, state, fault, *options):
     """A folder that is not written to, and stays as it is."""
-    before = sorted(os.listdir(folder)) if os.path.isdir(folder) else None
-    refused(1 if fault == "Load Version" else 3, fault, "site", state, folder)
-    same(f"{folder} stays", sorted(os.listdir(folder)) if os.path.isdir(folder) else None, before)
+    before = files_in(folder) if os.path.isdir(folder) else None
+    refused(1 if fault == "Load Version" else 3, fault, "site", state, folder, *options)
+    same(f"{folder} stays", files_in(folder) if os.path.isdir(folder) else None, before)
+
+
+def sites_with_page(state, told, first):
+    """The page that computes beside a site, with a link from each game; the site without it again; and folders that are no page."""
+    done("site", state, "site", "--web", WEB)
+    is_site("site", state, *told, page=True)
+    both = files_in("site")
+    done("site", "--web", WEB, state, "site")
+    same("the site and the page a second time", files_in("site"), both)
+    for name in PAGE.values():
+        shutil.copytree(WEB, "part")
+        os.remove(f"part/{name}")
+        is_refused("site", state, "File", "--web", "part")
+        is_refused("nowhere", state, "File", "--web", "part")
+        os.symlink(os.path.abspath(state), f"part/{name}")
+        is_refused("site", state, "File", "--web", "part")
+        os.remove(f"part/{name}")
+        os.mkdir(f"part/{name}")
+        is_refused("site", state, "File", "--web", "part")
+        shutil.rmtree("part")
+    for folder in ("nowhere", "site", state):  # the second has a file of each name of the page, and its index is another
+        is_refused("site", state, "File", "--web", folder)
+    shutil.copytree(WEB, "part")
+    is_refused("part", state, "Occupied", "--web", "part")
+    os.symlink(os.path.abspath("part"), "linked")
+    done("site", state, "site", "--web", "linked")
+    same("the site with the page of a folder behind a link", files_in("site"), both)
+    done("site", state, "site")
+    same("the site without the page again", files_in("site"), first)
 
 
 def sites(state, told):
@@ -373,6 +432,7 @@ def sites(state, told):
     first = files_in(folder)
     done("site", state, folder)
     same("the site a second time", files_in(folder), first)
+    sites_with_page(state, told, first)
     done("site", "other.state", folder)
     is_site(folder, "other.state", *catalogue(done("show", "other.state")), {})
     with open(f"{folder}/thesis.txt", "w", encoding="utf-8") as file:
@@ -424,7 +484,7 @@ document.title = 'seen ' + root.clientWidth + ':' + wide.join(';');
 
 def looks(folder, pages):
     """What a browser finds too wide or broken; whether there is one."""
-    browser = next((found for found in map(shutil.which, ("chromium", "chromium-browser", "google-chrome")) if found), None)
+    browser = chromium()
     if not browser:
         return False
     for page in pages:
@@ -470,6 +530,72 @@ def is_told(state, games, names):
     return len(due)
 
 
+def overview(code, game):
+    """What `games` says of a game: its known heaps, its period, start and whether they are claimed, and how many of its blocks and of
+    its claims are proved, refuted and pending."""
+    found = least(code, game["values"])
+    claims = [(int(period), int(start)) for _, start, period, _ in game["periods"]]
+    counts = [[sum(row[3][0] == status for row in rows) for status in ("proved", "refuted", "pending")] for rows in (game["blocks"], game["periods"])]
+    return len(game["values"]), found, found in claims, *counts
+
+
+def words_of(code, known, found, claimed, blocks, claims):
+    """The line of a game."""
+    period = f"period {found[0]} from {found[1]}{'' if claimed else ' unclaimed'}" if found else "no period"
+    counts = [" ".join(f"{name} {count}" for name, count in zip(("proved", "refuted", "pending"), tally)) for tally in (blocks, claims)]
+    return f"{code} known {known} {period} blocks {counts[0]} claims {counts[1]}"
+
+
+def object_of(code, known, found, claimed, blocks, claims):
+    """The object of a game."""
+    names = ("proved", "refuted", "pending")
+    unclaimed = {} if claimed or not found else {"claimed": False}
+    period = {"period": found[0], "from": found[1], **unclaimed} if found else {"period": None}
+    return {"code": code, "known": known, **period, "blocks": dict(zip(names, blocks)), "claims": dict(zip(names, claims))}
+
+
+def row_of(code, known, found, claimed, blocks, claims):
+    """The fields of a game in a table."""
+    period = [found[0], found[1], "true" if claimed else "false"] if found else ["", "", ""]
+    return [str(field) for field in (code, known, *period, *blocks, *claims)]
+
+
+def is_overview(state, games):
+    """The lines of games in each form, and which games each option leaves."""
+    due = [(code, *overview(code, game)) for code, game in games.items()]
+    named = ["0.6", *games]
+    none = ("0.6", 1, None, False, [0, 0, 0], [0, 0, 0])
+    same("lines of games", done("games", state).splitlines(), [words_of(*row) for row in due])
+    same("lines of games that are named", done("games", state, *named).splitlines(), [words_of(*row) for row in (none, *due)])
+    lines = done("games", state, "--json", *named).splitlines()
+    same("objects of games", lines, [json.dumps(object_of(*row), separators=(",", ":")) for row in (none, *due)])
+    table = done("games", state, "--csv", *named)
+    same("ends of the lines of a table", (table.count("\r\n"), table.count("\n")), (len(named) + 1, len(named) + 1))
+    head, *rows_of_table = csv.reader(io.StringIO(table, newline=""))
+    columns = [f"{what}_{status}" for what in ("blocks", "claims") for status in ("proved", "refuted", "pending")]
+    same("columns of a table", head, ["code", "known", "period", "start", "claimed", *columns])
+    same("rows of a table", rows_of_table, [row_of(*row) for row in (none, *due)])
+    cells = [[code, str(known), *(map(str, found) if found else ("--", "--"))] for code, known, found, *_ in due]
+    latex = done("games", state, "--latex")
+    front, foot = "\\begin{tabular}{lrrr}\nCode & Known & Period & Start \\\\\n\\hline\n", "\\end{tabular}\n"
+    same("a table of LaTeX", latex, front + "".join(" & ".join(row) + " \\\\\n" for row in cells) + foot)
+    for options, holds in (
+        (["--period", "12"], lambda known, found, claimed: found is not None and found[0] == 12),
+        (["--no-period"], lambda known, found, claimed: found is None),
+        (["--unclaimed"], lambda known, found, claimed: found is not None and not claimed),
+        (["--known-below", "3000"], lambda known, found, claimed: known < 3000),
+        (["--period", "34", "--unclaimed", "--known-below", "3001"], lambda known, found, claimed: found == (34, 53) and not claimed and known < 3001),
+        (["--no-period", "--known-below", "7"], lambda known, found, claimed: found is None and known < 7),
+        (["--period", "12", "--unclaimed"], lambda known, found, claimed: False),
+    ):
+        rest = [words_of(*row) for row in due if holds(*row[1:4])]
+        same(f"games with {' '.join(options)}", done("games", state, *options).splitlines(), rest)
+    same("games that are left", [done("games", state, *option).count("\n") for option in (["--period", "12"], ["--unclaimed"], ["--no-period"])], [1, 1, 1])
+    told = done("games", state, "--refuted").splitlines(keepends=True)
+    same("what is refuted of a period", done("games", state, "--refuted", "--period", "12"), "".join(line for line in told if line.startswith("0.77 ")))
+    same("a table of no game", done("games", state, "--csv", "--known-below", "1"), ",".join(head) + "\r\n")
+
+
 # ---- JSON
 
 
@@ -495,6 +621,8 @@ def is_json(text, games, notes, forks, authors, names):
         same("blocks in JSON", blocks, due["blocks"])
         claims = [(dot(row), str(row["start"]), str(row["period"]), status_of(row)) for row in game["periods"]]
         same("claims in JSON", claims, due["periods"])
+        _, period, claimed, *_ = overview(game["code"], due)
+        same("the least period in JSON", game["least_period"], {"claimed": claimed, "period": period[0], "start": period[1]} if period else None)
     same("notes in JSON", [(row["name"], dot(row), row["text"]) for row in found["notes"]], notes)
     same("forks in JSON", [(dot(row), str(row["contents"])) for row in found["forks"]], forks)
     same("authors in JSON", [(str(row["author"]), str(row["through"]), str(row["last"])) for row in found["authors"]], authors)
@@ -516,12 +644,13 @@ def main():
     games, *others = catalogue(done("show", state))
     names = {"1": NAME}
     same("texts of notes", [text for name, _, text in others[0] if name == "marks"], [MARKS])
-    games_and_one = {**games, "0.6": {"values": [0], "blocks": [], "periods": []}}
+    games_and_one = {**games, "0.6": {"code": "0.6", "values": [0], "known": [0], "blocks": [], "periods": []}}
     is_listed(games_and_one)
     is_page(done("report", state), games, *others, names, True)
     is_page(done("report", state, "--values", "all"), games, *others, names, False)
     is_json(done("json", state), games, *others, names)
     same("what is refuted", is_told(state, games, names), 2)
+    is_overview(state, games)
     folder = sites(state, (games, *others, names))
     with open(f"{folder}/report.html", "w", encoding="utf-8") as file:
         file.write(done("report", state))

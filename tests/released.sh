@@ -1,15 +1,17 @@
 #!/usr/bin/env bash
-# Whether ./census runs the released executable for exactly the sources that it was made from, and dist/check finds what differs: on
-# a copy of the sources, with a word of its own in place of the kit and of the executable, so that nothing is proved.
+# Whether ./census runs the released executable for exactly the sources that it was made from, and dist/check finds what differs, also
+# in the module for a web page: on a copy of the sources, with a word of its own in place of the kit, of the executable and of the
+# module, so that nothing is proved.
 # Also whether make test builds nothing, but says that make would.
 . "$(dirname "${BASH_SOURCE[0]}")/lib.sh"
 shopt -s nullglob
 cd "$top"
-cp -a --parents census crates.txt Makefile docs/census.1 dist tests/{run,parts.sh} crates/*/{src,specs,proofs} "$room"
+cp -a --parents census crates.txt HANDLES Makefile docs/census.1 dist tests/{run,parts.sh} crates/*/{src,specs,proofs} "$room"
 cd "$room"
-rm -f dist/census-x86_64-linux dist/sources.sha256 dist/kit
+rm -f dist/census-x86_64-linux dist/sources.sha256 dist/kit dist/page.wasm dist/web.sha256
 
-# The kit: rt version names it, and the rest fails, or makes an executable that prints its words, where the file works is there.
+# The kit: rt version names it, and the rest fails, or makes an executable that prints its words, and a module, where the file works
+# is there.
 mkdir bin
 cat >bin/rt <<'RT'
 #!/bin/sh
@@ -20,6 +22,10 @@ if [ ! -e "$ROOM/works" ]; then exit 1; fi
 if [ "$1" = run ]; then
   printf '#!/bin/sh\necho "built $*"\n' >out/census
   chmod +x out/census
+fi
+if [ "$1 ${PWD##*/}" = 'lib page' ]; then
+  mkdir -p out
+  echo 'a module' >out/page.wasm
 fi
 RT
 chmod +x bin/rt
@@ -55,7 +61,7 @@ checked_as_different() {
   build
   fails dist/check
   grep -q 'make dist' said
-  rm -rf crates/*/out
+  take_away
 }
 
 # Whether dist/check passes after a build of these sources, and says with which kit the same bytes were released and which is here.
@@ -64,7 +70,7 @@ checked_as_the_same() {
   dist/check >said
   grep -q 'byte for byte' said
   grep -q "released with the kit 'a kit', and the kit here is 'a kit of another day'" said
-  rm -rf crates/*/out
+  take_away
 }
 
 # Whether dist/check passes after a build of these sources into other bytes, and says that this kit does not vouch for those.
@@ -73,13 +79,19 @@ checked_as_vouched_for_elsewhere() {
   dist/check >said 2>&1
   grep -q "'a kit of another day', makes another executable of these sources than 'a kit'" said
   grep -q 'not vouched for here' said
-  rm -rf crates/*/out
+  take_away
 }
 
 # Puts what the kit makes of these sources where a build stands.
 build() {
   mkdir -p crates/census/out
   cp -p executable crates/census/out/census
+  touch works
+}
+
+# Takes it away again, and the kit makes nothing any more.
+take_away() {
+  rm -rf crates/*/out works
 }
 
 # Whether ./census runs the released executable and asks no kit.
@@ -105,13 +117,19 @@ dist/build 2>said
 test ! -s said
 test "$(./census show)" = 'built show'
 test "$(dist/program --ready)" = "$PWD/crates/census/out/census"
-rm works
 
 # The release, and the program without a build.
-dist/release >/dev/null
+dist/release >said 2>&1
+grep -q "make web" said
+dist/web >/dev/null 2>&1
+dist/release >said 2>&1
+test "$(wc -l <said)" = 1
 cp -p crates/census/out/census executable
+test "$(cat dist/page.wasm)" = 'a module'
 dist/check >/dev/null
-rm -rf crates/*/out
+dist/check --module >said
+grep -q 'module .* byte for byte' said
+take_away
 up_to_date
 if command -v make >/dev/null; then
   make install DESTDIR="$room/installed" PREFIX=/usr >/dev/null
@@ -134,10 +152,28 @@ up_to_date
 touch crates/census/src/more.rt
 out_of_date
 rm crates/census/src/more.rt
-echo >>crates.txt
+sed -i 's/^written:$/written: itoa/' crates.txt
 out_of_date
-sed -i '$d' crates.txt
+sed -i 's/^written: itoa$/written:/' crates.txt
 up_to_date
+
+# A source of the module alone is another: the program is the same, and the module is refused.
+echo >>crates/lent/src/lib.rt
+up_to_date
+build
+fails dist/check
+grep -q 'make web' said
+take_away
+sed -i '$d' crates/lent/src/lib.rt
+
+# One byte of the module is another: refused, where it is built.
+echo >>dist/page.wasm
+build
+dist/check >/dev/null
+fails dist/check --module
+grep -q 'module' said
+take_away
+echo 'a module' >dist/page.wasm
 
 # One byte of the released executable is another, and the kit is that of the release: refused. Nothing is built: refused.
 sed -i 's/built/boilt/' dist/census-x86_64-linux
@@ -152,9 +188,9 @@ checked_as_vouched_for_elsewhere
 cp -p executable dist/census-x86_64-linux
 up_to_date
 checked_as_the_same
-echo >>crates.txt
+sed -i 's/^written:$/written: itoa/' crates.txt
 checked_as_different
-sed -i '$d' crates.txt
+sed -i 's/^written: itoa$/written:/' crates.txt
 echo 'a kit' >kit
 
 # The machine is another one.
@@ -162,4 +198,4 @@ printf '#!/bin/sh\necho Linux aarch64\n' >bin/uname
 chmod +x bin/uname
 fails ./census show
 grep -q . asked
-echo "the released executable is run for its own sources alone, and what differs is found"
+echo "the released executable is run for its own sources alone, and what differs is found, in the module too"

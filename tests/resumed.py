@@ -50,7 +50,10 @@ def check_counts():
     object_of = '{"code":"0.16","period":149459,"from":105351,"needs":509622,"values":411603,"saved":true}\n'
     same("JSON", search(file, 1, CODE, "--json").out, object_of)
     same("a search that is not saved", done("search", "1000000", CODE, "--window"), PERIOD + "\n")
-    same("what is said", search(file, 1, CODE, "--explain").err, f"the search in {file} goes on behind 411603 values\n")
+    seen = "  a window of 411603 values shows that the period goes on; a list, without --window, needs 509622\n"
+    same("what is said", search(file, 1, CODE, "--explain").err, f"the search in {file} goes on behind 411603 values\n{seen}")
+    same("what is said of no file", run("search", "1000000", CODE, "--window", "--explain").err, seen)
+    same("what is said of a list", run("search", "1000000", CODE, "--explain").err, "")
 
 
 def lists_of(data):

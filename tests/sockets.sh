@@ -1,6 +1,6 @@
 #!/usr/bin/env bash
 # Sessions over a socket of this machine: with a hub and with `serve`; who may connect; what stands at the path before; and that the
-# socket goes in the end.
+# socket goes in the end. The unit of docs/GROUP.md, for systemd.
 . "$(dirname "${BASH_SOURCE[0]}")/lib.sh"
 
 census init group.state 1 > told
@@ -96,4 +96,13 @@ for mode in 6000 68 '' 0o6 -1; do
   ill hub group.state --unix one.sock "--mode=$mode"
   test "$(head -n 1 refused.err)" = 'census: Number'
 done
+
+# The unit of docs/GROUP.md is one that systemd takes, without a word, where the command is that of this test.
+if command -v systemd-analyze > told; then
+  make_command "$room"
+  awk '$0 == "    [Unit]" { on = 1 } on && !/^(    |$)/ { exit } on' "$top/docs/GROUP.md" |
+    sed "s/^    //; s:^ExecStart=/usr/local/bin/census:ExecStart=$room/census:" > census-hub.service
+  grep -q "^ExecStart=$room/census hub" census-hub.service
+  systemd-analyze verify "$room/census-hub.service" 2>&1 | diff /dev/null -
+fi
 echo 'sockets: sessions over a socket of this machine bring all to both sides, for whom they are open'

@@ -1,6 +1,7 @@
 #!/usr/bin/env bash
 # Sessions over standard input and output, through two pipes as ssh lends them: what each side has is on both after one of them, and is
-# confirmed in a second; a side that says something else, or ends, leaves the other as it was; four members at once lose nothing.
+# confirmed in a second; a side that says something else, or ends, leaves the other as it was; four members at once lose nothing. Where
+# an sshd is installed, a member whose key has the forced command of docs/GROUP.md can sync, and can do nothing else.
 . "$(dirname "${BASH_SOURCE[0]}")/lib.sh"
 
 mkfifo way
@@ -67,4 +68,46 @@ for each in 4 5 6 7; do
   diff "synced.$each" - <<< done
   grep -q "name-$each" log
 done
-echo 'stdio: sessions over standard input and output bring all to both sides, and lose nothing'
+
+# An sshd of this user on the loopback, with a host's key, a member's, and a configuration of its own.
+start_sshd() {
+  local port
+  port=$(free_port)
+  ssh-keygen -q -t ed25519 -N '' -f host
+  ssh-keygen -q -t ed25519 -N '' -f member
+  make_command "$room"
+  echo "command=\"cd '$room' && ./census serve --stdio group.state\",restrict $(cat member.pub)" > authorized
+  printf '%s\n' "ListenAddress 127.0.0.1:$port" "HostKey $room/host" "AuthorizedKeysFile $room/authorized" "PidFile $room/sshd.pid" \
+    'StrictModes no' 'UsePAM no' 'PasswordAuthentication no' 'AllowTcpForwarding yes' 'Subsystem sftp internal-sftp' > sshd_config
+  "$sshd" -t -f sshd_config || return 1
+  "$sshd" -D -e -f "$room/sshd_config" 2> sshd.told &
+  await_port "$port" $!
+  log_in=(ssh -F none -p "$port" -i member -o IdentitiesOnly=yes -o BatchMode=yes -o StrictHostKeyChecking=no
+    -o UserKnownHostsFile=known -o ExitOnForwardFailure=yes -o LogLevel=ERROR 127.0.0.1)
+}
+
+by_ssh='no sshd is here, so ssh was left out'
+sshd=$(PATH=$PATH:/usr/sbin:/usr/local/sbin command -v sshd || true)
+if [ -n "$sshd" ] && start_sshd 2> faults; then
+  census note anna.state over-ssh 'said over ssh' > told
+  census sync --stdio anna.state < way 2> synced | "${log_in[@]}" > way 2> served
+  diff synced - <<< done
+  diff served - <<< done
+  census log group.state | grep -q over-ssh
+
+  # Whatever the member asks for, the forced command answers, and this is no session; there is no terminal, and no port leads through.
+  cp group.state before
+  for words in "'touch broken; cat group.state'" '-s sftp'; do
+    status=0
+    eval "${log_in[*]@Q} $words" < /dev/null > sent 2> served || status=$?
+    test "$status" = 3
+  done
+  test ! -e broken
+  if "${log_in[@]}" -tt sh < /dev/null > sent 2> served; then exit 1; fi
+  grep -q '^PTY allocation request failed' served
+  if "${log_in[@]}" -N -R "$(free_port):127.0.0.1:22" < /dev/null > sent 2> served; then exit 1; fi
+  grep -q 'forwarding failed' served
+  cmp group.state before
+  by_ssh='so they do by ssh'
+fi
+echo "stdio: sessions over standard input and output bring all to both sides, and lose nothing; $by_ssh"

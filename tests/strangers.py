@@ -1,7 +1,7 @@
 #!/usr/bin/env python3
 """What one peer of a hub may not spoil for the others: a session that stays open while the hub's state is renumbered, sessions
 whose operations can't be saved, an output that nobody reads, a session by more authors than a line may name, and silent peers in
-all places. What is said of a session that failed is so. The connections are on the loopback, on a free port.
+all places; nor what many may cost it who ask for all of a great table. What is said of a session that failed is so. The connections are on the loopback, on a free port.
 """
 
 import fcntl
@@ -12,7 +12,7 @@ import subprocess
 import time
 
 from lib import ASKING, CLOCK, DELTA, EMPTY_CLOCK, END, PROGRAM, QUIET
-from lib import Hub, connect, delta, done, expect, finish, folder, frame, free_port, need, note, read, run, start
+from lib import Hub, connect, delta, done, expect, finish, folder, frame, free_port, need, note, read, run, same, start, write
 
 MEGABYTE = 1 << 20
 NOTES = 4_000  # in one frame
@@ -68,10 +68,10 @@ def renumbered():
     expect(done("note", "hub", "n", "t") == "issued 19.1\n", "the state of the hub is not renumbered any more")
 
 
-def memory(process):
-    """How many bytes a process has in memory."""
+def memory(process, which="RSS"):
+    """How many bytes a process has in memory, or has had (`HWM`)."""
     with open(f"/proc/{process.pid}/status", encoding="ascii") as file:
-        return 1024 * int(re.search(r"VmRSS:\s+(\d+)", file.read())[1])
+        return 1024 * int(re.search(rf"Vm{which}:\s+(\d+)", file.read())[1])
 
 
 def unsaved():
@@ -163,7 +163,7 @@ def unread():
 def long_lines():
     """A session by many authors has a line that is no longer than others may be."""
     states(hub=9)
-    with Hub("hub") as hub:
+    with Hub("hub", "--authors", "5000") as hub:
         peer = greeted(hub)
         peer.sendall(frame(DELTA, delta(*(note(author, 1, b"n", b"") for author in range(100_000, 103_000)))) + frame(END))
         expect(read_to_end(peer), "a session by many authors is not done")
@@ -196,11 +196,41 @@ def silent():
             pass
 
 
+def stamp(path):
+    """Which file it is, and when it was last written."""
+    there = os.stat(path)
+    return there.st_ino, there.st_mtime_ns, there.st_size
+
+
+def great():
+    """64 peers ask for all of a great table and read nothing, and an honest one comes by: there is no copy of the table for a peer,
+    and none for its text, as it is saved. A session that brings a member nothing leaves its file as it is."""
+    values = struct.pack(">IH", 0, 1024) + bytes(4096)
+    blocks = [struct.pack(">IIB", 9, number, 1) + b"\0\1\3" + values for number in range(1, 5001)]
+    for name, author in (("hub", 9), ("anna", 1)):
+        write(name, b"OGS1" + struct.pack(">I", author) + delta(*blocks, edition=1))
+    size = os.path.getsize("hub")
+    done("note", "anna", "n", "t")
+    before = stamp("anna")
+    with Hub("hub", "--patience", "60") as hub:
+        deaf = [hub.connect(frame(CLOCK, EMPTY_CLOCK)) for _ in range(60)]
+        hub.await_line(hub.served, r"listening on .*")
+        with open(f"/proc/{hub.runs.pid}/clear_refs", "w", encoding="ascii") as file:
+            file.write("5")  # forgets what it had
+        done("sync", "anna", hub.address)
+        most = memory(hub.runs, "HWM")
+        expect(most < 1.2 * size + (len(deaf) + 8) * MEGABYTE, f"a hub over {size} bytes with {len(deaf)} deaf peers has {most} in memory")
+        for peer in deaf:
+            peer.close()
+    same("the file of a member that is brought nothing", stamp("anna"), before)
+    expect("note n 1.1 t\n" in done("show", "hub"), "the note of an honest peer beside deaf ones is lost")
+
+
 def main():
-    for case in (renumbered, unsaved, said_of_what_came, unread, long_lines, silent):
+    for case in (renumbered, unsaved, said_of_what_came, unread, long_lines, silent, great):
         with folder():
             case()
-    finish("sessions that stay, can't be saved, are silent or by many, and an output that nobody reads: none stops others")
+    finish("sessions that stay, can't be saved, are silent, deaf or by many, and an output that nobody reads: none stops others")
 
 
 main()

@@ -112,7 +112,10 @@ def try_blocks():
     listed[1500] += 4
     rows = "".join(f"{heap} {value}\n" for heap, value in enumerate(listed)).encode()
     said_of("claim a.state 0.77 -", "3 new: 2 proved, 1 refuted, 0 pending" + lists("a.state") + "\n", given=rows)
-    said_of("claim a.state 0.77 -", "7.11: proved\n", given=b"100 " + str(values[100]).encode() + b"\n")
+    write("b.txt", rows)
+    check = "  census check 0.77 b.txt lists each wrong value\n"
+    said_of("claim a.state 0.77 b.txt", "3 new: 2 proved, 1 refuted, 0 pending" + lists("a.state") + "\n" + check)
+    said_of("claim a.state 0.77 -", "7.14: proved\n", given=b"100 " + str(values[100]).encode() + b"\n")
 
 
 def try_chance():
@@ -139,7 +142,7 @@ def try_exchange():
         if os.path.exists(path):
             os.remove(path)
     done("init a.state 1")
-    # What was pending before is no news, although what comes decides it.
+    # What was pending before is not new, but what comes decides it.
     done("import a.state -", block("0.77", 150, values[150:160]))
     done("init b.state 2")
     done("compute b.state 0.77 199")
@@ -152,14 +155,53 @@ def try_exchange():
     done("note b.state kayles twelve")
     done("delta b.state b.delta")
     fresh = read("a.state")
-    due = "7 new: 3 proved, 3 refuted, 1 pending" + lists("a.state") + "\n"
+    due = "7 new: 3 proved, 3 refuted, 1 pending" + lists("a.state") + "\ndecided now: 1.1: proved\n"
     said_of("merge a.state b.delta", due)
     said_of("merge a.state b.delta", "")
     # Where one operation alone is new, it is said what became of it.
     done("period b.state 0.77 72 12")
     done("delta b.state b.delta")
     said_of("merge a.state b.delta", "2.9: proved\n")
-    try_session(fresh, "8 new: 4 proved, 3 refuted, 1 pending" + lists("a.state") + "\n")
+    try_session(fresh, "8 new: 4 proved, 3 refuted, 1 pending" + lists("a.state") + "\ndecided now: 1.1: proved\n")
+
+
+def try_decided():
+    """What was pending and is decided by what comes: one's own apart, what others said, and nothing twice."""
+    values = nim_values("0.77", 300)
+    for path in ("a.state", "b.state"):
+        os.remove(path)
+    done("init b.state 3")
+    done("import b.state -", block("0.77", 180, values[180:190]))
+    done("delta b.state b.delta")
+    done("init a.state 2")
+    wrong = [values[150] + 1, *values[151:160]]
+    said_of("import a.state -", "2.1: pending, since it starts beyond the known values\n", given=block("0.77", 150, wrong))
+    said_of("import a.state -", "2.2: pending, since it starts beyond the known values\n", given=block("0.77", 160, values[160:170]))
+    said_of("period a.state 0.77 71 12", "2.3: pending, until the first 168 values are known\n")
+    said_of("period a.state 0.77 70 12", "2.4: pending, until the first 166 values are known\n")
+    # What nothing decides is not counted, nor what another game has.
+    said_of("import a.state -", "2.5: pending, since it starts beyond the known values\n", given=block("0.77", 250, values[250:260]))
+    said_of("import a.state -", "2.6: pending, since it starts beyond the known values\n", given=block("0.6", 10, [1, 2]))
+    said_of("merge a.state b.delta", "3.1: pending, since it starts beyond the known values\n")
+    # The values decide claims of periods alone; a proved period decides each block.
+    os.remove("b.state")
+    done("init b.state 1")
+    done("compute b.state 0.77 70")
+    done("compute b.state 0.77 70")
+    done("compute b.state 0.6 4")
+    done("delta b.state b.delta")
+    break_at = first_break(values, 70, 12)
+    later = break_at + 12
+    due = f"2.4: refuted at {break_at}, which has the value {values[break_at]}, and {later} the value {values[later]}\n"
+    said_of("merge a.state b.delta", "3 new: 3 proved, 0 refuted, 0 pending\ndecided now: " + due)
+    done("compute b.state 0.77 59")
+    done("compute b.state 0.6 4")
+    done("delta b.state b.delta")
+    counts = "decided now: 3 of yours proved, 1 of yours refuted, 1 of others proved" + lists("a.state") + "\n"
+    said_of("merge a.state b.delta", "2 new: 2 proved, 0 refuted, 0 pending\n" + counts)
+    said_of("compute a.state 0.77 10", "2.7: proved\n")
+    # What one says oneself decides what was pending, too.
+    said_of("compute a.state 0.6 10", "2.8: proved\ndecided now: 2.6: refuted at 10, claimed 1, true 3\n")
 
 
 def try_session(fresh, counts):
@@ -209,6 +251,7 @@ def main():
     try_blocks()
     try_chance()
     try_exchange()
+    try_decided()
     try_twice()
     try_surveys()
     finish(f"verdicts: what became of it is said of each of {tried} commands where it should be, and only there")

@@ -22,6 +22,7 @@ HEAPS = 65_535 // PART
 LINES = 2_000_000 // PART
 REMOVALS = 10_000 // PART
 NOTES = 1_000_000 // PART
+NAMES = 20_000
 
 
 def state(*operations, count=None):
@@ -120,6 +121,16 @@ def try_long_delta():
     report("the same delta again", again, again.lines == ["new 0"], 20 // PART, 800)
 
 
+def try_names():
+    """Authors with names, each of whom says a block that is wrong: a pass over all names for each of them would take minutes."""
+    said = ((note(author, 1, b"author-name", b"Anna"), block(author, 2, 1, 5)) for author in range(1, NAMES + 1))
+    write("state", state(*(operation for operations in said for operation in operations)))
+    for words, times in ((["games", "--refuted", "state"], 1), (["json", "state"], 2), (["report", "state"], 5), (["site", "state", "pages"], 0)):
+        ran = Ran(*words)
+        right = sum(line.count("Anna") for line in ran.lines) == times * NAMES
+        report(f"{NAMES:,} authors with names, by {words[0]}", ran, right, 2, 64)
+
+
 def try_greatest_files():
     """Files at the limit of 2^30 bytes and one byte past it: holes, and a count that the bytes cannot hold."""
     write("state", state(count=0xFFFFFFFF))
@@ -179,6 +190,7 @@ def main():
     try_lines_that_are_no_deltas()
     try_removals()
     try_long_delta()
+    try_names()
     try_greatest_files()
     finish("each answer came within its time and its memory")
 

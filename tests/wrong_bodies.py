@@ -16,7 +16,7 @@ definition, a constant or a clause, is tried alone, and so is what is not refuse
 whole crate only where that is not refused.
 
 The crate as it stands is proved already: `rt ci` or `rt lib` left its library in out/, or it is built first, and so is what it
-stands on. A check proves the functions of its edits, and what they call. The first one of a crate begins with what `rt check` kept,
+stands on. A static library leaves nothing there, so its first check is of the sources as they are. A check proves the functions of its edits, and what they call. The first one of a crate begins with what `rt check` kept,
 or with nothing, and the others go on from its work. Some checks run side by side: as many as there are processors, or RT_JOBS,
 where each finds MEMORY bytes free. An edit is refused by a clause where an error stands in the proof of its function, or a goal of
 it is left open. It doesn't count where all errors are of names: a proof that names what the edit took away, or a text that doesn't
@@ -277,10 +277,11 @@ def is_left_by_ci(known):
 
 def build_libraries(crates):
     """Builds the libraries of these crates and those below, where rt ci has not just left them, and returns why that failed, if it did.
-    A crate whose library is there is proved as it stands."""
+    A crate whose library is there is proved as it stands; a static one is a library of no other crate."""
     wanted = []
     for crate in crates:
-        wanted += [it for it in [*crate.known.below(), crate.known] if it not in wanted]
+        own = [] if crate.known.is_static else [crate.known]
+        wanted += [it for it in [*crate.known.below(), *own] if it not in wanted]
     if all(is_left_by_ci(it) for it in wanted):
         return None
     for known in wanted:
@@ -292,12 +293,12 @@ def build_libraries(crates):
 
 
 class Check:
-    """One check of a crate with some edits, and what it came to. Where it is the crate's first it leaves its work for the others, which
-    go on from a copy."""
+    """One check of a crate with some edits, or with none, of what all of them change, and what it came to. Where it is the crate's first
+    it leaves its work for the others, which go on from a copy."""
 
     def __init__(self, crate, edits):
         self.crate, self.edits, self.is_first, self.is_again, self.unknown = crate, edits, False, False, set()
-        self.is_whole = False
+        self.about, self.is_whole = edits or crate.left, False
         self.status, self.lines, self.seconds, self.memory = None, [], 0.0, 0.0
 
     def paths(self):
@@ -306,15 +307,15 @@ class Check:
         if self.is_whole:
             return []
         # (what calls a refused function would be tried again, to no end)
-        changed = [path_of(place) for it in self.edits for place in it.places or []]
+        changed = [path_of(place) for it in self.about for place in it.places or []]
         found = {module if path in self.unknown else path for path, module in changed}
-        found.update(path for it in self.edits if not it.places for path in it.named)
+        found.update(path for it in self.about if not it.places for path in it.named)
         return [] if "" in found else sorted(found)
 
     def unknown_path(self):
         """Returns the path of a changed function that the prover said not to know, if it did."""
         said = next((match[1] for it in self.lines for match in [NO_FUNCTION.search(it)] if match), None)
-        known = {path_of(place)[0] for it in self.edits for place in it.places or []}
+        known = {path_of(place)[0] for it in self.about for place in it.places or []}
         return said if said in known - self.unknown else None
 
     def has_verdict(self):
@@ -447,7 +448,7 @@ class Trials:
             groups = parted([it for it in crate.left if it.places])
             groups += [[it] for it in crate.left if not it.places]
             crate.groups = len(groups)
-            crate.later = [Check(crate, it) for it in groups]
+            crate.later = [Check(crate, it) for it in ([[]] if crate.known.is_static else []) + groups]
             self.begin_first(crate)
 
     def begin_first(self, crate):
@@ -500,6 +501,12 @@ class Trials:
             # most likely for memory
             check.is_again = True
             return [check]
+        if not check.edits:
+            if check.status:
+                for edit in [*check.about]:
+                    self.settle(check.crate, edit, UNSURE, f"without it the crate is not proved: {' '.join(check.lines[:3])}")
+                check.crate.later = []
+            return []
         if len(check.edits) == 1:
             kind, told = judged_alone(check)
             if kind in (MISSED, BY_NAME) and check.paths():

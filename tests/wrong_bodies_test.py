@@ -1,9 +1,10 @@
 #!/usr/bin/env python3
-"""Tests wrong_bodies.py over a crate of five small functions that is made for it. Takes some twelve short checks, about a minute.
+"""Tests wrong_bodies.py over a crate of five small functions that is made for it. Takes some fifteen short checks, about a minute.
 
 A wrong body is refused; so are two of one function, each in a group of its own. A body that is right is reported, though the
 function that it calls has a wrong one in its group; so is an edit that doesn't compile, though others stand beside it, one that
-a proof file refuses for a name alone, and one that fits no line. What was refused is not tried again.
+a proof file refuses for a name alone, and one that fits no line. What was refused is not tried again. Nothing is said of a static
+library that is not proved as it stands.
 """
 
 import os
@@ -52,6 +53,20 @@ pub fn second(a: u8, b: u8) -> u8
     ensures { result ≡ b }
 {
     b // second
+}
+"""
+STATIC = """\
+//! A number.
+#![tactic(auto)]
+
+ghost use Rattle.std.specs.Prelude.{◌≡◌};
+
+/// Two.
+#[unsafe(no_mangle)]
+pub extern "C" fn two() -> u8
+    ensures { result ≡ 2 }
+{
+    2 // two
 }
 """
 ANSWERS = """\
@@ -109,6 +124,14 @@ def main():
                 os.remove(f"{crate}/wrong/{name}.edit")
         status, said = run(room)
         need(status == 0 and "3, of which 3 were refused by an earlier run" in said, said)
+        write(f"{room}/repository/crates.txt", "small:\nheld staticlib:\n")
+        write(f"{room}/repository/crates/held/wrong/two_is_three.edit", "file: src/lib.rt\nold:     2 // two\nnew:     3\n")
+        write(f"{room}/repository/crates/held/src/lib.rt", STATIC.replace("result ≡ 2", "result ≡ 4"))
+        status, said = run(room)
+        need(status == 1 and "held/two_is_three: NOT TRIED: without it the crate is not proved" in said, said)
+        write(f"{room}/repository/crates/held/src/lib.rt", STATIC)
+        status, said = run(room)
+        need(status == 0 and "held/two_is_three: refused: " in said, said)
     print("wrong_bodies_test: as it has to be")
     return 0
 

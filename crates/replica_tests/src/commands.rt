@@ -391,7 +391,7 @@ const ISSUES: &[Script<'static>] = &[
 const KAYLES: &[u8] = b"# Kayles\r\n\r 1\t1 \n2 2\r3   3\n4 1";
 
 const CLAIMED_JSON: &str =
-    "{\"authors\":[{\"author\":7,\"last\":1,\"through\":1}],\"census\":2,\"forks\":[],\"games\":[{\"blocks\":[{\"author\":7,\"count\":4,\"number\":1,\"start\":1,\"status\":\"proved\"}],\"code\":\"0.77\",\"known\":5,\"periods\":[],\"values\":[0,1,2,3,1]}],\"notes\":[]}\n";
+    "{\"authors\":[{\"author\":7,\"last\":1,\"through\":1}],\"census\":2,\"forks\":[],\"games\":[{\"blocks\":[{\"author\":7,\"count\":4,\"number\":1,\"start\":1,\"status\":\"proved\"}],\"code\":\"0.77\",\"known\":5,\"least_period\":null,\"periods\":[],\"values\":[0,1,2,3,1]}],\"notes\":[]}\n";
 
 const VIEWS: &[Script<'static>] = &[
     // A b-file is claimed, and shown in other forms; so is a game of which nothing is claimed.

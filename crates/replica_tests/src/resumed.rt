@@ -2,8 +2,8 @@
 
 use crate::answers::{check, check_equal};
 use census_core::{
-    Fault, Forgetful, Form, Keeper, Place, Progress, Unkept, read_search, resume_in_windows,
-    search_in_windows, write_place,
+    Fault, Form, Keeper, Place, Unkept, read_search, resume_in_windows, search_in_windows,
+    write_place,
 };
 use oct_code::Code;
 use std::alloc::{AllocGlobal, Global};
@@ -15,10 +15,21 @@ struct Album {
     alloc: Global,
     texts: Vec<Vec<u8>>,
     lasts: u32,
+    is_full: bool,
 }
 
-impl Progress for Album {
-    fn tell(&mut self, _code: Code, _known: u64, _wanted: u64) {}
+impl Album {
+    ghost use Rattle.std.specs.Prelude.{◌≡◌};
+
+    // Adds the text of a place, where there is memory for it.
+    fn add(&mut self, place: &Place<Global>) -> bool
+        ensures { self.new.is_full ≡ self.old.is_full }
+    {
+        match write_place(self.alloc, place) {
+            Ok(text) => self.texts.push(text).is_ok(),
+            Err(_) => false,
+        }
+    }
 }
 
 impl Keeper<Global> for Album {
@@ -26,24 +37,24 @@ impl Keeper<Global> for Album {
 
     ghost may_refuse = { true };
 
+    ghost has_refused = { λ s. s.is_full };
+
+    fn tell(&mut self, _code: Code, _known: u64, _wanted: u64) {}
+
     fn keep(&mut self, place: &Place<Global>, is_last: bool) -> Result<(), Unkept> {
-        let Ok(text) = write_place(self.alloc, place) else {
-            return Err(Unkept);
-        };
         self.lasts = self.lasts.saturating_add(u32::from(is_last));
-        match self.texts.push(text) {
-            Ok(()) => Ok(()),
-            Err(_) => Err(Unkept),
+        if self.add(place) {
+            return Ok(());
         }
+        self.is_full = true;
+        Err(Unkept)
     }
 }
 
-/// Refuses each place.
+/// Refuses the first place, and no other.
 #[derive(Drop)]
-struct Refusing;
-
-impl Progress for Refusing {
-    fn tell(&mut self, _code: Code, _known: u64, _wanted: u64) {}
+struct Refusing {
+    has_refused: bool,
 }
 
 impl Keeper<Global> for Refusing {
@@ -51,7 +62,15 @@ impl Keeper<Global> for Refusing {
 
     ghost may_refuse = { true };
 
+    ghost has_refused = { λ s. s.has_refused };
+
+    fn tell(&mut self, _code: Code, _known: u64, _wanted: u64) {}
+
     fn keep(&mut self, _place: &Place<Global>, _is_last: bool) -> Result<(), Unkept> {
+        if self.has_refused {
+            return Ok(());
+        }
+        self.has_refused = true;
         Err(Unkept)
     }
 }
@@ -84,7 +103,7 @@ fn goes_on(rt: &(impl Abort + AllocGlobal), code: Code, text: &[u8]) {
     };
     let same = write_place(alloc, &place).ok().expect(rt, "memory");
     check_equal(rt, same.as_slice(), text, "the place");
-    let mut keeper = Forgetful(&mut album_of_none(alloc));
+    let mut keeper = album_of_none(alloc);
     let line = resume_in_windows(alloc, place, 1_000_000, Form::Lines, &mut keeper);
     is_line(rt, line, RESUMED);
 }
@@ -108,12 +127,14 @@ fn album_of_none(alloc: Global) -> Album {
         alloc,
         texts: Vec::new(alloc),
         lasts: 0,
+        is_full: false,
     }
 }
 
 #[test]
 fn a_place_that_is_not_kept_ends_a_search(rt: HostRuntime) {
     let code = Code::parse(b"0.16").ok().expect(&rt, "a code");
-    let line = search_in_windows(rt.alloc(), code, 70_000, Form::Lines, &mut Refusing);
+    let mut keeper = Refusing { has_refused: false };
+    let line = search_in_windows(rt.alloc(), code, 1_000_000, Form::Lines, &mut keeper);
     check_equal(&rt, line.err(), Some(Fault::File), "the fault");
 }

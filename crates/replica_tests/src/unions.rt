@@ -2,7 +2,7 @@
 
 use crate::answers::{check, check_equal, is_text};
 use crate::texts::{CUT_STATE, EMPTY_STATE, FIRST_STATE, bytes};
-use census_core::{Fault, Reply, rejoin, rejoin_grown};
+use census_core::{Fault, Reply, rejoin, rejoined_text, write_state};
 use oct_ops::Dot;
 use oct_record::Record;
 use oct_replica::LoadError;
@@ -150,11 +150,19 @@ fn a_number_that_two_use_is_seen(rt: HostRuntime) {
 fn what_grew_is_written_as_it_is_held(rt: HostRuntime) {
     let loaded = Record::load(rt.alloc(), &bytes(&rt, ONE_STATE));
     let loaded = loaded.ok().expect(&rt, ONE_STATE);
-    let reply = rejoin_grown(rt.alloc(), 0, &loaded);
-    is_union(
+    let text = rejoined_text(rt.alloc(), 0, &loaded);
+    is_text(
         &rt,
-        &reply.ok().expect(&rt, ONE_STATE),
+        &text.ok().expect(&rt, ONE_STATE),
         "new 1 operations 1\n",
-        ONE_STATE,
+        "the text",
+    );
+    let mut state = Vec::new(rt.alloc());
+    let written = write_state(&loaded, &mut state);
+    written.ok().expect(&rt, ONE_STATE);
+    check(
+        &rt,
+        state == bytes(&rt, ONE_STATE),
+        format_args!("not {ONE_STATE}: {state:?}"),
     );
 }

@@ -1,0 +1,85 @@
+#!/usr/bin/env bash
+# `census search --note` and `census recheck`: periods that no claim can have, as notes that are searched for again.
+. "$(dirname "${BASH_SOURCE[0]}")/lib.sh"
+
+census init anna 1 >/dev/null
+census init ben 2 >/dev/null
+
+# A long period is noted behind its line, and only once; a claim can have a short one.
+census search 1000000 0.16 0.77 --note anna >said
+cmp said - <<'END'
+0.16 period 149459 from 105351 needs 509622 values 509622
+issued 1.1
+0.77 period 12 from 71 needs 168 values 195
+END
+census show anna | grep -F '0.16 period 149459 from 105351' | grep -Fc period-0-16 | cmp - <(echo 1)
+census search 1000000 0.16 --note anna --at 5 >said
+cmp said - <<'END'
+0.16 period 149459 from 105351 needs 509622 values 509622
+0.16 at 5 value 2
+END
+census recheck anna | cmp - <(echo '0.16 period 149459 from 105351 is so')
+
+# Whoever issued it: what another one noted is not noted again.
+census delta anna anna.delta >/dev/null
+census merge ben anna.delta >/dev/null
+cp ben before
+census search 1000000 0.16 --window --note ben >/dev/null
+cmp ben before
+
+# What is not so, in the order of the notes; a name that is not as it is printed is nobody's.
+census note ben period-0-77 '0.77 period 24 from 71' >/dev/null
+census note ben period-0-6 '0.6 period 100 from 1' >/dev/null
+census note ben period-0-07 'perhaps 34' >/dev/null
+census note ben period-0-106 '0.106 period 328226140474 from 465384263797' >/dev/null
+census note ben period-0-160 '0.16 period 1 from 1' >/dev/null
+census note ben period '0.16 period 1 from 1' >/dev/null
+status=0
+census recheck ben >said || status=$?
+[ $status = 1 ]
+cmp said - <<'END'
+note 2.3 says no period
+0.106 period 328226140474 from 465384263797 needs more than 4294967296 values
+0.16 period 149459 from 105351 is so
+0.6 no period in 203 values, and not period 100 from 1
+0.77 period 12 from 71, and not 24 from 71
+END
+census recheck ben 0.16 0.4 | cmp - <(echo '0.16 period 149459 from 105351 is so')
+status=0
+census recheck ben 0.77 >said || status=$?
+[ $status = 1 ]
+cmp said <(echo '0.77 period 12 from 71, and not 24 from 71')
+
+# A note of the right name that says more, or another game's period, says none; one that was taken back is not read.
+census note ben period-0-77 '0.77 period 12 from 71, by hand' >/dev/null
+census note ben period-0-77 '0.07 period 34 from 53' >/dev/null
+census note ben period-0-77 '0.77 period 012 from 71' >/dev/null
+census recheck ben 0.77 >said || true
+cmp said - <<'END'
+0.77 period 12 from 71, and not 24 from 71
+note 2.7 says no period
+note 2.8 says no period
+note 2.9 says no period
+END
+census unnote ben period-0-77 >/dev/null
+census recheck ben 0.77 | cmp - /dev/null
+census note ben period-0-77 '0.77 period 12 from 71' >/dev/null
+census recheck ben 0.77 | cmp - <(echo '0.77 period 12 from 71 is so')
+
+# What is refused: before anything is searched, what is no state.
+refused() {
+  local due=$1 status=0
+  shift
+  census "$@" >said 2>fault || status=$?
+  [ $status = "${due%% *}" ]
+  cmp said /dev/null
+  [ "$(head -n 1 fault)" = "census: ${due#* }" ]
+}
+echo anna >none
+refused '1 Load Version' search 1000000 0.16 --note none
+refused '1 Load Version' recheck none
+refused '3 File' search 1000000 0.16 --note nowhere
+refused '3 File' recheck nowhere
+refused '1 Code Form' recheck anna 16
+refused '2 Words' search 1000000 0.16 --note anna --json
+refused '2 Words' search 1000000 0.16 --note anna --bfile
