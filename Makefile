@@ -3,11 +3,12 @@
 # make check       every proof from nothing, and then these tests, some of them in a longer form
 # make install     the executable, its page of the manual and its completions for shells, below PREFIX
 # make dist        makes the build the released executable
+# make web         proves and builds the module of the web page, and puts it there
 # make clean       gives the disk back that proofs and builds take
 PREFIX = /usr/local
 SHARE = $(DESTDIR)$(PREFIX)/share
 
-.PHONY: all test check install dist clean
+.PHONY: all test check install dist web clean
 
 all:
 	@dist/build
@@ -27,6 +28,10 @@ install:
 
 dist: all
 	dist/release
+
+web:
+	dist/web
+	dist/pack
 
 clean:
 	rm -rf crates/*/out
