@@ -5,6 +5,7 @@ pub mod Lines
 pub mod GameParts
 pub mod Building
 pub mod BuiltGames
+pub mod InGames
 pub mod Keys
 pub mod RestLines
 mod GroupLaws

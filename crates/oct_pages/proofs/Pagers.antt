@@ -3,9 +3,10 @@ use Rattle.std.proofs.Common.{arith, ◌≡◌, ◌≤◌, ℕ, zero, suc, ◌-�
 use Rattle.std.specs.Prelude.{nat_lt}
 use Rattle.std.specs.List.{concat}
 use Rattle.std.proofs.lemmas.List.{append-nil, drop_all}
+use Rattle.std.proofs.lemmas.Bool.{false≢true}
 use Rattle.std.proofs.lemmas.Bool.Decides.{nat_tests}
 use Rattle.oct_pages.specs.Catalogue.{Text}
-use Rattle.oct_pages.specs.Pager.{shows, passed, seen_line, seen, after, is_reached, AreShown}
+use Rattle.oct_pages.specs.Pager.{shows, passed, seen_line, seen, after, is_full, is_over, is_reached, AreShown}
 use Rattle.oct_pages.specs.declared.pager.Pager.{Pager}
 use Rattle.oct_pages.specs.declared.pager.Pager.TheVariants.{All, Page}
 
@@ -112,3 +113,14 @@ past before n h = grind (arith, nat_tests, h)
 
 pub no_page : (before : ℕ) (lines : List Text) → nat_lt before (length lines) ≡ false → concat (take 64 (drop before lines)) ≡ []
 no_page before lines none = ap (λ ls. concat (take 64 ls)) (drop_all before lines (past before (length lines) none))
+
+-- ---- a page that is full
+
+over_at : (before left : ℕ) (text : Text) (lines : List Text) → is_full before left ≡ true → AreShown (Page before left) (Page before left) text text lines
+over_at zero zero text lines is = record { text = sym (append-nil text) ∙ ap (λ t. text ++ t) (sym (none_left lines)); pager = sym (none_after lines) }
+over_at zero (suc left) text lines is = absurd (false≢true is)
+over_at (suc before) left text lines is = absurd (false≢true is)
+
+pub over_shown : (w : Pager) (text : Text) (lines : List Text) → is_over w ≡ true → AreShown w w text text lines
+over_shown All text lines is = absurd (false≢true is)
+over_shown (Page before left) text lines is = over_at before left text lines is

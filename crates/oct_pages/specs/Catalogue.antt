@@ -1,7 +1,6 @@
 -- The catalogue of a set of operations, line by line. The operations are listed in their order.
 use Rattle.std.specs.Prelude.{ℕ, ◌*◌, Bool, true, false, nat_lt, List, [], ◌∷◌, ◌++◌, map, length, take, drop, codes, Option, Some, None}
 use Rattle.std.specs.List.{filter_map, flat_map, concat, range_with_len}
-use Rattle.std.specs.Fmt.{decimal}
 use Rattle.std.specs.Int.{div_ceil}
 use Rattle.oct_code.specs.Code.{Code, code_cmp, code_eq}
 use Rattle.oct_code.specs.CodeText.{code_text}
@@ -159,17 +158,25 @@ heading = codes "census 2\n"
 abbrev pub ending : Text
 ending = codes "end\n"
 
-abbrev pub lines : List Operation → List Text
-lines ops =
+-- what is said of a part of the operations, and the authors of the whole
+abbrev pub lines_among : List Operation → List Operation → List Text
+lines_among part whole =
     heading
-    ∷ flat_map (game_lines ops) (games ops)
-    ++ map note_line (live_notes ops)
-    ++ map (fork_line ops) (summary.forks ops)
-    ++ map (author_line ops) (summary.authors ops)
+    ∷ flat_map (game_lines part) (games part)
+    ++ map note_line (live_notes part)
+    ++ map (fork_line part) (summary.forks part)
+    ++ map (author_line whole) (summary.authors whole)
     ++ ending ∷ []
+
+abbrev pub lines : List Operation → List Text
+lines ops = lines_among ops ops
 
 abbrev pub catalogue : List Operation → Text
 catalogue ops = concat (lines ops)
+
+-- the catalogue of a part, with the authors of the whole
+abbrev pub catalogue_among : List Operation → List Operation → Text
+catalogue_among part whole = concat (lines_among part whole)
 
 -- ---- pages
 

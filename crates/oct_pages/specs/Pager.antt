@@ -46,3 +46,14 @@ pub record AreShown (w v : Pager) (old new : Text) (lines : List Text) : Type 0 
 abbrev pub is_reached : Pager → Bool
 is_reached All = true
 is_reached (Page before left) = nat_lt left page_length
+
+-- the page is full
+abbrev pub is_full : ℕ → ℕ → Bool
+is_full zero zero = true
+is_full zero (suc left) = false
+is_full (suc before) left = false
+
+-- no line to come is shown, and none has to be counted
+abbrev pub is_over : Pager → Bool
+is_over All = false
+is_over (Page before left) = is_full before left

@@ -4,7 +4,7 @@
 ghost use Rattle.std.specs.Prelude.{◌≡◌, ◌++◌, false, OnOk, OnErr, IfOk};
 ghost use Rattle.oct_notes.specs.Notes.{notes_of};
 ghost use Rattle.oct_ops.specs.Operations.{listed};
-ghost use Rattle.oct_pages.specs.Catalogue.{catalogue, has_page, lines, page as page_text};
+ghost use Rattle.oct_pages.specs.Catalogue.{catalogue, catalogue_among, has_page, lines_among, page as page_text};
 ghost use Rattle.oct_pages.specs.GamesIn.{AreGamesIn};
 ghost use Rattle.oct_ops.specs.Growth.{Extends};
 ghost use Rattle.oct_pages.specs.Rest.{lines_after_games};
@@ -36,7 +36,7 @@ pub fn write_catalogue_with<A: Allocator + Copy>(
     ensures ok { OnOk result (out.new.items ≡ out.old.items ++ catalogue (listed said.now.ops)) }
     ensures err { OnErr result (out.new.items ≡ out.old.items) }
 {
-    append_shown(said, kept, &mut Pager::All, out)
+    append_shown(said, said.store(), kept, &mut Pager::All, out)
 }
 
 /// Appends one page of that catalogue, its lines from `64 * page` on, at most 64 of them, and says whether there is
@@ -54,7 +54,7 @@ pub fn write_page_with<A: Allocator + Copy>(
     ensures err { OnErr result (out.new.items ≡ out.old.items) }
 {
     let mut pager = Pager::page(page);
-    append_shown(said, kept, &mut pager, out)?;
+    append_shown(said, said.store(), kept, &mut pager, out)?;
     Ok(pager.is_reached())
 }
 
@@ -68,6 +68,20 @@ pub fn write_catalogue_of<A: Allocator + Copy>(
     ensures err { OnErr result (out.new.items ≡ out.old.items) }
 {
     write_catalogue_with(said, &BTreeMap::new(said.allocator()), out)
+}
+
+/// Appends the catalogue of a part of what was said, in which the authors are those of the whole; one game is in memory at a time. The
+/// one error is that memory is refused, and then `out` stays as it is.
+pub fn write_catalogue_among<A: Allocator + Copy>(
+    part: &Record<A>,
+    whole: &Record<A>,
+    out: &mut Vec<u8, A>,
+) -> Result<(), AllocError>
+    ensures ok { OnOk result (out.new.items ≡ out.old.items ++ catalogue_among (listed part.now.ops) (listed whole.now.ops)) }
+    ensures err { OnErr result (out.new.items ≡ out.old.items) }
+{
+    let kept = BTreeMap::new(part.allocator());
+    append_shown(part, whole.store(), &kept, &mut Pager::All, out)
 }
 
 /// Appends one page of that catalogue, its lines from `64 * page` on, at most 64 of them, and says whether there is
@@ -85,19 +99,20 @@ pub fn write_page_of<A: Allocator + Copy>(
     write_page_with(said, &BTreeMap::new(said.allocator()), page, out)
 }
 
-// Appends what is shown of all lines. Where memory is refused, `out` stays as it is.
+// Appends what is shown of all lines, the authors being those of the whole. Where memory is refused, `out` stays as it is.
 fn append_shown<A: Allocator + Copy>(
     said: &Record<A>,
+    whole: &Store<A>,
     kept: &BTreeMap<Code, Game<A>, A>,
     pager: &mut Pager,
     out: &mut Vec<u8, A>,
 ) -> Result<(), AllocError>
     requires { AreGamesIn said.now.ops kept.now }
-    ensures ok { OnOk result (AreShown pager.old pager.new out.old.items out.new.items (lines (listed said.now.ops))) }
+    ensures ok { OnOk result (AreShown pager.old pager.new out.old.items out.new.items (lines_among (listed said.now.ops) (listed whole.now))) }
     ensures err { OnErr result (out.new.items ≡ out.old.items) }
 {
     let before = out.len();
-    let written = append_lines(out, pager, said, kept);
+    let written = append_lines(out, pager, said, whole, kept);
     if written.is_err() {
         out.truncate(before);
     }
@@ -109,31 +124,33 @@ fn append_lines<A: Allocator + Copy>(
     out: &mut Vec<u8, A>,
     pager: &mut Pager,
     said: &Record<A>,
+    whole: &Store<A>,
     kept: &BTreeMap<Code, Game<A>, A>,
 ) -> Result<(), AllocError>
     requires { AreGamesIn said.now.ops kept.now }
-    ensures ok { OnOk result (AreShown pager.old pager.new out.old.items out.new.items (lines (listed said.now.ops))) }
+    ensures ok { OnOk result (AreShown pager.old pager.new out.old.items out.new.items (lines_among (listed said.now.ops) (listed whole.now))) }
     ensures grown { Extends out.old.items out.new.items }
 {
     show(out, pager, &Fixed(b"census 2\n"))?;
     append_games(out, pager, said, kept)?;
-    append_rest(out, pager, said.store(), said.notes())
+    append_rest(out, pager, said.store(), said.notes(), whole)
 }
 
-// Appends what is shown of the lines after the games.
-fn append_rest<A: Allocator + Copy>(
+/// Appends what is shown of the lines after the games, the authors being those of the whole.
+pub(crate) fn append_rest<A: Allocator + Copy>(
     out: &mut Vec<u8, A>,
     pager: &mut Pager,
     store: &Store<A>,
     notes: &Notes<A>,
+    whole: &Store<A>,
 ) -> Result<(), AllocError>
     requires { notes.now ≡ notes_of store.now }
-    ensures ok { OnOk result (AreShown pager.old pager.new out.old.items out.new.items (lines_after_games (listed store.now))) }
+    ensures ok { OnOk result (AreShown pager.old pager.new out.old.items out.new.items (lines_after_games (listed store.now) (listed whole.now))) }
     ensures grown { Extends out.old.items out.new.items }
 {
     append_notes(out, pager, notes)?;
     append_forks(out, pager, store)?;
-    append_authors(out, pager, store)?;
+    append_authors(out, pager, whole)?;
     show(out, pager, &Fixed(b"end\n"))
 }
 

@@ -45,8 +45,9 @@ pub(crate) fn append_games<A: Allocator + Copy>(
     Ok(())
 }
 
-// Appends what is shown of the lines of a game with these operations. Where it is not kept, it is built, and let go after them.
-fn append_game<A: Allocator + Copy>(
+/// Appends what is shown of the lines of a game with these operations. Where it is not kept, it is built, and let go after them. Behind
+/// a page that is full nothing is built.
+pub(crate) fn append_game<A: Allocator + Copy>(
     out: &mut Vec<u8, A>,
     pager: &mut Pager,
     said: &Record<A>,
@@ -59,6 +60,9 @@ fn append_game<A: Allocator + Copy>(
     ensures ok { OnOk result (AreShown pager.old pager.new out.old.items out.new.items (game_lines (listed said.now.ops) code)) }
     ensures grown { Extends out.old.items out.new.items }
 {
+    if pager.is_over() {
+        return Ok(());
+    }
     if let Some(game) = kept.get(&code) {
         return append_game_lines(said.allocator(), out, pager, game, ops);
     }

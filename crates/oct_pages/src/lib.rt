@@ -18,6 +18,8 @@
 //!   is built when its lines are due, and let go after them.
 //! - `write_catalogue_of` and `write_page_of` do so where no game is kept. `game_of` builds one, and
 //!   `codes_of` gives the codes of all.
+//! - `stream_catalogue` writes it to a writer as it is made; it and `write_catalogue_among` show a part of what was said, with the
+//!   authors of the whole.
 //! - `GameSheet` is what the lines of a game tell, and what other views show of it: its known nim-values, its blocks and its
 //!   claims with their statuses. It is read off a game once.
 //! - `append_text`, `append_number`, `append_dot` and the other words of `oct_text` append a part of a line.
@@ -39,10 +41,13 @@ mod notes;
 mod pager;
 mod parts;
 mod statuses;
+mod stream;
 mod values;
 
 pub use built::game_of;
-pub use catalogue::{write_catalogue_of, write_catalogue_with, write_page_of, write_page_with};
+pub use catalogue::{
+    write_catalogue_among, write_catalogue_of, write_catalogue_with, write_page_of, write_page_with,
+};
 pub use codes::codes_of;
 pub use game::GameSheet;
 pub use oct_code::OutOfMemory;
@@ -52,3 +57,4 @@ pub use oct_text::{
 };
 pub use parts::{Parts, write_catalogue, write_page};
 pub use statuses::{BlockRow, PeriodRow};
+pub use stream::{GameProgress, Unwatched, stream_catalogue};

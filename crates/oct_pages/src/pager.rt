@@ -2,7 +2,7 @@
 
 ghost use Rattle.std.specs.Prelude.{◌≡◌, ◌*◌, ◌<◌, ◌^◌, Bool, true, false, nat_lt};
 ghost use Rattle.oct_pages.specs.Catalogue.{page_length};
-ghost use Rattle.oct_pages.specs.Pager.{is_reached, shows, passed};
+ghost use Rattle.oct_pages.specs.Pager.{is_over, is_reached, shows, passed};
 
 // How many lines a page has.
 const PAGE_LENGTH: u32 = 64;
@@ -35,6 +35,13 @@ impl Pager {
             Pager::All => true,
             Pager::Page { left, .. } => left < PAGE_LENGTH,
         }
+    }
+
+    /// Whether each line that is shown was passed, and the page is full.
+    pub(crate) fn is_over(self) -> bool
+        ensures { result ≡ is_over self }
+    {
+        matches!(self, Pager::Page { before: 0, left: 0 })
     }
 
     // Whether the next line is shown.

@@ -4,18 +4,24 @@
 //!
 //!     write_out(&mut file, b"census 2\nend\n")?;      // `Unwritten` where the disk is full
 //!
-//! `specs/Output` says what a writer holds after a failure.
+//! A long text is written as it is made: what comes next is put together in a piece, which `spill` writes once it is large.
+//!
+//! `specs/Output` says what a writer holds after a failure, and what of a piece was written.
 #![tactic(auto)]
 
 ghost use Rattle.std.specs.Prelude.{◌≡◌, ◌<◌, ◌≤◌, length, take, IfOk, OnOk, OnErr};
 ghost use Rattle.std.specs.Io.KnownBytes.{Appends, Keeps};
-ghost use Rattle.written.specs.Output.{AppendsPrefix};
+ghost use Rattle.written.specs.Output.{AppendsFront, AppendsPrefix, piece_size};
 
-use std::io::{ErrorKind, Write};
+use std::alloc::Allocator;
+use std::io::{self, ErrorKind, Write};
 
 /// A write or a flush failed, or a write took no byte.
 #[derive(Clone, Copy, PartialEq, Eq, Drop)]
 pub struct Unwritten;
+
+// So many bytes are put together before they are written.
+const PIECE: usize = 65_536;
 
 // How many times in a row a write that a signal interrupted is made again.
 const SIGNALS: u32 = 1_000;
@@ -52,4 +58,18 @@ fn write_some<W: Write>(writer: &mut W, bytes: &[u8]) -> Result<usize, Unwritten
         }
     }
     Err(Unwritten)
+}
+
+/// Writes a piece of a text that has 64 KiB or more, and empties it; a smaller one stays. The error is the writer's, and a part of
+/// the piece may have been written then.
+pub fn spill<W: Write, A: Allocator>(piece: &mut Vec<u8, A>, out: &mut W) -> io::Result<()>
+    ensures ok { OnOk result (AppendsFront (W.contents out.old) (W.contents out.new) piece.old.items piece.new.items) }
+    ensures small { OnOk result (length piece.new.items < piece_size) }
+{
+    if piece.len() < PIECE {
+        return Ok(());
+    }
+    out.write_all(piece)?;
+    piece.clear();
+    Ok(())
 }

@@ -12,9 +12,10 @@ use Rattle.oct_pages.proofs.catalogue.append_lines.Goals as goal
 pub returns-clause-ok : goal.returns-clause-ok
 returns-clause-ok g c =
     let ops = listed c.args.said.now.ops in
+    let whole = listed c.args.whole.now in
     let all_games = flat_map (game_lines ops) (games ops) in
     on_ok_weaker c.append_rest.result (λ last.
-    subst (AreShown _ _ _ _) (sym (lines_split ops))
-    (shown_then _ _ _ _ _ _ (heading ∷ all_games) (lines_after_games ops)
+    subst (AreShown _ _ _ _) (sym (lines_split ops whole))
+    (shown_then _ _ _ _ _ _ (heading ∷ all_games) (lines_after_games ops whole)
     (shown_then _ _ _ _ _ _ (heading ∷ []) all_games c.in_ok-show.ensures.ok c.in_ok-append_games.ensures.ok)
-    (subst (AreShown _ _ _ _) (ap (λ store. lines_after_games (listed store)) c.store.ensures) last))) c.append_rest.ensures.ok
+    (subst (AreShown _ _ _ _) (ap (λ store. lines_after_games (listed store) whole) c.store.ensures) last))) c.append_rest.ensures.ok

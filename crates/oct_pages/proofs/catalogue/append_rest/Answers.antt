@@ -15,7 +15,8 @@ returns-clause-ok g c =
     let ops = listed store in
     let notes = map note_line (live_notes ops) in
     let all_forks = map (fork_line ops) (summary.forks ops) in
-    let all_authors = map (author_line ops) (summary.authors ops) in
+    let whole = listed c.args.whole.now in
+    let all_authors = map (author_line whole) (summary.authors whole) in
     let same : map note_line (live_notes (listed c.args.notes.now)) ≡ notes = ap (map note_line) (ap (λ held. live_notes (listed held)) c.requires ∙ live_notes-of store) in
     on_ok_weaker c.show.result (λ last.
     shown_then _ _ _ _ _ _ (notes ++ all_forks ++ all_authors) (ending ∷ [])
