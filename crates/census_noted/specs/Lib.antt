@@ -1,5 +1,3 @@
 pub mod Laws
-pub mod Lines
-pub mod Names
 pub mod Noting
 pub mod Rechecking

@@ -1,5 +1,5 @@
 -- The notes of periods in what was said.
-use Rattle.std.specs.Prelude.{◌≡◌, nat_eq, Bool, false, ◌&&◌, List, [], Option, Some, None, if◌then◌else◌}
+use Rattle.std.specs.Prelude.{◌≡◌, nat_eq, Bool, false, ◌&&◌, List, Option, Some, None, if◌then◌else◌}
 use Rattle.std.specs.Cmp.Lexicographic.{pointwise}
 use Rattle.std.specs.List.{filter_map, list_any}
 use Rattle.oct_code.specs.Code.{Code}
@@ -14,29 +14,16 @@ use Rattle.oct_record.specs.Taking.{has_number, next_op}
 use Rattle.oct_record.specs.declared.error.IssueError.{IssueError}
 use Rattle.oct_record.specs.declared.error.IssueError.TheVariants.{LastNumber, OutOfMemory}
 use Rattle.oct_text.specs.Words.{Text}
-use Rattle.census_noted.specs.Lines.{period_text, said_by}
-use Rattle.census_noted.specs.Names.{game_named, note_name}
-use Rattle.census_noted.specs.declared.noting.PeriodNote.{PeriodNote}
-
-abbrev pub text_of : Body → Text
-text_of (kind.Block b) = []
-text_of (kind.Period p) = []
-text_of (kind.Note n) = n.text
-text_of (kind.Removal r) = []
+use Rattle.oct_said.specs.Lines.{period_text}
+use Rattle.oct_said.specs.Names.{note_name}
+use Rattle.oct_said.specs.Noting.{period_note_of, text_of}
+use Rattle.oct_said.specs.declared.noting.PeriodNote.{PeriodNote}
 
 -- ---- which there are
 
-abbrev pub note_by : Dot → Text → Option Code → Option PeriodNote
-note_by dot text None = None
-note_by dot text (Some c) = Some (record { dot = dot; code = c; said = said_by c text })
-
--- the game whose note this is by its name, and the period that it says
-abbrev pub note_of : Operation → Option PeriodNote
-note_of o = note_by o.dot (text_of o.body) (game_named (name_of o.body))
-
 -- by name, and then in the order of operations
 abbrev pub period_notes : Operations → List PeriodNote
-period_notes ops = filter_map note_of (live_notes (listed ops))
+period_notes ops = filter_map period_note_of (live_notes (listed ops))
 
 -- ---- a further one
 

@@ -10,8 +10,8 @@ use Rattle.oct_search.specs.declared.error.SearchError.TheVariants.{OutOfMemory,
 use Rattle.oct_search.specs.declared.search.TheConstants.{MOST}
 use Rattle.oct_text.specs.Words.{Text, dot_text, labelled}
 use Rattle.oct_window.specs.Seeking.{IsPast}
-use Rattle.census_noted.specs.Lines.{period_text}
-use Rattle.census_noted.specs.declared.noting.PeriodNote.{PeriodNote}
+use Rattle.oct_said.specs.Lines.{period_text}
+use Rattle.oct_said.specs.declared.noting.PeriodNote.{PeriodNote}
 
 -- how many nim-values show the period by themselves
 abbrev pub needs : Code → SeenPeriod → ℕ

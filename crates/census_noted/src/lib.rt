@@ -5,18 +5,17 @@
 //!
 //!     period-0-16    0.16 period 149459 from 105351
 //!
-//! - `seen_in` gives the period that a line of a search names, and `is_long` says whether no claim can hold it.
+//! How such a note is spelled and read, `oct_said` says.
+//!
 //! - `note_period` issues the note of a period, if no live note says the same.
-//! - `period_notes` gives the live notes of such names, and `recheck` searches the game of one again.
-//! - `laws` says that each name and each text is read back.
+//! - `period_notes` gives the live notes of such names, and `recheck` searches the game of one again, and tells how far it is.
+//! - `laws` says that what a search says is so holds for every heap.
 #![tactic(auto)]
 
 pub mod laws;
-mod lines;
-mod names;
 mod noting;
 mod rechecking;
+mod searching;
 
-pub use lines::{is_long, seen_in};
-pub use noting::{PeriodNote, note_period, period_notes};
+pub use noting::{note_period, period_notes};
 pub use rechecking::{Rechecked, recheck};

@@ -1,70 +1,29 @@
 //! The notes of periods in what was said.
 
 ghost use Rattle.std.specs.Prelude.{◌≡◌, ◌≢◌, None, Some, IfOk, IfErr, OnErr, OnOk, false, map};
-ghost use Rattle.std.specs.List.{filter_map, list_any};
+ghost use Rattle.std.specs.List.{list_any};
 ghost use Rattle.oct_notes.specs.Notes.{name_of};
 ghost use Rattle.oct_ops.specs.Faults.{note_fault};
 ghost use Rattle.oct_ops.specs.Operation.{noted};
 ghost use Rattle.oct_ops.specs.Operations.{insert};
 ghost use Rattle.oct_ops.specs.Views.{content};
 ghost use Rattle.oct_record.specs.Taking.{has_number};
-ghost use Rattle.census_noted.specs.Noting.{has_note, next_note, note_of, noted_dot, period_notes, says, text_of, with_note, IsNoteFault};
+ghost use Rattle.oct_said.specs.Noting.{text_of};
+ghost use Rattle.census_noted.specs.Noting.{has_note, next_note, noted_dot, period_notes, says, with_note, IsNoteFault};
 
-use crate::lines::{period_text, said_by};
-use crate::names::{game_named, note_name};
 use oct_code::Code;
 use oct_mex::SeenPeriod;
 use oct_ops::{Body, Dot, Note, Op};
 use oct_record::{IssueError, Record};
+use oct_said::{PeriodNote, note_name, period_notes_among, period_text};
 use std::alloc::{AllocError, Allocator};
-
-/// A live note of the name that the notes of a game's period have.
-#[derive(Clone, Copy)]
-pub struct PeriodNote {
-    /// Who issued the note, and under which number.
-    pub dot: Dot,
-    /// The game.
-    pub code: Code,
-    /// The period that the note says, if it says one.
-    pub said: Option<SeenPeriod>,
-}
 
 /// The live notes whose names are those of notes of games' periods, by name and then in the order of operations.
 pub fn period_notes<A: Allocator + Copy>(said: &Record<A>) -> Result<Vec<PeriodNote, A>, AllocError>
     ensures { IfOk result (λ notes. notes.items ≡ period_notes said.now.ops) }
 {
     let live = said.notes().live_refs()?;
-    notes_among(said.allocator(), &live)
-}
-
-// Those of the notes that have such names.
-fn notes_among<A: Allocator + Copy>(
-    alloc: A,
-    live: &[&Op<A>],
-) -> Result<Vec<PeriodNote, A>, AllocError>
-    ensures { IfOk result (λ notes. notes.items ≡ filter_map note_of (map (λ op. op.now) live.now)) }
-{
-    let mut notes = Vec::new(alloc);
-    for op in live {
-        if let Some(note) = note_of(alloc, op)? {
-            notes.push(note)?;
-        }
-    }
-    Ok(notes)
-}
-
-// What a live note says of a game's period, if it has such a name.
-fn note_of<A: Allocator + Copy>(alloc: A, op: &Op<A>) -> Result<Option<PeriodNote>, AllocError>
-    ensures { IfOk result (λ note. note ≡ note_of op.now) }
-{
-    let Some(code) = game_named(alloc, name_of(op.body()))? else {
-        return Ok(None);
-    };
-    Ok(Some(PeriodNote {
-        dot: op.dot(),
-        code,
-        said: said_by(alloc, code, text_of(op.body()))?,
-    }))
+    period_notes_among(said.allocator(), &live)
 }
 
 /// Issues the note of a game's period under the author's next number, and answers its dot; where a live note says the same

@@ -3,13 +3,14 @@
 ghost use Rattle.std.specs.Prelude.{◌≡◌, ◌≤◌, ◌++◌, IfOk, IfErr, OnOk};
 ghost use Rattle.census_noted.specs.Rechecking.{IsRecheckFault, IsRechecked, IsSearchFault, IsSearchedFor, end_words, far_line, is_same, needed, silent_line, told_line};
 
-use crate::lines::append_period;
-use crate::noting::PeriodNote;
+use crate::searching::search_told;
 use oct_code::Code;
 use oct_mex::SeenPeriod;
 use oct_ops::Dot;
+use oct_said::{PeriodNote, append_period};
 use oct_search::{MOST, Search, SearchError};
 use oct_text::{append_labelled, append_labelled_dot, append_text};
+use oct_window::Progress;
 use std::alloc::{AllocError, Allocator};
 
 /// What a search says of a note.
@@ -24,13 +25,14 @@ pub struct Rechecked<A: Allocator> {
 /// Searches again for the period of a note's game, by as many nim-values as the period that the note says needs: twice its start,
 /// twice the period, and the number of the code's digits. It is so where the search finds that period from that start; then it holds
 /// for every heap. A note that says no period is not so, and neither is one that needs more than 2^32 values, which are not
-/// computed.
+/// computed. `progress` is told how many values are known.
 ///
 /// The error is `PastValue` where the nim-value of a heap below that number is above 65,535, before a period is found, or
 /// `OutOfMemory`.
-pub fn recheck<A: Allocator + Copy>(
+pub fn recheck<A: Allocator + Copy, P: Progress>(
     alloc: A,
     note: &PeriodNote,
+    progress: &mut P,
 ) -> Result<Rechecked<A>, SearchError>
     ensures ok { IfOk result (λ done. IsRechecked note.now done.is_so done.line.items) }
     ensures err { IfErr result (IsRecheckFault note.now) }
@@ -42,7 +44,7 @@ pub fn recheck<A: Allocator + Copy>(
         });
     };
     match needed(note.code, said) {
-        Some(count) => search_again(alloc, note.code, said, count),
+        Some(count) => search_again(alloc, note.code, said, count, progress),
         None => Ok(Rechecked {
             line: far_line(alloc, note.code, said)?,
             is_so: false,
@@ -62,18 +64,19 @@ fn needed(code: Code, said: SeenPeriod) -> Option<usize>
 }
 
 // What a search by so many nim-values says of a period.
-fn search_again<A: Allocator + Copy>(
+fn search_again<A: Allocator + Copy, P: Progress>(
     alloc: A,
     code: Code,
     said: SeenPeriod,
     count: usize,
+    progress: &mut P,
 ) -> Result<Rechecked<A>, SearchError>
     requires { count ≤ MOST }
     ensures ok { IfOk result (λ done. IsSearchedFor code count said done.is_so done.line.items) }
     ensures err { IfErr result (IsSearchFault code count) }
 {
     let mut game = Search::new(alloc, code);
-    let found = game.search(count)?;
+    let found = search_told(&mut game, count, progress)?;
     Ok(Rechecked {
         line: told_line(alloc, code, found, game.len(), said)?,
         is_so: is_same(found, said),

@@ -1,3 +1,4 @@
 mod FoundNames
 pub mod Pushing
 pub mod RecordGames
+pub mod Streamed

@@ -23,19 +23,29 @@ authors_of ops = map (called (live_notes ops)) (author_rows ops)
 abbrev pub names_of : List Operation → List Operation
 names_of ops = naming (live_notes ops)
 
+-- the live notes, of which views show what is withdrawn, and the long periods of games
+abbrev pub remarks_of : List Operation → List Operation
+remarks_of ops = live_notes ops
+
 -- the games, and what belongs to none
 pub record Sheet : Type 0 where
   pub games : List GameSheet
   pub names : List Operation
+  pub remarks : List Operation
   pub notes : List Operation
   pub forks : List Fork
   pub authors : List Called
 
-abbrev pub sheet : List Operation → Sheet
-sheet ops = record {
-  games = map (game_sheet ops) (games ops);
-  names = names_of ops;
-  notes = notes_of ops;
-  forks = forks_of ops;
-  authors = authors_of ops;
+-- what there is to show of a part of the operations: its games, notes and forks, and the authors, their names and what else they say of the whole
+abbrev pub sheet_among : List Operation → List Operation → Sheet
+sheet_among part whole = record {
+  games = map (game_sheet part) (games part);
+  names = names_of whole;
+  remarks = remarks_of whole;
+  notes = notes_of part;
+  forks = forks_of part;
+  authors = authors_of whole;
 }
+
+abbrev pub sheet : List Operation → Sheet
+sheet ops = sheet_among ops ops

@@ -6,17 +6,21 @@
 //!
 //! - `Names` has the names of authors by live notes; an author with its name is `Called`. The notes themselves are listed by
 //!   `naming_notes`, and `names_by_author` is a table of the names, in which `name_in` looks one up.
-//! - A `Summary` is what a table of games says of each: how much is known, the period that is proved, and by `Tally` how
-//!   many blocks and claims are proved, refuted and pending.
+//! - `Remarks` has what views read of the live notes beside the names of authors: what is withdrawn, and the long periods that
+//!   somebody says of a game.
+//! - A `Summary` is what a table of games says of each: how much is known, the period that is proved, and by `GameTally` how
+//!   many blocks and claims are proved, refuted, withdrawn and pending.
 //! - `by_period` lists the games with a proved period, by period.
 #![tactic(auto)]
 
 mod name_table;
 mod names;
 mod periodic;
+mod remarks;
 mod summary;
 
 pub use name_table::{name_in, names_by_author};
 pub use names::{Called, Names, naming_among, naming_notes, with_names};
 pub use periodic::{Periodic, by_period};
-pub use summary::{Summary, Tally};
+pub use remarks::Remarks;
+pub use summary::{GameTally, Summary, Tally};

@@ -1,9 +1,10 @@
 //! What a table of games says of each.
 
-ghost use Rattle.std.specs.Prelude.{◌≡◌, ◌++◌, ◌∷◌, [], OnErr, OnOk};
+ghost use Rattle.std.specs.Prelude.{◌≡◌, ◌++◌, ◌∷◌, [], count_by, OnErr, OnOk};
 ghost use Rattle.oct_pages.specs.Contents.{game_content};
-ghost use Rattle.oct_sheet.specs.Summary.{block_pending, block_proved, block_refuted, block_tally, blocks_with, claim_pending, claim_proved, claim_refuted, claim_tally, claims_with, is_refuted, summary_of};
+ghost use Rattle.oct_sheet.specs.Summary.{block_is_withdrawn, block_pending, block_proved, block_refuted, block_stands_refuted, block_tally, blocks_with, claim_is_withdrawn, claim_pending, claim_proved, claim_refuted, claim_stands_refuted, claim_tally, claims_with, has_withdrawn, is_refuted, summary_of};
 
+use crate::remarks::Remarks;
 use oct_code::Code;
 use oct_ops::Period;
 use oct_pages::{BlockRow, GameSheet, PeriodRow};
@@ -21,9 +22,9 @@ pub struct Summary {
     /// The first claim, in the order of the operations, that is proved.
     pub proved: Option<Period>,
     /// The blocks.
-    pub blocks: Tally,
+    pub blocks: GameTally,
     /// The period claims.
-    pub claims: Tally,
+    pub claims: GameTally,
 }
 
 /// How many there are of each status.
@@ -37,17 +38,33 @@ pub struct Tally {
     pub pending: usize,
 }
 
+/// How many blocks, or how many period claims, of a game have each status.
+#[derive(Clone, Copy)]
+pub struct GameTally {
+    /// Those that are proved.
+    pub proved: usize,
+    /// Those that are refuted, and not withdrawn.
+    pub refuted: usize,
+    /// Those that are refuted, and withdrawn by who said them.
+    pub withdrawn: usize,
+    /// Those that are pending.
+    pub pending: usize,
+}
+
 impl Summary {
-    /// The summary of a game.
-    pub fn of<A: Allocator + Copy>(game: &GameSheet<'_, A>) -> Summary
-        ensures { result ≡ summary_of (game_content game.now) }
+    /// The summary of a game, of which some is withdrawn by these remarks.
+    pub fn of<A: Allocator + Copy, B: Allocator + Copy>(
+        game: &GameSheet<'_, A>,
+        remarks: &Remarks<'_, B>,
+    ) -> Summary
+        ensures { result ≡ summary_of remarks.now (game_content game.now) }
     {
         Summary {
             code: game.code,
             known: game.values.len(),
             proved: game.proved,
-            blocks: block_tally(&game.blocks),
-            claims: claim_tally(&game.periods),
+            blocks: block_tally(&game.blocks, remarks),
+            claims: claim_tally(&game.periods, remarks),
         }
     }
 
@@ -55,40 +72,50 @@ impl Summary {
     pub fn add<A: Allocator + Copy, B: Allocator + Copy>(
         rows: &mut Vec<Summary, A>,
         game: &GameSheet<'_, B>,
+        remarks: &Remarks<'_, B>,
     ) -> Result<(), AllocError>
-        ensures ok { OnOk result (rows.new.items ≡ rows.old.items ++ summary_of (game_content game.now) ∷ []) }
+        ensures ok { OnOk result (rows.new.items ≡ rows.old.items ++ summary_of remarks.now (game_content game.now) ∷ []) }
         ensures err { OnErr result (rows.new.items ≡ rows.old.items) }
     {
-        rows.push(Summary::of(game))?;
+        rows.push(Summary::of(game, remarks))?;
         Ok(())
     }
 
-    /// Whether a block or a claim is refuted.
+    /// Whether a block or a claim is refuted, and not withdrawn.
     pub fn is_refuted(&self) -> bool
         ensures { result ≡ is_refuted self.now }
     {
         0 < self.blocks.refuted || 0 < self.claims.refuted
     }
+
+    /// Whether a block or a claim is refuted, and withdrawn.
+    pub fn has_withdrawn(&self) -> bool
+        ensures { result ≡ has_withdrawn self.now }
+    {
+        0 < self.blocks.withdrawn || 0 < self.claims.withdrawn
+    }
 }
 
 // How many blocks have each status.
-fn block_tally(blocks: &[BlockRow]) -> Tally
-    ensures { result ≡ block_tally blocks.now }
+fn block_tally<A: Allocator + Copy>(blocks: &[BlockRow], remarks: &Remarks<'_, A>) -> GameTally
+    ensures { result ≡ block_tally remarks.now blocks.now }
 {
-    Tally {
+    GameTally {
         proved: proved_blocks(blocks),
-        refuted: refuted_blocks(blocks),
+        refuted: refuted_blocks(blocks, remarks),
+        withdrawn: withdrawn_blocks(blocks, remarks),
         pending: pending_blocks(blocks),
     }
 }
 
 // How many claims have each status.
-fn claim_tally(claims: &[PeriodRow]) -> Tally
-    ensures { result ≡ claim_tally claims.now }
+fn claim_tally<A: Allocator + Copy>(claims: &[PeriodRow], remarks: &Remarks<'_, A>) -> GameTally
+    ensures { result ≡ claim_tally remarks.now claims.now }
 {
-    Tally {
+    GameTally {
         proved: proved_claims(claims),
-        refuted: refuted_claims(claims),
+        refuted: refuted_claims(claims, remarks),
+        withdrawn: withdrawn_claims(claims, remarks),
         pending: pending_claims(claims),
     }
 }
@@ -110,11 +137,22 @@ fn block_proved(status: Status) -> bool
     }
 }
 
-// How many blocks are refuted.
-fn refuted_blocks(rows: &[BlockRow]) -> usize
-    ensures { result ≡ blocks_with block_refuted rows.now }
+// How many blocks are refuted, and not withdrawn.
+fn refuted_blocks<A: Allocator + Copy>(rows: &[BlockRow], remarks: &Remarks<'_, A>) -> usize
+    ensures { result ≡ count_by (block_stands_refuted remarks.now) rows.now }
 {
-    rows.iter().filter(|row| block_refuted(row.status)).count()
+    rows.iter()
+        .filter(|row| block_refuted(row.status) && !remarks.is_withdrawn(row.dot))
+        .count()
+}
+
+// How many blocks are refuted, and withdrawn.
+fn withdrawn_blocks<A: Allocator + Copy>(rows: &[BlockRow], remarks: &Remarks<'_, A>) -> usize
+    ensures { result ≡ count_by (block_is_withdrawn remarks.now) rows.now }
+{
+    rows.iter()
+        .filter(|row| block_refuted(row.status) && remarks.is_withdrawn(row.dot))
+        .count()
 }
 
 // Whether a block of this status is refuted.
@@ -161,11 +199,22 @@ fn claim_proved(status: PeriodStatus) -> bool
     }
 }
 
-// How many claims are refuted.
-fn refuted_claims(rows: &[PeriodRow]) -> usize
-    ensures { result ≡ claims_with claim_refuted rows.now }
+// How many claims are refuted, and not withdrawn.
+fn refuted_claims<A: Allocator + Copy>(rows: &[PeriodRow], remarks: &Remarks<'_, A>) -> usize
+    ensures { result ≡ count_by (claim_stands_refuted remarks.now) rows.now }
 {
-    rows.iter().filter(|row| claim_refuted(row.status)).count()
+    rows.iter()
+        .filter(|row| claim_refuted(row.status) && !remarks.is_withdrawn(row.dot))
+        .count()
+}
+
+// How many claims are refuted, and withdrawn.
+fn withdrawn_claims<A: Allocator + Copy>(rows: &[PeriodRow], remarks: &Remarks<'_, A>) -> usize
+    ensures { result ≡ count_by (claim_is_withdrawn remarks.now) rows.now }
+{
+    rows.iter()
+        .filter(|row| claim_refuted(row.status) && remarks.is_withdrawn(row.dot))
+        .count()
 }
 
 // Whether a claim of this status is refuted.

@@ -1,9 +1,9 @@
 use Rattle.std.proofs.Common.{◌≡◌, ◌<◌, ◌^◌, ◌∙◌, arith}
 use Rattle.oct_ops.specs.Faults.{note_fault}
 use Rattle.oct_ops.specs.Operation.{noted}
-use Rattle.census_noted.specs.Lines.{period_text}
-use Rattle.census_noted.specs.Names.{note_name}
-use Rattle.census_noted.proofs.Valid.{faultless}
+use Rattle.oct_said.specs.Lines.{period_text}
+use Rattle.oct_said.specs.Names.{note_name}
+use Rattle.oct_said.proofs.Valid.{faultless}
 use Rattle.census_noted.proofs.noting.note_period.Goals as goal
 
 pub valid_note-requires : goal.valid_note-requires

@@ -1,0 +1,9 @@
+use Rattle.std.proofs.Common.{arith}
+use Rattle.std.proofs.lemmas.Grind.{common_steps}
+use Rattle.std.proofs.lemmas.List.Elements.{filter_map-append}
+use Rattle.oct_said.proofs.noting.period_notes_among.Goals as goal
+use Rattle.oct_said.proofs.noting.period_notes_among.Goals.{in-Some+in_ok-push, in_default}
+
+pub loop-op-preserved : goal.loop-op-preserved
+loop-op-preserved g c =
+    elim c.match-branch-2.branch [ in-Some+in_ok-push w ↦ grind (arith, common_steps, filter_map-append) | in_default w ↦ grind (arith, common_steps, filter_map-append) ]
