@@ -9,10 +9,12 @@
 //!   twice; `write_diff_of` gives those of some games.
 //! - `write_status` gives what a record holds in a few lines: whose it is, and how many operations there are, by whom.
 //! - `append_said` appends what an operation says.
+//! - `laws` says that two sets differ by no line exactly where they are the same.
 #![tactic(auto)]
 
 mod counts;
 mod diff;
+pub mod laws;
 mod log;
 mod said;
 mod status;
