@@ -1,5 +1,6 @@
 -- The axes of a plot. The point where they meet has the place 0 0; a place above it has a negative second number.
-use Rattle.std.specs.Prelude.{ℕ, ◌+◌, ◌*◌, ◌/◌, ◌^◌, nat_le, List, [], ◌∷◌, ◌++◌, map, codes, find, unwrap_or}
+use Rattle.std.specs.Prelude.{ℕ, ◌+◌, ◌-◌, ◌*◌, ◌/◌, ◌^◌, nat_le, List, [], ◌∷◌, ◌++◌, map, codes, find, unwrap_or}
+use Rattle.std.specs.Int.{div_ceil}
 use Rattle.std.specs.List.{concat, flat_map, range_with_len}
 use Rattle.std.specs.Fmt.{decimal}
 use Rattle.oct_text.specs.Words.{Text}
@@ -35,20 +36,25 @@ heap_tick right heap = marked (codes "<path d=\"M") (codes " 0v6\"/><text x=\"")
 abbrev pub value_tick : ℕ → ℕ → Text
 value_tick above value = marked (codes "<path d=\"M0 -") (codes "h-6\"/><text class=\"value\" x=\"-12\" y=\"-") (codes "\" dy=\"6\">") above value
 
--- the tick of a number on an axis that spans so much
-abbrev pub tick : Axis → ℕ → ℕ → Text
-tick Heaps span n = heap_tick (scaled n span width) n
-tick Values span n = value_tick (scaled n span height) n
+-- the tick of a number on an axis that begins at the first number and spans so much
+abbrev pub tick : Axis → ℕ → ℕ → ℕ → Text
+tick Heaps first span n = heap_tick (scaled (n - first) span width) n
+tick Values first span n = value_tick (scaled (n - first) span height) n
 
--- the ticks at 0, one step, two steps and so on
-abbrev pub ticks : Axis → ℕ → Text
-ticks axis span = concat (map (λ i. tick axis span (i * step_of span)) (range_with_len 0 (span / step_of span + 1)))
+-- how many ticks the axis has: as many as multiples of the step lie on it
+abbrev pub tick_count : ℕ → ℕ → ℕ → ℕ
+tick_count first span step = (first + span) / step + 1 - div_ceil first step
+
+-- the ticks at the multiples of the step, from the first that lies on the axis
+abbrev pub ticks : Axis → ℕ → ℕ → Text
+ticks axis first span =
+    concat (map (λ i. tick axis first span ((div_ceil first (step_of span) + i) * step_of span)) (range_with_len 0 (tick_count first span (step_of span))))
 
 abbrev pub axes : Frame → Text
 axes frame = concat (
     codes "<path d=\"M0 0H700M0 0V-320\"/>\n"
-    ∷ ticks Heaps frame.heaps
-    ∷ ticks Values frame.values
+    ∷ ticks Heaps frame.first frame.heaps
+    ∷ ticks Values 0 frame.values
     ∷ codes "<text x=\"350\" y=\"52\">heap</text>\n"
     ∷ codes "<text x=\"160\" y=\"-72\" transform=\"rotate(-90)\">nim-value</text>\n"
     ∷ [])

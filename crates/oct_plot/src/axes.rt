@@ -3,7 +3,7 @@
 
 ghost use Rattle.std.specs.Prelude.{◌≡◌, ◌++◌, ◌*◌, ◌<◌, ◌^◌, OnOk, find, nat_le};
 ghost use Rattle.oct_ops.specs.Growth.{Extends};
-ghost use Rattle.oct_plot.specs.Axes.{axes, marked, step_of, tick, ticks};
+ghost use Rattle.oct_plot.specs.Axes.{axes, marked, step_of, tick, tick_count, ticks};
 ghost use Rattle.oct_plot.specs.Points.{IsFrame};
 
 use crate::points::{Frame, scaled};
@@ -67,8 +67,8 @@ pub(crate) fn append_axes<A: Allocator>(
     ensures grown { Extends out.old.items out.new.items }
 {
     append_pieces(out, &[Text(b"<path d=\"M0 0H700M0 0V-320\"/>\n")])?;
-    append_ticks(out, Axis::Heaps, frame.heaps)?;
-    append_ticks(out, Axis::Values, frame.values)?;
+    append_ticks(out, Axis::Heaps, frame.first, frame.heaps)?;
+    append_ticks(out, Axis::Values, 0, frame.values)?;
     append_pieces(out, &[Text(b"<text x=\"350\" y=\"52\">heap</text>\n")])?;
     append_pieces(
         out,
@@ -76,18 +76,35 @@ pub(crate) fn append_axes<A: Allocator>(
     )
 }
 
-// Appends the ticks of an axis that spans so much.
-fn append_ticks<A: Allocator>(out: &mut Vec<u8, A>, axis: Axis, span: u64) -> Result<(), AllocError>
+// Appends the ticks of an axis that begins at the first number and spans so much.
+fn append_ticks<A: Allocator>(
+    out: &mut Vec<u8, A>,
+    axis: Axis,
+    first: u64,
+    span: u64,
+) -> Result<(), AllocError>
     requires some { 0 < span }
+    requires low { first < 2 ^ 32 }
     requires short { span < 2 ^ 32 }
-    ensures ok { OnOk result (out.new.items ≡ out.old.items ++ ticks axis span) }
+    ensures ok { OnOk result (out.new.items ≡ out.old.items ++ ticks axis first span) }
     ensures grown { Extends out.old.items out.new.items }
 {
     let step = step_of(span);
-    for number in 0..span / step + 1 {
-        append_tick(out, axis, span, number * step)?;
+    let front = first.div_ceil(step);
+    for place in 0..tick_count(first, span, step) {
+        append_tick(out, axis, first, span, (front + place) * step)?;
     }
     Ok(())
+}
+
+// How many multiples of the step lie on the axis.
+fn tick_count(first: u64, span: u64, step: u64) -> u64
+    requires some { 0 < step }
+    requires low { first < 2 ^ 32 }
+    requires short { span < 2 ^ 32 }
+    ensures { result ≡ tick_count first span step }
+{
+    ((first + span) / step + 1).saturating_sub(first.div_ceil(step))
 }
 
 // How far the ticks of an axis are apart that spans so much: the least step with at most nine ticks.
@@ -116,12 +133,13 @@ fn first_step(steps: &[u32], span: u64) -> Option<u32>
 fn append_tick<A: Allocator>(
     out: &mut Vec<u8, A>,
     axis: Axis,
+    first: u64,
     span: u64,
     number: u64,
 ) -> Result<(), AllocError>
     requires some { 0 < span }
-    requires short { number < 2 ^ 32 }
-    ensures ok { OnOk result (out.new.items ≡ out.old.items ++ tick axis span number) }
+    requires short { number < 2 ^ 33 }
+    ensures ok { OnOk result (out.new.items ≡ out.old.items ++ tick axis first span number) }
     ensures grown { Extends out.old.items out.new.items }
 {
     match axis {
@@ -130,7 +148,7 @@ fn append_tick<A: Allocator>(
             b"<path d=\"M",
             b" 0v6\"/><text x=\"",
             b"\" y=\"26\">",
-            scaled(number, span, WIDTH),
+            scaled(number.saturating_sub(first), span, WIDTH),
             number,
         ),
         Axis::Values => append_marked(
@@ -138,7 +156,7 @@ fn append_tick<A: Allocator>(
             b"<path d=\"M0 -",
             b"h-6\"/><text class=\"value\" x=\"-12\" y=\"-",
             b"\" dy=\"6\">",
-            scaled(number, span, HEIGHT),
+            scaled(number.saturating_sub(first), span, HEIGHT),
             number,
         ),
     }

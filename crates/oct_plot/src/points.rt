@@ -1,6 +1,6 @@
 //! Where the nim-values of heaps fall on a plot.
 
-ghost use Rattle.std.specs.Prelude.{◌≡◌, ◌<◌, ◌*◌, ◌^◌, IfOk, length};
+ghost use Rattle.std.specs.Prelude.{◌≡◌, ◌<◌, ◌+◌, ◌*◌, ◌^◌, IfOk, length};
 ghost use Rattle.oct_plot.specs.Points.{IsFrame, frame_of, point_at, points_of, scaled};
 
 use std::alloc::{AllocError, Allocator};
@@ -11,12 +11,14 @@ const COLUMNS: u64 = 1400;
 
 const ROWS: u64 = 640;
 
-/// What the axes of a plot span: heaps from 0 on, and nim-values from 0 on. Both are at least 1.
+/// What the axes of a plot span: heaps from one to another, and nim-values from 0 on.
 #[derive(Clone, Copy)]
 pub(crate) struct Frame {
-    /// The last heap.
+    /// The first heap.
+    pub first: u64,
+    /// How far the last heap is beyond the first, at least 1.
     pub heaps: u64,
-    /// The greatest nim-value.
+    /// The greatest nim-value, at least 1.
     pub values: u64,
 }
 
@@ -30,14 +32,15 @@ pub(crate) struct Point {
 }
 
 impl Frame {
-    /// The frame of these values, which are those of the heaps from 0 on.
-    pub(crate) fn of(values: &[u32]) -> Frame
-        requires { length values.now < 2 ^ 32 }
-        ensures value { result ≡ frame_of values.now }
+    /// The frame of these values, which are those of the heaps from the first one on.
+    pub(crate) fn of(first: usize, values: &[u32]) -> Frame
+        requires { first + length values.now < 2 ^ 32 }
+        ensures value { result ≡ frame_of first values.now }
         ensures valid { IsFrame result }
     {
         let greatest = values.iter().copied().fold(0, u32::max);
         Frame {
+            first: first as u64,
             heaps: (values.len() as u64).saturating_sub(1).max(1),
             values: u64::from(greatest).max(1),
         }
@@ -61,22 +64,23 @@ fn point_at(frame: Frame, heap: u64, value: u32) -> Point
 {
     Point {
         row: scaled(u64::from(value), frame.values, ROWS),
-        column: scaled(heap, frame.heaps, COLUMNS),
+        column: scaled(heap.saturating_sub(frame.first), frame.heaps, COLUMNS),
     }
 }
 
-/// The points of the values, which are those of the heaps from 0 on. The one error is that memory is refused.
+/// The points of the values, which are those of the heaps from the first one on. The one error is that memory is refused.
 pub(crate) fn points_of<A: Allocator + Copy>(
     alloc: A,
+    first: usize,
     values: &[u32],
 ) -> Result<BTreeSet<Point, A>, AllocError>
-    requires { length values.now < 2 ^ 32 }
-    ensures { IfOk result (λ found. found.keys ≡ points_of values.now) }
+    requires { first + length values.now < 2 ^ 32 }
+    ensures { IfOk result (λ found. found.keys ≡ points_of first values.now) }
 {
-    let frame = Frame::of(values);
+    let frame = Frame::of(first, values);
     let mut found = BTreeSet::new(alloc);
-    for heap in (0..values.len()).rev() {
-        found.insert(point_at(frame, heap as u64, values[heap]))?;
+    for place in (0..values.len()).rev() {
+        found.insert(point_at(frame, (first + place) as u64, values[place]))?;
     }
     Ok(found)
 }

@@ -1,11 +1,11 @@
 use Rattle.std.proofs.Common.{◌++◌, codes, sym, ap, ◌∙◌}
 use Rattle.std.proofs.lemmas.List.{append-nil}
-use Rattle.oct_plot.specs.Plot.{known_title, proved_text}
-use Rattle.oct_plot.proofs.plot.title_of.Goals as goal
+use Rattle.oct_plot.specs.Plot.{heaps_title, proved_text}
+use Rattle.oct_plot.proofs.plot.title_from.Goals as goal
 
 pub returns : goal.returns
 returns g c =
-    let known = known_title c.args.code.now c.args.known in
+    let known = heaps_title c.args.code.now c.args.first c.args.count in
     let words = proved_text (codes ", period ") c.args.proved.now in
     let front = rw c.saturating_sub.ensures at c.in_ok-append_pieces.ensures.ok in
     c.in_ok-append_proved.ensures.ok
