@@ -1,5 +1,5 @@
 -- A document has no floats.
-use Rattle.std.proofs.Common.{◌≡◌, ℕ, false, ◌||◌, List, [], ◌∷◌, map, refl}
+use Rattle.std.proofs.Common.{◌≡◌, ℕ, Bool, true, false, ◌||◌, List, [], ◌∷◌, map, refl}
 use Rattle.std.specs.Prelude.{Option, Some, None}
 use Rattle.oct_ops.specs.Body as kind
 use Rattle.oct_ops.specs.Body.{Body, Operation}
@@ -9,29 +9,47 @@ use Rattle.oct_period.specs.declared.status.PeriodStatus.TheVariants as of_claim
 use Rattle.oct_store.specs.declared.author.Author.{Author}
 use Rattle.oct_verify.specs.declared.status.Status.{Status}
 use Rattle.oct_verify.specs.declared.status.Status.TheVariants as of_block
-use Rattle.oct_json.specs.Json.{author_data, block_by, block_data, called_data, count, document, fork_data, game_data, least_data, op_data, period_by, period_data}
+use Rattle.oct_json.specs.Json.{author_data, block_by, block_data, called_data, count, document, fork_data, game_data, least_data, list, marked_block, marked_period, op_data, period_by, period_data, said_and_values, said_by, said_data, said_row}
 use Rattle.oct_overview.specs.Line.{period_of}
 use Rattle.oct_overview.specs.declared.line.LeastPeriod.{LeastPeriod}
+use Rattle.oct_json.specs.Said.{SaidPeriod}
+use Rattle.oct_said.specs.Noting.{said_of}
+use Rattle.oct_said.specs.declared.noting.LongPeriod.{LongPeriod}
 use Rattle.oct_sheet.specs.Sheet.{GameSheet, Sheet}
 use Rattle.oct_pages.specs.declared.statuses.BlockRow.{BlockRow}
 use Rattle.oct_pages.specs.declared.statuses.PeriodRow.{PeriodRow}
 use Rattle.serde_json.specs.Data.{Data}
 use Rattle.serde_json.specs.View.{items_of}
-use Rattle.serde_json.specs.Written.{has_float, items_have_float}
+use Rattle.serde_json.specs.Written.{has_float, items_have_float, members_have_float}
 
 items_float : {X : Type 0} (form : X → Data) → ((x : X) → has_float (form x) ≡ false) → (xs : List X) → items_have_float (items_of (map form xs)) ≡ false
 items_float form none [] = refl
 items_float form none (x ∷ xs) = λ i. none x i || items_float form none xs i
 
-block_float : (b : BlockRow) (s : Status) → has_float (block_by b s) ≡ false
-block_float b of_block.Proved = refl
-block_float b (of_block.Refuted place claimed truth) = refl
-block_float b of_block.Pending = refl
+block_float : (b : BlockRow) (w : Bool) (s : Status) → has_float (block_by b w s) ≡ false
+block_float b true of_block.Proved = refl
+block_float b true (of_block.Refuted place claimed truth) = refl
+block_float b true of_block.Pending = refl
+block_float b false of_block.Proved = refl
+block_float b false (of_block.Refuted place claimed truth) = refl
+block_float b false of_block.Pending = refl
 
-period_float : (p : PeriodRow) (s : PeriodStatus) → has_float (period_by p s) ≡ false
-period_float p of_claim.Proved = refl
-period_float p (of_claim.Refuted place) = refl
-period_float p (of_claim.Pending needs) = refl
+period_float : (p : PeriodRow) (w : Bool) (s : PeriodStatus) → has_float (period_by p w s) ≡ false
+period_float p true of_claim.Proved = refl
+period_float p true (of_claim.Refuted place) = refl
+period_float p true (of_claim.Pending needs) = refl
+period_float p false of_claim.Proved = refl
+period_float p false (of_claim.Refuted place) = refl
+period_float p false (of_claim.Pending needs) = refl
+
+said_float : (long : LongPeriod) (name : List ℕ) → has_float (said_by long name) ≡ false
+said_float long [] = refl
+said_float long (b ∷ name) = refl
+
+-- what is said, and the values
+values_float : (said : List SaidPeriod) (values : Data) → has_float values ≡ false → members_have_float (said_and_values said values) ≡ false
+values_float [] values none = λ i. none i || false
+values_float (s ∷ said) values none = λ i. items_float said_data (λ t. said_float t.long t.name) (s ∷ said) i || (none i || false)
 
 op_float : (o : Operation) → has_float (op_data o) ≡ false
 op_float o = by o.dot o.body
@@ -46,9 +64,12 @@ least_float : (least : Option LeastPeriod) → has_float (least_data least) ≡ 
 least_float None = refl
 least_float (Some least) = refl
 
-pub game_float : (g : GameSheet) → has_float (game_data g) ≡ false
-game_float g =
-    λ i. items_float block_data (λ b. block_float b b.status) g.blocks i || (false || (false || (least_float (period_of g) i || (items_float period_data (λ p. period_float p p.status) g.periods i || (items_float count (λ n. refl) g.values i || false)))))
+pub game_float : (notes : List Operation) (g : GameSheet) → has_float (game_data notes g) ≡ false
+game_float notes g =
+    λ i. items_float block_data (λ b. block_float b.row b.is_withdrawn b.row.status) (map (marked_block notes) g.blocks) i
+    || (false || (false || (least_float (period_of g) i
+    || (items_float period_data (λ p. period_float p.row p.is_withdrawn p.row.status) (map (marked_period notes) g.periods) i
+    || values_float (map (said_row notes) (said_of notes g.code)) (list count g.values) (items_float count (λ n. refl) g.values) i))))
 
 author_float : (a : Author) (name : List ℕ) → has_float (called_data a name) ≡ false
 author_float a [] = refl
@@ -56,4 +77,4 @@ author_float a (b ∷ name) = refl
 
 pub document_float : (s : Sheet) → has_float (document s) ≡ false
 document_float s =
-    λ i. items_float author_data (λ a. author_float a.author a.name) s.authors i || (false || (items_float fork_data (λ f. refl) s.forks i || (items_float game_data game_float s.games i || (items_float op_data op_float s.notes i || false))))
+    λ i. items_float author_data (λ a. author_float a.author a.name) s.authors i || (false || (items_float fork_data (λ f. refl) s.forks i || (items_float (game_data s.remarks) (game_float s.remarks) s.games i || (items_float op_data op_float s.notes i || false))))

@@ -1,5 +1,5 @@
 -- A sheet as JSON. The members of an object are in the order of their keys.
-use Rattle.std.specs.Prelude.{ℕ, List, [], ◌∷◌, length, map, codes, Option, Some, None}
+use Rattle.std.specs.Prelude.{ℕ, Bool, true, false, List, [], ◌∷◌, length, map, codes, Option, Some, None}
 use Rattle.oct_code.specs.CodeText.{code_text}
 use Rattle.oct_ops.specs.Body as kind
 use Rattle.oct_ops.specs.Body.{Operation}
@@ -12,11 +12,17 @@ use Rattle.oct_verify.specs.declared.status.Status.{Status}
 use Rattle.oct_verify.specs.declared.status.Status.TheVariants as of_block
 use Rattle.oct_overview.specs.Line.{period_of}
 use Rattle.oct_overview.specs.declared.line.LeastPeriod.{LeastPeriod}
-use Rattle.oct_sheet.specs.Names.{Called}
+use Rattle.oct_said.specs.Dots.{is_withdrawn}
+use Rattle.oct_said.specs.Noting.{said_of}
+use Rattle.oct_said.specs.declared.noting.LongPeriod.{LongPeriod}
+use Rattle.oct_sheet.specs.Names.{Called, author_name}
 use Rattle.oct_sheet.specs.Sheet.{GameSheet, Sheet}
 use Rattle.oct_pages.specs.declared.statuses.BlockRow.{BlockRow}
 use Rattle.oct_pages.specs.declared.statuses.PeriodRow.{PeriodRow}
-use Rattle.serde_json.specs.Data.{Data, null, boolean, number, string, array, object, member, no_members, unsigned}
+use Rattle.oct_json.specs.Said.{SaidPeriod}
+use Rattle.oct_json.specs.declared.marked.MarkedBlock.{MarkedBlock}
+use Rattle.oct_json.specs.declared.marked.MarkedPeriod.{MarkedPeriod}
+use Rattle.serde_json.specs.Data.{Data, Members, null, boolean, number, string, array, object, member, no_members, unsigned}
 use Rattle.serde_json.specs.View.{items_of}
 
 abbrev pub count : ℕ → Data
@@ -29,21 +35,30 @@ word text = string text
 abbrev pub list : {X : Type 0} → (X → Data) → List X → Data
 list form xs = array (items_of (map form xs))
 
+-- the last member of what is withdrawn
+abbrev pub withdrawn_member : Bool → Members
+withdrawn_member true = member (codes "withdrawn") (boolean true) no_members
+withdrawn_member false = no_members
+
 -- ---- blocks
 
+-- a block, and whether it is withdrawn by these notes
+abbrev pub marked_block : List Operation → BlockRow → MarkedBlock
+marked_block notes b = record { row = b; is_withdrawn = is_withdrawn notes b.dot }
+
 -- a block of which no more is known than a word says
-abbrev pub plain_block : BlockRow → Data → Data
-plain_block b status =
+abbrev pub plain_block : BlockRow → Data → Bool → Data
+plain_block b status withdrawn =
     object
     (member (codes "author") (count b.dot.author)
     (member (codes "count") (count b.count)
     (member (codes "number") (count b.dot.number)
     (member (codes "start") (count b.start)
-    (member (codes "status") status no_members)))))
+    (member (codes "status") status (withdrawn_member withdrawn))))))
 
 -- a block with its least wrong place, the value that it claims there, and the nim-value
-abbrev pub refuted_block : BlockRow → ℕ → ℕ → ℕ → Data
-refuted_block b place claimed truth =
+abbrev pub refuted_block : BlockRow → ℕ → ℕ → ℕ → Bool → Data
+refuted_block b place claimed truth withdrawn =
     object
     (member (codes "at") (count place)
     (member (codes "author") (count b.dot.author)
@@ -52,56 +67,83 @@ refuted_block b place claimed truth =
     (member (codes "number") (count b.dot.number)
     (member (codes "start") (count b.start)
     (member (codes "status") (word (codes "refuted"))
-    (member (codes "true") (count truth) no_members))))))))
+    (member (codes "true") (count truth) (withdrawn_member withdrawn)))))))))
 
-abbrev pub block_by : BlockRow → Status → Data
-block_by b of_block.Proved = plain_block b (word (codes "proved"))
-block_by b (of_block.Refuted place claimed truth) = refuted_block b place claimed truth
-block_by b of_block.Pending = plain_block b (word (codes "pending"))
+abbrev pub block_by : BlockRow → Bool → Status → Data
+block_by b withdrawn of_block.Proved = plain_block b (word (codes "proved")) withdrawn
+block_by b withdrawn (of_block.Refuted place claimed truth) = refuted_block b place claimed truth withdrawn
+block_by b withdrawn of_block.Pending = plain_block b (word (codes "pending")) withdrawn
 
-abbrev pub block_data : BlockRow → Data
-block_data b = block_by b b.status
+abbrev pub block_data : MarkedBlock → Data
+block_data b = block_by b.row b.is_withdrawn b.row.status
 
 -- ---- period claims
 
-abbrev pub proved_period : PeriodRow → Data
-proved_period p =
+-- a claim, and whether it is withdrawn by these notes
+abbrev pub marked_period : List Operation → PeriodRow → MarkedPeriod
+marked_period notes p = record { row = p; is_withdrawn = is_withdrawn notes p.dot }
+
+abbrev pub proved_period : PeriodRow → Bool → Data
+proved_period p withdrawn =
     object
     (member (codes "author") (count p.dot.author)
     (member (codes "number") (count p.dot.number)
     (member (codes "period") (count p.period.period)
     (member (codes "start") (count p.period.start)
-    (member (codes "status") (word (codes "proved")) no_members)))))
+    (member (codes "status") (word (codes "proved")) (withdrawn_member withdrawn))))))
 
 -- a claim with the least heap that breaks it
-abbrev pub refuted_period : PeriodRow → ℕ → Data
-refuted_period p place =
+abbrev pub refuted_period : PeriodRow → ℕ → Bool → Data
+refuted_period p place withdrawn =
     object
     (member (codes "at") (count place)
     (member (codes "author") (count p.dot.author)
     (member (codes "number") (count p.dot.number)
     (member (codes "period") (count p.period.period)
     (member (codes "start") (count p.period.start)
-    (member (codes "status") (word (codes "refuted")) no_members))))))
+    (member (codes "status") (word (codes "refuted")) (withdrawn_member withdrawn)))))))
 
 -- a claim with how many known nim-values would decide it
-abbrev pub pending_period : PeriodRow → ℕ → Data
-pending_period p needs =
+abbrev pub pending_period : PeriodRow → ℕ → Bool → Data
+pending_period p needs withdrawn =
     object
     (member (codes "author") (count p.dot.author)
     (member (codes "needs") (count needs)
     (member (codes "number") (count p.dot.number)
     (member (codes "period") (count p.period.period)
     (member (codes "start") (count p.period.start)
-    (member (codes "status") (word (codes "pending")) no_members))))))
+    (member (codes "status") (word (codes "pending")) (withdrawn_member withdrawn)))))))
 
-abbrev pub period_by : PeriodRow → PeriodStatus → Data
-period_by p of_claim.Proved = proved_period p
-period_by p (of_claim.Refuted place) = refuted_period p place
-period_by p (of_claim.Pending needs) = pending_period p needs
+abbrev pub period_by : PeriodRow → Bool → PeriodStatus → Data
+period_by p withdrawn of_claim.Proved = proved_period p withdrawn
+period_by p withdrawn (of_claim.Refuted place) = refuted_period p place withdrawn
+period_by p withdrawn (of_claim.Pending needs) = pending_period p needs withdrawn
 
-abbrev pub period_data : PeriodRow → Data
-period_data p = period_by p p.status
+abbrev pub period_data : MarkedPeriod → Data
+period_data p = period_by p.row p.is_withdrawn p.row.status
+
+-- ---- long periods that somebody says
+
+-- with the name of who says it, by these notes
+abbrev pub said_row : List Operation → LongPeriod → SaidPeriod
+said_row notes long = record { long = long; name = author_name notes long.author }
+
+-- by an author that has a name, and by one that has none
+abbrev pub said_by : LongPeriod → List ℕ → Data
+said_by long [] =
+    object
+    (member (codes "author") (count long.author)
+    (member (codes "period") (count long.seen.period)
+    (member (codes "start") (count long.seen.start) no_members)))
+said_by long (b ∷ name) =
+    object
+    (member (codes "author") (count long.author)
+    (member (codes "name") (word (b ∷ name))
+    (member (codes "period") (count long.seen.period)
+    (member (codes "start") (count long.seen.start) no_members))))
+
+abbrev pub said_data : SaidPeriod → Data
+said_data s = said_by s.long s.name
 
 -- ---- the rest
 
@@ -114,19 +156,34 @@ least_data (Some least) =
     (member (codes "period") (count least.period.period)
     (member (codes "start") (count least.period.start) no_members)))
 
+-- what somebody says of the game, where somebody does, and then its values
+abbrev pub said_first : Data → Data → Members
+said_first said values = member (codes "said") said (member (codes "values") values no_members)
+
+abbrev pub said_and_values : List SaidPeriod → Data → Members
+said_and_values [] values = member (codes "values") values no_members
+said_and_values (s ∷ said) values = said_first (list said_data (s ∷ said)) values
+
 -- `known` is how many values there are
-abbrev pub game_by : GameSheet → Option LeastPeriod → Data
-game_by g least =
+abbrev pub game_with : Data → GameSheet → Data → Data → Members → Data
+game_with blocks g least periods rest =
     object
-    (member (codes "blocks") (list block_data g.blocks)
+    (member (codes "blocks") blocks
     (member (codes "code") (word (code_text g.code))
     (member (codes "known") (count (length g.values))
-    (member (codes "least_period") (least_data least)
-    (member (codes "periods") (list period_data g.periods)
-    (member (codes "values") (list count g.values) no_members))))))
+    (member (codes "least_period") least
+    (member (codes "periods") periods rest)))))
 
-abbrev pub game_data : GameSheet → Data
-game_data g = game_by g (period_of g)
+abbrev pub game_of : Data → GameSheet → Data → Data → List SaidPeriod → Data
+game_of blocks g least periods said = game_with blocks g least periods (said_and_values said (list count g.values))
+
+-- with what these notes say of it
+abbrev pub game_by : List Operation → GameSheet → Option LeastPeriod → Data
+game_by notes g least =
+    game_of (list block_data (map (marked_block notes) g.blocks)) g (least_data least) (list period_data (map (marked_period notes) g.periods)) (map (said_row notes) (said_of notes g.code))
+
+abbrev pub game_data : List Operation → GameSheet → Data
+game_data notes g = game_by notes g (period_of g)
 
 abbrev pub note_data : Dot → Note → Data
 note_data d n =
@@ -175,4 +232,4 @@ document_of authors forks games notes =
     (member (codes "notes") notes no_members)))))
 
 abbrev pub document : Sheet → Data
-document s = document_of (list author_data s.authors) (list fork_data s.forks) (list game_data s.games) (list op_data s.notes)
+document s = document_of (list author_data s.authors) (list fork_data s.forks) (list (game_data s.remarks) s.games) (list op_data s.notes)

@@ -5,47 +5,31 @@ ghost use Rattle.std.specs.Prelude.{◌≡◌, ◌++◌, map, IfOk, OnErr, OnOk}
 ghost use Rattle.serde_json.specs.Data.{Data, array};
 ghost use Rattle.serde_json.specs.View.{items_of, view};
 ghost use Rattle.serde_json.specs.Written.{compact_text};
-ghost use Rattle.oct_ops.specs.Operations.{listed};
 ghost use Rattle.oct_pages.specs.Contents.{game_content};
-ghost use Rattle.oct_json.specs.Json.{document, game_data};
+ghost use Rattle.oct_json.specs.Json.{game_data};
 ghost use Rattle.oct_overview.specs.Line.{period_of};
-ghost use Rattle.oct_sheet.specs.Sheet.{sheet};
 
-use crate::document::append_document;
 use crate::json_rows::game_json;
 use oct_overview::LeastPeriod;
 use oct_pages::GameSheet;
-use oct_record::Record;
+use oct_sheet::Remarks;
 use serde_json::Value;
 use std::alloc::{AllocError, Global};
 
-/// Appends what views show of a record as one JSON document, without spaces, as `specs/Json` says. Each author, fork, game and
-/// note is built and written before the next. The one error is that memory is refused, and then `out` stays as it is.
-pub fn write_json(alloc: Global, said: &Record<Global>, out: &mut Vec<u8>) -> Result<(), AllocError>
-    ensures ok { OnOk result (out.new.items ≡ out.old.items ++ compact_text (document (sheet (listed said.now.ops)))) }
-    ensures err { OnErr result (out.new.items ≡ out.old.items) }
-{
-    let before = out.len();
-    let written = append_document(alloc, said, out);
-    if written.is_err() {
-        out.truncate(before);
-    }
-    written
-}
-
-/// Appends what views show of one game with this least period as one JSON object, without spaces. The one error is that memory is
+/// Appends what views show of one game with this least period, and with what these remarks say of it, as one JSON object, without spaces. The one error is that memory is
 /// refused, and then `out` stays as it is.
 pub fn write_game_json(
     alloc: Global,
     game: &GameSheet<'_, Global>,
+    remarks: &Remarks<'_, Global>,
     least: &Option<LeastPeriod>,
     out: &mut Vec<u8>,
 ) -> Result<(), AllocError>
     requires { least.now ≡ period_of (game_content game.now) }
-    ensures ok { OnOk result (out.new.items ≡ out.old.items ++ compact_text (game_data (game_content game.now))) }
+    ensures ok { OnOk result (out.new.items ≡ out.old.items ++ compact_text (game_data remarks.now (game_content game.now))) }
     ensures err { OnErr result (out.new.items ≡ out.old.items) }
 {
-    let value = game_json(alloc, game, least)?;
+    let value = game_json(alloc, game, remarks, least)?;
     let text = value.to_string(alloc)?;
     out.extend_from_slice(text.as_bytes())
 }

@@ -1,19 +1,23 @@
 //! The rows of a sheet as JSON.
 
-ghost use Rattle.std.specs.Prelude.{◌≡◌, ◌<◌, [], IfOk, length};
+ghost use Rattle.std.specs.Prelude.{◌≡◌, ◌<◌, [], IfOk, false, length, true};
 ghost use Rattle.std.specs.Str.{IsAscii};
 ghost use Rattle.serde_json.specs.View.{view};
 ghost use Rattle.oct_code.specs.CodeText.{code_text};
 ghost use Rattle.oct_pages.specs.Contents.{game_content};
-ghost use Rattle.oct_json.specs.Json.{called_data, game_by, least_data, note_data, pending_period, plain_block, proved_period, refuted_block, refuted_period, word};
+ghost use Rattle.oct_json.specs.Json.{called_data, count, game_by, game_of, game_with, least_data, list, note_data, pending_period, plain_block, proved_period, refuted_block, refuted_period, said_by, said_first, word};
 
 use crate::forms::{ToJson, array_of};
+use crate::marked::{
+    MarkedBlock, MarkedPeriod, SaidPeriod, marked_blocks, marked_periods, said_rows,
+};
 use oct_code::Code;
 use oct_ops::{Body, Dot, Note, Op};
 use oct_overview::LeastPeriod;
 use oct_pages::{BlockRow, GameSheet, PeriodRow};
 use oct_period::PeriodStatus;
-use oct_sheet::Called;
+use oct_said::LongPeriod;
+use oct_sheet::{Called, Remarks};
 use oct_store::{Author, Fork};
 use oct_verify::Status;
 use serde_json::{Value, json};
@@ -29,33 +33,49 @@ impl ToJson for u32 {
     }
 }
 
-impl ToJson for BlockRow {
+impl ToJson for MarkedBlock {
     ghost use Rattle.oct_json.specs.Json.{block_data};
 
     ghost form = { block_data };
 
     fn to_json(&self, alloc: Global) -> Result<Value, AllocError> {
-        match self.status {
-            Status::Proved => plain_block(alloc, self, "proved"),
-            Status::Pending => plain_block(alloc, self, "pending"),
+        match self.row.status {
+            Status::Proved => plain_block(alloc, &self.row, "proved", self.is_withdrawn),
+            Status::Pending => plain_block(alloc, &self.row, "pending", self.is_withdrawn),
             Status::Refuted { at, claimed, truth } => {
-                refuted_block(alloc, self, at, claimed, truth)
+                refuted_block(alloc, &self.row, at, claimed, truth, self.is_withdrawn)
             }
         }
     }
 }
 
 // A block of which no more is known than the word says.
-fn plain_block(alloc: Global, row: &BlockRow, status: &str) -> Result<Value, AllocError>
-    ensures { IfOk result (λ v. view v ≡ plain_block row.now (word status.now)) }
+fn plain_block(
+    alloc: Global,
+    row: &BlockRow,
+    status: &str,
+    is_withdrawn: bool,
+) -> Result<Value, AllocError>
+    ensures { IfOk result (λ v. view v ≡ plain_block row.now (word status.now) is_withdrawn) }
 {
-    json!(in alloc; {
-        "author": row.dot.author(),
-        "count": row.count,
-        "number": row.dot.number(),
-        "start": row.start,
-        "status": status
-    })
+    if is_withdrawn {
+        json!(in alloc; {
+            "author": row.dot.author(),
+            "count": row.count,
+            "number": row.dot.number(),
+            "start": row.start,
+            "status": status,
+            "withdrawn": true
+        })
+    } else {
+        json!(in alloc; {
+            "author": row.dot.author(),
+            "count": row.count,
+            "number": row.dot.number(),
+            "start": row.start,
+            "status": status
+        })
+    }
 }
 
 // A block that is wrong at a heap.
@@ -65,8 +85,49 @@ fn refuted_block(
     at: u32,
     claimed: u32,
     truth: u32,
+    is_withdrawn: bool,
 ) -> Result<Value, AllocError>
-    ensures { IfOk result (λ v. view v ≡ refuted_block row.now at claimed truth) }
+    ensures { IfOk result (λ v. view v ≡ refuted_block row.now at claimed truth is_withdrawn) }
+{
+    if is_withdrawn {
+        withdrawn_refutation(alloc, row, at, claimed, truth)
+    } else {
+        standing_refutation(alloc, row, at, claimed, truth)
+    }
+}
+
+// A block that is wrong at a heap, and withdrawn.
+fn withdrawn_refutation(
+    alloc: Global,
+    row: &BlockRow,
+    at: u32,
+    claimed: u32,
+    truth: u32,
+) -> Result<Value, AllocError>
+    ensures { IfOk result (λ v. view v ≡ refuted_block row.now at claimed truth true) }
+{
+    json!(in alloc; {
+        "at": at,
+        "author": row.dot.author(),
+        "claimed": claimed,
+        "count": row.count,
+        "number": row.dot.number(),
+        "start": row.start,
+        "status": "refuted",
+        "true": truth,
+        "withdrawn": true
+    })
+}
+
+// A block that is wrong at a heap, and not withdrawn.
+fn standing_refutation(
+    alloc: Global,
+    row: &BlockRow,
+    at: u32,
+    claimed: u32,
+    truth: u32,
+) -> Result<Value, AllocError>
+    ensures { IfOk result (λ v. view v ≡ refuted_block row.now at claimed truth false) }
 {
     json!(in alloc; {
         "at": at,
@@ -80,80 +141,240 @@ fn refuted_block(
     })
 }
 
-impl ToJson for PeriodRow {
+impl ToJson for MarkedPeriod {
     ghost use Rattle.oct_json.specs.Json.{period_data};
 
     ghost form = { period_data };
 
     fn to_json(&self, alloc: Global) -> Result<Value, AllocError> {
-        match self.status {
-            PeriodStatus::Proved => proved_period(alloc, self),
-            PeriodStatus::Refuted { at } => refuted_period(alloc, self, at),
-            PeriodStatus::Pending { needs } => pending_period(alloc, self, needs),
+        match self.row.status {
+            PeriodStatus::Proved => proved_period(alloc, &self.row, self.is_withdrawn),
+            PeriodStatus::Refuted { at } => {
+                refuted_period(alloc, &self.row, at, self.is_withdrawn)
+            }
+            PeriodStatus::Pending { needs } => {
+                pending_period(alloc, &self.row, needs, self.is_withdrawn)
+            }
         }
     }
 }
 
 // A claim that is proved.
-fn proved_period(alloc: Global, row: &PeriodRow) -> Result<Value, AllocError>
-    ensures { IfOk result (λ v. view v ≡ proved_period row.now) }
+fn proved_period(alloc: Global, row: &PeriodRow, is_withdrawn: bool) -> Result<Value, AllocError>
+    ensures { IfOk result (λ v. view v ≡ proved_period row.now is_withdrawn) }
 {
-    json!(in alloc; {
-        "author": row.dot.author(),
-        "number": row.dot.number(),
-        "period": row.period.period(),
-        "start": row.period.start(),
-        "status": "proved"
-    })
+    if is_withdrawn {
+        json!(in alloc; {
+            "author": row.dot.author(),
+            "number": row.dot.number(),
+            "period": row.period.period(),
+            "start": row.period.start(),
+            "status": "proved",
+            "withdrawn": true
+        })
+    } else {
+        json!(in alloc; {
+            "author": row.dot.author(),
+            "number": row.dot.number(),
+            "period": row.period.period(),
+            "start": row.period.start(),
+            "status": "proved"
+        })
+    }
 }
 
 // A claim that a heap breaks.
-fn refuted_period(alloc: Global, row: &PeriodRow, at: u32) -> Result<Value, AllocError>
-    ensures { IfOk result (λ v. view v ≡ refuted_period row.now at) }
+fn refuted_period(
+    alloc: Global,
+    row: &PeriodRow,
+    at: u32,
+    is_withdrawn: bool,
+) -> Result<Value, AllocError>
+    ensures { IfOk result (λ v. view v ≡ refuted_period row.now at is_withdrawn) }
 {
-    json!(in alloc; {
-        "at": at,
-        "author": row.dot.author(),
-        "number": row.dot.number(),
-        "period": row.period.period(),
-        "start": row.period.start(),
-        "status": "refuted"
-    })
+    if is_withdrawn {
+        json!(in alloc; {
+            "at": at,
+            "author": row.dot.author(),
+            "number": row.dot.number(),
+            "period": row.period.period(),
+            "start": row.period.start(),
+            "status": "refuted",
+            "withdrawn": true
+        })
+    } else {
+        json!(in alloc; {
+            "at": at,
+            "author": row.dot.author(),
+            "number": row.dot.number(),
+            "period": row.period.period(),
+            "start": row.period.start(),
+            "status": "refuted"
+        })
+    }
 }
 
 // A claim that so many known nim-values would decide.
-fn pending_period(alloc: Global, row: &PeriodRow, needs: u32) -> Result<Value, AllocError>
-    ensures { IfOk result (λ v. view v ≡ pending_period row.now needs) }
+fn pending_period(
+    alloc: Global,
+    row: &PeriodRow,
+    needs: u32,
+    is_withdrawn: bool,
+) -> Result<Value, AllocError>
+    ensures { IfOk result (λ v. view v ≡ pending_period row.now needs is_withdrawn) }
+{
+    if is_withdrawn {
+        json!(in alloc; {
+            "author": row.dot.author(),
+            "needs": needs,
+            "number": row.dot.number(),
+            "period": row.period.period(),
+            "start": row.period.start(),
+            "status": "pending",
+            "withdrawn": true
+        })
+    } else {
+        json!(in alloc; {
+            "author": row.dot.author(),
+            "needs": needs,
+            "number": row.dot.number(),
+            "period": row.period.period(),
+            "start": row.period.start(),
+            "status": "pending"
+        })
+    }
+}
+
+impl ToJson for SaidPeriod<'_> {
+    ghost use Rattle.oct_json.specs.Json.{said_data};
+
+    ghost form = { said_data };
+
+    fn to_json(&self, alloc: Global) -> Result<Value, AllocError> {
+        if self.name.is_empty() {
+            return said_by_number(alloc, &self.long);
+        }
+        said_by_name(alloc, &self.long, self.name)
+    }
+}
+
+// A long period that is said by an author who has no name.
+fn said_by_number(alloc: Global, long: &LongPeriod) -> Result<Value, AllocError>
+    ensures { IfOk result (λ v. view v ≡ said_by long.now []) }
 {
     json!(in alloc; {
-        "author": row.dot.author(),
-        "needs": needs,
-        "number": row.dot.number(),
-        "period": row.period.period(),
-        "start": row.period.start(),
-        "status": "pending"
+        "author": long.author,
+        "period": long.seen.period,
+        "start": long.seen.start
     })
 }
 
-/// The value of a game with this least period.
+// A long period that is said by an author of this name.
+fn said_by_name(alloc: Global, long: &LongPeriod, name: &[u8]) -> Result<Value, AllocError>
+    requires ascii { IsAscii name.now }
+    requires some { 0 < length name.now }
+    ensures { IfOk result (λ v. view v ≡ said_by long.now name.now) }
+{
+    json!(in alloc; {
+        "author": long.author,
+        "name": ascii(name),
+        "period": long.seen.period,
+        "start": long.seen.start
+    })
+}
+
+/// The value of a game with this least period, and with what is said of it.
 pub(crate) fn game_json(
     alloc: Global,
     game: &GameSheet<'_, Global>,
+    remarks: &Remarks<'_, Global>,
     least: &Option<LeastPeriod>,
 ) -> Result<Value, AllocError>
-    ensures { IfOk result (λ v. view v ≡ game_by (game_content game.now) least.now) }
+    ensures { IfOk result (λ v. view v ≡ game_by remarks.now (game_content game.now) least.now) }
+{
+    let blocks = array_of(alloc, &marked_blocks(alloc, &game.blocks, remarks)?)?;
+    let periods = array_of(alloc, &marked_periods(alloc, &game.periods, remarks)?)?;
+    let said = said_rows(alloc, remarks.said_of(game.code), remarks)?;
+    let least = least_json(alloc, least)?;
+    game_from(alloc, game, blocks, least, periods, &said)
+}
+
+// The value of a game of which these long periods are said.
+fn game_from(
+    alloc: Global,
+    game: &GameSheet<'_, Global>,
+    blocks: Value,
+    least: Value,
+    periods: Value,
+    said: &[SaidPeriod<'_>],
+) -> Result<Value, AllocError>
+    ensures { IfOk result (λ v. view v ≡ game_of (view blocks) (game_content game.now) (view least) (view periods) said.now) }
+{
+    if said.is_empty() {
+        silent_game(alloc, game, blocks, least, periods)
+    } else {
+        told_game(alloc, game, blocks, least, periods, said)
+    }
+}
+
+// The value of a game of which none is said.
+fn silent_game(
+    alloc: Global,
+    game: &GameSheet<'_, Global>,
+    blocks: Value,
+    least: Value,
+    periods: Value,
+) -> Result<Value, AllocError>
+    ensures { IfOk result (λ v. view v ≡ game_of (view blocks) (game_content game.now) (view least) (view periods) []) }
 {
     let code = code_value(alloc, &game.code)?;
-    let blocks = array_of(alloc, &game.blocks)?;
-    let periods = array_of(alloc, &game.periods)?;
     let values = array_of(alloc, game.values)?;
-    let least = least_json(alloc, least)?;
     json!(in alloc; {
         "blocks": blocks,
         "code": code,
         "known": game.values.len(),
         "least_period": least,
         "periods": periods,
+        "values": values
+    })
+}
+
+// The value of a game of which some are said.
+fn told_game(
+    alloc: Global,
+    game: &GameSheet<'_, Global>,
+    blocks: Value,
+    least: Value,
+    periods: Value,
+    said: &[SaidPeriod<'_>],
+) -> Result<Value, AllocError>
+    requires { 0 < length said.now }
+    ensures { IfOk result (λ v. view v ≡ game_of (view blocks) (game_content game.now) (view least) (view periods) said.now) }
+{
+    let said = array_of(alloc, said)?;
+    game_that_has(alloc, game, blocks, least, periods, said)
+}
+
+// The value of a game with this member of what is said.
+fn game_that_has(
+    alloc: Global,
+    game: &GameSheet<'_, Global>,
+    blocks: Value,
+    least: Value,
+    periods: Value,
+    said: Value,
+) -> Result<Value, AllocError>
+    ensures { IfOk result (λ v. view v ≡ game_with (view blocks) (game_content game.now) (view least) (view periods) (said_first (view said) (list count (game_content game.now).values))) }
+{
+    let code = code_value(alloc, &game.code)?;
+    let values = array_of(alloc, game.values)?;
+    json!(in alloc; {
+        "blocks": blocks,
+        "code": code,
+        "known": game.values.len(),
+        "least_period": least,
+        "periods": periods,
+        "said": said,
         "values": values
     })
 }

@@ -9,6 +9,7 @@ use Rattle.oct_pages.specs.declared.statuses.PeriodRow.{PeriodRow}
 use Rattle.oct_period.specs.Claims.{is_same}
 use Rattle.oct_period.specs.Found.{claims_up_to}
 use Rattle.oct_period.specs.Periods.{first_break, is_proved, status_at}
+use Rattle.oct_sheet.specs.Sheet.{remarks_of}
 use Rattle.oct_sheet.specs.Summary.{summary_of}
 use Rattle.oct_text.specs.declared.form.Form.{Form}
 use Rattle.oct_text.specs.declared.told.Told.{Told}
@@ -50,8 +51,9 @@ with_least g = record g { proved = least_in g }
 
 -- ---- the line of a game
 
-abbrev pub line_of : GameSheet → GameLine
-line_of g = record { summary = summary_of g; least = period_of g }
+-- some of it is withdrawn by these notes
+abbrev pub line_of : List Operation → GameSheet → GameLine
+line_of notes g = record { summary = summary_of notes g; least = period_of g }
 
 -- ---- which games are told of
 
@@ -75,7 +77,7 @@ is_selected which line = list_all (λ condition. holds condition line) which
 
 -- those of the games of which each condition holds, in their order
 abbrev pub selected : List Condition → List Operation → List Code → List Code
-selected which ops games = filter (λ c. is_selected which (line_of (game_sheet ops c))) games
+selected which ops games = filter (λ c. is_selected which (line_of (remarks_of ops) (game_sheet ops c))) games
 
 -- ---- what is told in lines
 

@@ -13,23 +13,20 @@ use Rattle.oct_pages.specs.declared.statuses.PeriodRow.{PeriodRow}
 use Rattle.oct_period.specs.declared.status.PeriodStatus.TheVariants as of_claim
 use Rattle.oct_verify.specs.declared.status.Status.TheVariants as of_block
 use Rattle.oct_text.specs.Escape.{quoted}
+use Rattle.oct_said.specs.Dots.{is_withdrawn}
 use Rattle.oct_sheet.specs.Names.{author_name}
-use Rattle.oct_sheet.specs.Sheet.{names_of}
-use Rattle.oct_sheet.specs.declared.summary.Tally.{Tally}
+use Rattle.oct_sheet.specs.Sheet.{remarks_of}
+use Rattle.oct_sheet.specs.declared.summary.GameTally.{GameTally}
 use Rattle.oct_text.specs.declared.form.Form.{Form}
 use Rattle.oct_text.specs.declared.form.Form.TheVariants.{Lines, Json}
 use Rattle.oct_overview.specs.Line.{is_selected, line_of}
+use Rattle.oct_overview.specs.Said.{called_words, name_words, said_words, word}
 use Rattle.oct_overview.specs.Tables.{csv_head, csv_row, latex_foot, latex_head, latex_row}
 use Rattle.oct_overview.specs.declared.line.GameLine.{GameLine}
 use Rattle.oct_overview.specs.declared.line.LeastPeriod.{LeastPeriod}
 use Rattle.oct_overview.specs.declared.listing.Condition.{Condition}
 use Rattle.oct_overview.specs.declared.listing.Listing.{Listing}
 use Rattle.oct_overview.specs.declared.listing.Listing.TheVariants.{Games, Refuted, Csv, Latex}
-
--- what stands in a line of words, and what in an object
-abbrev pub word : Form → Text → Text → Text
-word Lines line object = line
-word Json line object = object
 
 -- ---- the line of a game
 
@@ -51,36 +48,41 @@ period_words form (Some least) = concat (
     ∷ claim_word form least.is_claimed ∷ [])
 period_words form None = word form (codes " no period") (codes ",\"period\":null")
 
--- how many are proved, refuted and pending
-abbrev pub tally_words : Form → Text → Tally → Text
-tally_words form front tally = concat (
-    front ∷ decimal tally.proved ∷ word form (codes " refuted ") (codes ",\"refuted\":") ∷ decimal tally.refuted
-    ∷ word form (codes " pending ") (codes ",\"pending\":") ∷ decimal tally.pending ∷ [])
+-- how many are withdrawn, where some are
+abbrev pub withdrawn_count : Form → ℕ → Text
+withdrawn_count form withdrawn = if withdrawn == 0 then [] else concat (word form (codes " withdrawn ") (codes ",\"withdrawn\":") ∷ decimal withdrawn ∷ [])
 
-abbrev pub block_words : Form → Tally → Text
+-- how many are proved, how many are refuted and stand or are withdrawn, and how many are pending
+abbrev pub proved_words : Form → Text → GameTally → Text
+proved_words form front tally = concat (front ∷ decimal tally.proved ∷ word form (codes " refuted ") (codes ",\"refuted\":") ∷ decimal tally.refuted ∷ [])
+
+abbrev pub pending_words : Form → ℕ → Text
+pending_words form pending = concat (word form (codes " pending ") (codes ",\"pending\":") ∷ decimal pending ∷ [])
+
+abbrev pub tally_words : Form → Text → GameTally → Text
+tally_words form front tally = concat (proved_words form front tally ∷ withdrawn_count form tally.withdrawn ∷ pending_words form tally.pending ∷ [])
+
+abbrev pub block_words : Form → GameTally → Text
 block_words form tally = tally_words form (word form (codes " blocks proved ") (codes ",\"blocks\":{\"proved\":")) tally
 
-abbrev pub claim_words : Form → Tally → Text
+abbrev pub claim_words : Form → GameTally → Text
 claim_words form tally = tally_words form (word form (codes " claims proved ") (codes "},\"claims\":{\"proved\":")) tally
 
-abbrev pub line_text : Form → GameLine → Text
-line_text form line = concat (
+abbrev pub line_text : Form → List Operation → GameLine → Text
+line_text form notes line = concat (
     known_words form line.summary.code line.summary.known ∷ period_words form line.least ∷ block_words form line.summary.blocks
-    ∷ claim_words form line.summary.claims ∷ word form (codes "\n") (codes "}}\n") ∷ [])
+    ∷ claim_words form line.summary.claims ∷ said_words form notes line.summary.code ∷ [])
 
 -- ---- the lines of what is refuted
 
--- the name of the author, where there is one
-abbrev pub called_words : Form → Text → Text
-called_words Lines name = concat (codes " author " ∷ name ∷ [])
-called_words Json name = concat (codes ",\"name\":\"" ∷ quoted name ∷ codes "\"" ∷ [])
+-- that it is withdrawn, where it is
+abbrev pub withdrawn_word : Form → Bool → Text
+withdrawn_word form true = word form (codes " withdrawn") (codes ",\"withdrawn\":true")
+withdrawn_word form false = []
 
-abbrev pub name_words : Form → Text → Text
-name_words form name = if length name == 0 then [] else called_words form name
-
--- the name, and the end of the line
+-- whether it is withdrawn, the name, and the end of the line
 abbrev pub line_end : Form → List Operation → Dot → Text
-line_end form names d = concat (name_words form (author_name names d.author) ∷ word form (codes "\n") (codes "}\n") ∷ [])
+line_end form notes d = concat (withdrawn_word form (is_withdrawn notes d) ∷ name_words form (author_name notes d.author) ∷ word form (codes "\n") (codes "}\n") ∷ [])
 
 -- a block of a game, and at which heap it is wrong, what it claims there, and what is true
 abbrev pub wrong_block : Form → Code → BlockRow → ℕ → ℕ → ℕ → Text
@@ -91,11 +93,11 @@ wrong_block form c row heap claimed truth = concat (
     ∷ word form (codes " true ") (codes ",\"true\":") ∷ decimal truth ∷ [])
 
 abbrev pub refuted_block : Form → List Operation → Code → BlockRow → ℕ → ℕ → ℕ → Text
-refuted_block form names c row heap claimed truth = concat (wrong_block form c row heap claimed truth ∷ line_end form names row.dot ∷ [])
+refuted_block form notes c row heap claimed truth = concat (wrong_block form c row heap claimed truth ∷ line_end form notes row.dot ∷ [])
 
 abbrev pub block_refutation : Form → List Operation → Code → BlockRow → Text
-block_refutation form names c row =
-    elim row.status [ of_block.Proved ↦ [] | of_block.Refuted heap claimed truth ↦ refuted_block form names c row heap claimed truth | of_block.Pending ↦ [] ]
+block_refutation form notes c row =
+    elim row.status [ of_block.Proved ↦ [] | of_block.Refuted heap claimed truth ↦ refuted_block form notes c row heap claimed truth | of_block.Pending ↦ [] ]
 
 -- a claim of a game, and at which heap it breaks first
 abbrev pub wrong_claim : Form → Code → PeriodRow → ℕ → Text
@@ -113,28 +115,28 @@ both_values form (Some value) None later = []
 both_values form None other later = []
 
 abbrev pub refuted_claim : Form → List Operation → Code → List ℕ → PeriodRow → ℕ → Text
-refuted_claim form names c values row heap =
+refuted_claim form notes c values row heap =
     let later = heap + row.period.period in
-    concat (wrong_claim form c row heap ∷ both_values form (slice_get values heap) (slice_get values later) later ∷ line_end form names row.dot ∷ [])
+    concat (wrong_claim form c row heap ∷ both_values form (slice_get values heap) (slice_get values later) later ∷ line_end form notes row.dot ∷ [])
 
 abbrev pub claim_refutation : Form → List Operation → Code → List ℕ → PeriodRow → Text
-claim_refutation form names c values row =
-    elim row.status [ of_claim.Proved ↦ [] | of_claim.Refuted heap ↦ refuted_claim form names c values row heap | of_claim.Pending needs ↦ [] ]
+claim_refutation form notes c values row =
+    elim row.status [ of_claim.Proved ↦ [] | of_claim.Refuted heap ↦ refuted_claim form notes c values row heap | of_claim.Pending needs ↦ [] ]
 
 abbrev pub refutations : Form → List Operation → GameSheet → Text
-refutations form names g = flat_map (block_refutation form names g.code) g.blocks ++ flat_map (claim_refutation form names g.code g.values) g.periods
+refutations form notes g = flat_map (block_refutation form notes g.code) g.blocks ++ flat_map (claim_refutation form notes g.code g.values) g.periods
 
--- ---- what is told of a game that has this line, with the names of authors by these notes
+-- ---- what is told of a game that has this line, with what these notes say
 
 abbrev pub told : Listing → List Operation → GameSheet → GameLine → Text
-told (Games form) names g line = line_text form line
-told (Refuted form) names g line = refutations form names g
-told Csv names g line = csv_row line
-told Latex names g line = latex_row line
+told (Games form) notes g line = line_text form notes line
+told (Refuted form) notes g line = refutations form notes g
+told Csv notes g line = csv_row line
+told Latex notes g line = latex_row line
 
 -- and nothing where a condition does not hold
 abbrev pub told_if : List Condition → Listing → List Operation → GameSheet → Text
-told_if which listing names g = if is_selected which (line_of g) then told listing names g (line_of g) else []
+told_if which listing notes g = if is_selected which (line_of notes g) then told listing notes g (line_of notes g) else []
 
 -- ---- what is told of games
 
@@ -153,7 +155,7 @@ foot Latex = latex_foot
 
 -- what is told of a game among these operations
 abbrev pub told_of : Listing → List Operation → Code → Text
-told_of listing ops c = told listing (names_of ops) (game_sheet ops c) (line_of (game_sheet ops c))
+told_of listing ops c = told listing (remarks_of ops) (game_sheet ops c) (line_of (remarks_of ops) (game_sheet ops c))
 
 abbrev pub overview : Listing → List Operation → List Code → Text
 overview listing ops games = head listing ++ flat_map (told_of listing ops) games ++ foot listing

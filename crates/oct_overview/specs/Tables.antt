@@ -4,7 +4,7 @@ use Rattle.std.specs.List.{concat}
 use Rattle.std.specs.Fmt.{decimal}
 use Rattle.oct_code.specs.CodeText.{code_text}
 use Rattle.oct_text.specs.Words.{Text}
-use Rattle.oct_sheet.specs.declared.summary.Tally.{Tally}
+use Rattle.oct_sheet.specs.declared.summary.GameTally.{GameTally}
 use Rattle.oct_overview.specs.declared.line.GameLine.{GameLine}
 use Rattle.oct_overview.specs.declared.line.LeastPeriod.{LeastPeriod}
 
@@ -28,7 +28,7 @@ csv_period None = codes ",,,"
 csv_period (Some least) = concat (codes "," ∷ decimal least.period.period ∷ codes "," ∷ decimal least.period.start ∷ codes "," ∷ truth least.is_claimed ∷ [])
 
 -- how many are proved, refuted and pending
-abbrev pub csv_tally : Tally → Text
+abbrev pub csv_tally : GameTally → Text
 csv_tally tally = concat (codes "," ∷ decimal tally.proved ∷ codes "," ∷ decimal tally.refuted ∷ codes "," ∷ decimal tally.pending ∷ [])
 
 abbrev pub csv_game : GameLine → Text

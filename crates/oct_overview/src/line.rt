@@ -7,7 +7,7 @@ ghost use Rattle.oct_overview.specs.Line.{claimed_in, has_period, holds, is_sele
 use crate::listing::Condition;
 use oct_ops::Period;
 use oct_pages::{GameSheet, PeriodRow};
-use oct_sheet::Summary;
+use oct_sheet::{Remarks, Summary};
 use std::alloc::Allocator;
 
 /// The least period that the known nim-values of a game prove, from the least start on.
@@ -48,16 +48,17 @@ pub struct GameLine {
 }
 
 impl GameLine {
-    /// The line of a game, of which this period was found.
-    pub(crate) fn of<A: Allocator + Copy>(
+    /// The line of a game, of which this period was found, with what is withdrawn by these remarks.
+    pub(crate) fn of<A: Allocator + Copy, B: Allocator + Copy>(
         sheet: &GameSheet<'_, A>,
+        remarks: &Remarks<'_, B>,
         found: &Option<Period>,
     ) -> GameLine
         requires { found.now ≡ least_in (game_content sheet.now) }
-        ensures { result ≡ line_of (game_content sheet.now) }
+        ensures { result ≡ line_of remarks.now (game_content sheet.now) }
     {
         GameLine {
-            summary: Summary::of(sheet),
+            summary: Summary::of(sheet, remarks),
             least: LeastPeriod::of(sheet, found),
         }
     }

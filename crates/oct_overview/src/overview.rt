@@ -9,58 +9,63 @@ ghost use Rattle.oct_ops.specs.Growth.{Extends};
 ghost use Rattle.oct_pages.specs.Sheet.{game_sheet};
 ghost use Rattle.oct_store.specs.Summary as summary;
 ghost use Rattle.oct_overview.specs.Line.{line_of, selected};
-ghost use Rattle.oct_overview.specs.Overview.{block_refutation, block_words, both_values, called_words, claim_refutation, claim_word, claim_words, foot, head, known_words, line_end, line_text, name_words, overview, period_words, refutations, refuted_claim, tally_words, told, told_if, word, wrong_block, wrong_claim};
+ghost use Rattle.oct_overview.specs.Overview.{block_refutation, block_words, both_values, claim_refutation, claim_word, claim_words, foot, head, known_words, line_end, line_text, overview, pending_words, period_words, proved_words, refutations, refuted_claim, tally_words, told, told_if, withdrawn_count, withdrawn_word, wrong_block, wrong_claim};
+ghost use Rattle.oct_overview.specs.Said.{word};
 
 use crate::line::{GameLine, LeastPeriod};
 use crate::listing::{Condition, Listing};
+use crate::said::{append_name, append_said, append_word, word};
 use crate::tables::{append_csv_row, append_latex_row};
 use oct_code::Code;
 use oct_join::OpSet;
 use oct_ops::Dot;
-use oct_pages::{BlockRow, GameSheet, PeriodRow, game_of};
+use oct_pages::{BlockRow, GameProgress, GameSheet, PeriodRow, game_of};
 use oct_period::PeriodStatus;
 use oct_record::Record;
-use oct_sheet::{Names, Tally};
-use oct_text::Piece::{Code as CodeText, Dot as DotText, Number, Quoted, Text};
+use oct_sheet::{GameTally, Remarks};
+use oct_text::Piece::{Code as CodeText, Dot as DotText, Number, Text};
 use oct_text::{Form, append_pieces, append_text};
 use oct_verify::Status;
 use std::alloc::{AllocError, Allocator};
 
-/// Appends what is told of those games of these codes for which each of the conditions holds, as `specs/Overview` spells it, with
-/// the names of authors behind what is refuted. Each game is built in its turn, and let go before the next; one of which nothing
-/// was said is told of too, if the conditions hold. The one error is that memory is refused, and then `out` stays as it is.
-pub fn write_overview<A: Allocator + Copy>(
+/// Appends what is told of those games of these codes for which each of the conditions holds, as `specs/Overview` spells it. Behind
+/// what is refuted stands whether it is withdrawn, and the name of the author; behind the line of a game, or in its object, stand the
+/// long periods that somebody says of it. Each game is built in its turn, of which `progress` is told before, and let go before the
+/// next; one of which nothing was said is told of too, if the conditions hold. The one error is that memory is refused, and then `out` stays as it is.
+pub fn write_overview<P: GameProgress, A: Allocator + Copy>(
     said: &Record<A>,
     codes: &[Code],
     which: &[Condition],
     listing: Listing,
+    progress: &mut P,
     out: &mut Vec<u8, A>,
 ) -> Result<(), AllocError>
     ensures ok { OnOk result (out.new.items ≡ out.old.items ++ overview listing (listed said.now.ops) (selected which.now (listed said.now.ops) codes.now)) }
     ensures err { OnErr result (out.new.items ≡ out.old.items) }
 {
     let before = out.len();
-    let written = append_named(out, said, codes, which, listing);
+    let written = append_named(out, said, codes, which, listing, progress);
     if written.is_err() {
         out.truncate(before);
     }
     written
 }
 
-// Appends what is told of the games, with the names of authors, between the head and the foot.
-fn append_named<A: Allocator + Copy>(
+// Appends what is told of the games, with what notes say, between the head and the foot.
+fn append_named<P: GameProgress, A: Allocator + Copy>(
     out: &mut Vec<u8, A>,
     said: &Record<A>,
     codes: &[Code],
     which: &[Condition],
     listing: Listing,
+    progress: &mut P,
 ) -> Result<(), AllocError>
     ensures ok { OnOk result (out.new.items ≡ out.old.items ++ overview listing (listed said.now.ops) (selected which.now (listed said.now.ops) codes.now)) }
     ensures grown { Extends out.old.items out.new.items }
 {
-    let names = Names::of_record(said)?;
+    let remarks = Remarks::of_record(said)?;
     append_text(out, head(listing))?;
-    append_games(out, said, codes, &names, which, listing)?;
+    append_games(out, said, codes, &remarks, which, listing, progress)?;
     append_text(out, foot(listing))
 }
 
@@ -87,19 +92,24 @@ fn foot(listing: Listing) -> &'static [u8]
 }
 
 // Appends what is told of the games.
-fn append_games<A: Allocator + Copy>(
+fn append_games<P: GameProgress, A: Allocator + Copy>(
     out: &mut Vec<u8, A>,
     said: &Record<A>,
     codes: &[Code],
-    names: &Names<'_, A>,
+    remarks: &Remarks<'_, A>,
     which: &[Condition],
     listing: Listing,
+    progress: &mut P,
 ) -> Result<(), AllocError>
-    ensures ok { OnOk result (out.new.items ≡ out.old.items ++ flat_map (λ c. told_if which.now listing names.now (game_sheet (listed said.now.ops) c)) codes.now) }
+    ensures ok { OnOk result (out.new.items ≡ out.old.items ++ flat_map (λ c. told_if which.now listing remarks.now (game_sheet (listed said.now.ops) c)) codes.now) }
     ensures grown { Extends out.old.items out.new.items }
 {
+    let all = codes.len() as u64;
+    let mut done = 0;
     for code in codes {
-        append_game(out, said, *code, names, which, listing)?;
+        progress.tell(*code, done, all);
+        append_game(out, said, *code, remarks, which, listing)?;
+        done = done.saturating_add(1);
     }
     Ok(())
 }
@@ -109,21 +119,21 @@ fn append_game<A: Allocator + Copy>(
     out: &mut Vec<u8, A>,
     said: &Record<A>,
     code: Code,
-    names: &Names<'_, A>,
+    remarks: &Remarks<'_, A>,
     which: &[Condition],
     listing: Listing,
 ) -> Result<(), AllocError>
-    ensures ok { OnOk result (out.new.items ≡ out.old.items ++ told_if which.now listing names.now (game_sheet (listed said.now.ops) code)) }
+    ensures ok { OnOk result (out.new.items ≡ out.old.items ++ told_if which.now listing remarks.now (game_sheet (listed said.now.ops) code)) }
     ensures grown { Extends out.old.items out.new.items }
 {
     match said.game(code) {
-        Some(ops) => append_built(out, said, code, ops, names, which, listing),
+        Some(ops) => append_built(out, said, code, ops, remarks, which, listing),
         None => append_built(
             out,
             said,
             code,
             &OpSet::new(said.allocator()),
-            names,
+            remarks,
             which,
             listing,
         ),
@@ -136,19 +146,19 @@ fn append_built<A: Allocator + Copy>(
     said: &Record<A>,
     code: Code,
     ops: &OpSet<A>,
-    names: &Names<'_, A>,
+    remarks: &Remarks<'_, A>,
     which: &[Condition],
     listing: Listing,
 ) -> Result<(), AllocError>
     requires { ops.now ≡ summary.of_game said.now.ops code }
-    ensures ok { OnOk result (out.new.items ≡ out.old.items ++ told_if which.now listing names.now (game_sheet (listed said.now.ops) code)) }
+    ensures ok { OnOk result (out.new.items ≡ out.old.items ++ told_if which.now listing remarks.now (game_sheet (listed said.now.ops) code)) }
     ensures grown { Extends out.old.items out.new.items }
 {
     let game = game_of(said, code)?;
     let sheet = GameSheet::of_game(said.allocator(), &game, ops)?;
     let found = game.find_period();
-    let line = GameLine::of(&sheet, &found);
-    append_selected(out, &sheet, &line, names, which, listing)
+    let line = GameLine::of(&sheet, remarks, &found);
+    append_selected(out, &sheet, &line, remarks, which, listing)
 }
 
 // Appends what is told of a sheet, if the conditions hold of its line.
@@ -156,16 +166,16 @@ fn append_selected<A: Allocator + Copy>(
     out: &mut Vec<u8, A>,
     sheet: &GameSheet<'_, A>,
     line: &GameLine,
-    names: &Names<'_, A>,
+    remarks: &Remarks<'_, A>,
     which: &[Condition],
     listing: Listing,
 ) -> Result<(), AllocError>
-    requires { line.now ≡ line_of (game_content sheet.now) }
-    ensures ok { OnOk result (out.new.items ≡ out.old.items ++ told_if which.now listing names.now (game_content sheet.now)) }
+    requires { line.now ≡ line_of remarks.now (game_content sheet.now) }
+    ensures ok { OnOk result (out.new.items ≡ out.old.items ++ told_if which.now listing remarks.now (game_content sheet.now)) }
     ensures grown { Extends out.old.items out.new.items }
 {
     if line.is_selected(which) {
-        append_told(out, sheet, line, names, listing)
+        append_told(out, sheet, line, remarks, listing)
     } else {
         append_pieces(out, &[])
     }
@@ -176,39 +186,30 @@ fn append_told<A: Allocator + Copy>(
     out: &mut Vec<u8, A>,
     sheet: &GameSheet<'_, A>,
     line: &GameLine,
-    names: &Names<'_, A>,
+    remarks: &Remarks<'_, A>,
     listing: Listing,
 ) -> Result<(), AllocError>
-    ensures ok { OnOk result (out.new.items ≡ out.old.items ++ told listing names.now (game_content sheet.now) line.now) }
+    ensures ok { OnOk result (out.new.items ≡ out.old.items ++ told listing remarks.now (game_content sheet.now) line.now) }
     ensures grown { Extends out.old.items out.new.items }
 {
     match listing {
-        Listing::Games(form) => append_line(out, line, form),
-        Listing::Refuted(form) => append_refutations(out, sheet, names, form),
+        Listing::Games(form) => append_line(out, line, remarks, form),
+        Listing::Refuted(form) => append_refutations(out, sheet, remarks, form),
         Listing::Csv => append_csv_row(out, line),
         Listing::Latex => append_latex_row(out, line),
-    }
-}
-
-// The text of this form.
-fn word(form: Form, line: &'static [u8], object: &'static [u8]) -> &'static [u8]
-    ensures { result.now ≡ word form line.now object.now }
-{
-    match form {
-        Form::Lines => line,
-        Form::Json => object,
     }
 }
 
 // ---- the line of a game
 
 // Appends the line of a game.
-fn append_line<A: Allocator>(
+fn append_line<A: Allocator, B: Allocator + Copy>(
     out: &mut Vec<u8, A>,
     line: &GameLine,
+    remarks: &Remarks<'_, B>,
     form: Form,
 ) -> Result<(), AllocError>
-    ensures ok { OnOk result (out.new.items ≡ out.old.items ++ line_text form line.now) }
+    ensures ok { OnOk result (out.new.items ≡ out.old.items ++ line_text form remarks.now line.now) }
     ensures grown { Extends out.old.items out.new.items }
 {
     let row = &line.summary;
@@ -216,20 +217,7 @@ fn append_line<A: Allocator>(
     append_period(out, &line.least, form)?;
     append_blocks(out, row.blocks, form)?;
     append_claims(out, row.claims, form)?;
-    append_word(out, form, b"\n", b"}}\n")
-}
-
-// Appends the text of this form.
-fn append_word<A: Allocator>(
-    out: &mut Vec<u8, A>,
-    form: Form,
-    line: &'static [u8],
-    object: &'static [u8],
-) -> Result<(), AllocError>
-    ensures ok { OnOk result (out.new.items ≡ out.old.items ++ word form line.now object.now) }
-    ensures grown { Extends out.old.items out.new.items }
-{
-    append_text(out, word(form, line, object))
+    append_said(out, row.code, remarks, form)
 }
 
 // Appends the game, and how many heaps are known.
@@ -291,7 +279,7 @@ fn claim_word(form: Form, is_claimed: bool) -> &'static [u8]
 // Appends how many blocks are proved, refuted and pending.
 fn append_blocks<A: Allocator>(
     out: &mut Vec<u8, A>,
-    tally: Tally,
+    tally: GameTally,
     form: Form,
 ) -> Result<(), AllocError>
     ensures ok { OnOk result (out.new.items ≡ out.old.items ++ block_words form tally) }
@@ -304,7 +292,7 @@ fn append_blocks<A: Allocator>(
 // Appends how many claims are proved, refuted and pending.
 fn append_claims<A: Allocator>(
     out: &mut Vec<u8, A>,
-    tally: Tally,
+    tally: GameTally,
     form: Form,
 ) -> Result<(), AllocError>
     ensures ok { OnOk result (out.new.items ≡ out.old.items ++ claim_words form tally) }
@@ -314,14 +302,29 @@ fn append_claims<A: Allocator>(
     append_tally(out, front, tally, form)
 }
 
-// Appends how many are proved, refuted and pending.
+// Appends how many are proved, how many are refuted and stand or are withdrawn, and how many are pending.
 fn append_tally<A: Allocator>(
     out: &mut Vec<u8, A>,
     front: &[u8],
-    tally: Tally,
+    tally: GameTally,
     form: Form,
 ) -> Result<(), AllocError>
     ensures ok { OnOk result (out.new.items ≡ out.old.items ++ tally_words form front.now tally) }
+    ensures grown { Extends out.old.items out.new.items }
+{
+    append_proved(out, front, tally, form)?;
+    append_withdrawn_count(out, tally.withdrawn, form)?;
+    append_pending(out, tally.pending, form)
+}
+
+// Appends how many are proved, and how many are refuted.
+fn append_proved<A: Allocator>(
+    out: &mut Vec<u8, A>,
+    front: &[u8],
+    tally: GameTally,
+    form: Form,
+) -> Result<(), AllocError>
+    ensures ok { OnOk result (out.new.items ≡ out.old.items ++ proved_words form front.now tally) }
     ensures grown { Extends out.old.items out.new.items }
 {
     append_pieces(
@@ -331,8 +334,46 @@ fn append_tally<A: Allocator>(
             Number(tally.proved as u64),
             Text(word(form, b" refuted ", b",\"refuted\":")),
             Number(tally.refuted as u64),
+        ],
+    )
+}
+
+// Appends how many are withdrawn, where some are.
+fn append_withdrawn_count<A: Allocator>(
+    out: &mut Vec<u8, A>,
+    withdrawn: usize,
+    form: Form,
+) -> Result<(), AllocError>
+    ensures ok { OnOk result (out.new.items ≡ out.old.items ++ withdrawn_count form withdrawn) }
+    ensures grown { Extends out.old.items out.new.items }
+{
+    if withdrawn == 0 {
+        append_pieces(out, &[])
+    } else {
+        append_pieces(
+            out,
+            &[
+                Text(word(form, b" withdrawn ", b",\"withdrawn\":")),
+                Number(withdrawn as u64),
+            ],
+        )
+    }
+}
+
+// Appends how many are pending.
+fn append_pending<A: Allocator>(
+    out: &mut Vec<u8, A>,
+    pending: usize,
+    form: Form,
+) -> Result<(), AllocError>
+    ensures ok { OnOk result (out.new.items ≡ out.old.items ++ pending_words form pending) }
+    ensures grown { Extends out.old.items out.new.items }
+{
+    append_pieces(
+        out,
+        &[
             Text(word(form, b" pending ", b",\"pending\":")),
-            Number(tally.pending as u64),
+            Number(pending as u64),
         ],
     )
 }
@@ -343,14 +384,14 @@ fn append_tally<A: Allocator>(
 fn append_refutations<A: Allocator + Copy>(
     out: &mut Vec<u8, A>,
     sheet: &GameSheet<'_, A>,
-    names: &Names<'_, A>,
+    remarks: &Remarks<'_, A>,
     form: Form,
 ) -> Result<(), AllocError>
-    ensures ok { OnOk result (out.new.items ≡ out.old.items ++ refutations form names.now (game_content sheet.now)) }
+    ensures ok { OnOk result (out.new.items ≡ out.old.items ++ refutations form remarks.now (game_content sheet.now)) }
     ensures grown { Extends out.old.items out.new.items }
 {
-    append_wrong_blocks(out, sheet.code, &sheet.blocks, names, form)?;
-    append_wrong_claims(out, sheet.code, sheet.values, &sheet.periods, names, form)
+    append_wrong_blocks(out, sheet.code, &sheet.blocks, remarks, form)?;
+    append_wrong_claims(out, sheet.code, sheet.values, &sheet.periods, remarks, form)
 }
 
 // Appends a line for each refuted block.
@@ -358,14 +399,14 @@ fn append_wrong_blocks<A: Allocator, B: Allocator + Copy>(
     out: &mut Vec<u8, A>,
     code: Code,
     rows: &[BlockRow],
-    names: &Names<'_, B>,
+    remarks: &Remarks<'_, B>,
     form: Form,
 ) -> Result<(), AllocError>
-    ensures ok { OnOk result (out.new.items ≡ out.old.items ++ flat_map (block_refutation form names.now code) rows.now) }
+    ensures ok { OnOk result (out.new.items ≡ out.old.items ++ flat_map (block_refutation form remarks.now code) rows.now) }
     ensures grown { Extends out.old.items out.new.items }
 {
     for row in rows {
-        append_block_refutation(out, code, row, names, form)?;
+        append_block_refutation(out, code, row, remarks, form)?;
     }
     Ok(())
 }
@@ -375,16 +416,16 @@ fn append_block_refutation<A: Allocator, B: Allocator + Copy>(
     out: &mut Vec<u8, A>,
     code: Code,
     row: &BlockRow,
-    names: &Names<'_, B>,
+    remarks: &Remarks<'_, B>,
     form: Form,
 ) -> Result<(), AllocError>
-    ensures ok { OnOk result (out.new.items ≡ out.old.items ++ block_refutation form names.now code row.now) }
+    ensures ok { OnOk result (out.new.items ≡ out.old.items ++ block_refutation form remarks.now code row.now) }
     ensures grown { Extends out.old.items out.new.items }
 {
     match row.status {
         Status::Refuted { at, claimed, truth } => {
             append_wrong_block(out, code, row, at, claimed, truth, form)?;
-            append_line_end(out, names, row.dot, form)
+            append_line_end(out, remarks, row.dot, form)
         }
         Status::Proved | Status::Pending => Ok(()),
     }
@@ -424,48 +465,34 @@ fn append_wrong_block<A: Allocator>(
     )
 }
 
-// Appends the name of the author, where there is one, and the end of the line.
+// Appends whether it is withdrawn, the name of the author, where there is one, and the end of the line.
 fn append_line_end<A: Allocator, B: Allocator + Copy>(
     out: &mut Vec<u8, A>,
-    names: &Names<'_, B>,
+    remarks: &Remarks<'_, B>,
     dot: Dot,
     form: Form,
 ) -> Result<(), AllocError>
-    ensures ok { OnOk result (out.new.items ≡ out.old.items ++ line_end form names.now dot) }
+    ensures ok { OnOk result (out.new.items ≡ out.old.items ++ line_end form remarks.now dot) }
     ensures grown { Extends out.old.items out.new.items }
 {
-    append_name(out, names.of_author(dot.author()), form)?;
+    append_withdrawn(out, remarks.is_withdrawn(dot), form)?;
+    append_name(out, remarks.name_of(dot.author()), form)?;
     append_word(out, form, b"\n", b"}\n")
 }
 
-// Appends the name of an author, where there is one.
-fn append_name<A: Allocator>(
+// Appends that it is withdrawn, where it is.
+fn append_withdrawn<A: Allocator>(
     out: &mut Vec<u8, A>,
-    name: &[u8],
+    is_withdrawn: bool,
     form: Form,
 ) -> Result<(), AllocError>
-    ensures ok { OnOk result (out.new.items ≡ out.old.items ++ name_words form name.now) }
+    ensures ok { OnOk result (out.new.items ≡ out.old.items ++ withdrawn_word form is_withdrawn) }
     ensures grown { Extends out.old.items out.new.items }
 {
-    if name.len() == 0 {
-        append_pieces(out, &[])
+    if is_withdrawn {
+        append_word(out, form, b" withdrawn", b",\"withdrawn\":true")
     } else {
-        append_called(out, name, form)
-    }
-}
-
-// Appends a name.
-fn append_called<A: Allocator>(
-    out: &mut Vec<u8, A>,
-    name: &[u8],
-    form: Form,
-) -> Result<(), AllocError>
-    ensures ok { OnOk result (out.new.items ≡ out.old.items ++ called_words form name.now) }
-    ensures grown { Extends out.old.items out.new.items }
-{
-    match form {
-        Form::Lines => append_pieces(out, &[Text(b" author "), Text(name)]),
-        Form::Json => append_pieces(out, &[Text(b",\"name\":\""), Quoted(name), Text(b"\"")]),
+        append_pieces(out, &[])
     }
 }
 
@@ -475,14 +502,14 @@ fn append_wrong_claims<A: Allocator, B: Allocator + Copy>(
     code: Code,
     values: &[u32],
     rows: &[PeriodRow],
-    names: &Names<'_, B>,
+    remarks: &Remarks<'_, B>,
     form: Form,
 ) -> Result<(), AllocError>
-    ensures ok { OnOk result (out.new.items ≡ out.old.items ++ flat_map (claim_refutation form names.now code values.now) rows.now) }
+    ensures ok { OnOk result (out.new.items ≡ out.old.items ++ flat_map (claim_refutation form remarks.now code values.now) rows.now) }
     ensures grown { Extends out.old.items out.new.items }
 {
     for row in rows {
-        append_claim_refutation(out, code, values, row, names, form)?;
+        append_claim_refutation(out, code, values, row, remarks, form)?;
     }
     Ok(())
 }
@@ -493,15 +520,15 @@ fn append_claim_refutation<A: Allocator, B: Allocator + Copy>(
     code: Code,
     values: &[u32],
     row: &PeriodRow,
-    names: &Names<'_, B>,
+    remarks: &Remarks<'_, B>,
     form: Form,
 ) -> Result<(), AllocError>
-    ensures ok { OnOk result (out.new.items ≡ out.old.items ++ claim_refutation form names.now code values.now row.now) }
+    ensures ok { OnOk result (out.new.items ≡ out.old.items ++ claim_refutation form remarks.now code values.now row.now) }
     ensures grown { Extends out.old.items out.new.items }
 {
     match row.status {
         PeriodStatus::Refuted { at } => {
-            append_refuted_claim(out, code, values, row, at, names, form)
+            append_refuted_claim(out, code, values, row, at, remarks, form)
         }
         PeriodStatus::Proved | PeriodStatus::Pending { .. } => Ok(()),
     }
@@ -514,10 +541,10 @@ fn append_refuted_claim<A: Allocator, B: Allocator + Copy>(
     values: &[u32],
     row: &PeriodRow,
     heap: u32,
-    names: &Names<'_, B>,
+    remarks: &Remarks<'_, B>,
     form: Form,
 ) -> Result<(), AllocError>
-    ensures ok { OnOk result (out.new.items ≡ out.old.items ++ refuted_claim form names.now code values.now row.now heap) }
+    ensures ok { OnOk result (out.new.items ≡ out.old.items ++ refuted_claim form remarks.now code values.now row.now heap) }
     ensures grown { Extends out.old.items out.new.items }
 {
     append_wrong_claim(out, code, row, heap, form)?;
@@ -525,7 +552,7 @@ fn append_refuted_claim<A: Allocator, B: Allocator + Copy>(
     let value = value_at(values, heap as usize);
     let other = value_at(values, later);
     append_both_values(out, value, other, later, form)?;
-    append_line_end(out, names, row.dot, form)
+    append_line_end(out, remarks, row.dot, form)
 }
 
 // Appends a claim, and the first heap at which it breaks.

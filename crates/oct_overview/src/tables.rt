@@ -6,7 +6,7 @@ ghost use Rattle.oct_ops.specs.Growth.{Extends};
 ghost use Rattle.oct_overview.specs.Tables.{csv_period, csv_row, csv_tally, latex_period, latex_row, truth};
 
 use crate::line::{GameLine, LeastPeriod};
-use oct_sheet::Tally;
+use oct_sheet::GameTally;
 use oct_text::Piece::{Code as CodeText, Number, Text};
 use oct_text::{append_pieces, append_text};
 use std::alloc::{AllocError, Allocator};
@@ -68,7 +68,7 @@ fn truth(holds: bool) -> &'static [u8]
 }
 
 // Appends how many are proved, refuted and pending.
-fn append_csv_tally<A: Allocator>(out: &mut Vec<u8, A>, tally: Tally) -> Result<(), AllocError>
+fn append_csv_tally<A: Allocator>(out: &mut Vec<u8, A>, tally: GameTally) -> Result<(), AllocError>
     ensures ok { OnOk result (out.new.items ≡ out.old.items ++ csv_tally tally) }
     ensures grown { Extends out.old.items out.new.items }
 {

@@ -1,1 +1,1 @@
-mod TableLaws
+pub mod TableLaws

@@ -7,9 +7,8 @@ ghost use Rattle.oct_ops.specs.Growth.{Extends};
 ghost use Rattle.oct_tables.specs.Tables.{column, table, table_end, table_head};
 
 use oct_text::Piece::Text;
-use oct_text::append_pieces;
+use oct_text::{append_pieces, append_text};
 use std::alloc::{AllocError, Allocator};
-use std::collections::BTreeSet;
 
 /// A way to write rows of the type `R`.
 pub trait Rows<R> {
@@ -40,69 +39,26 @@ pub(crate) fn append_rows<S: Rows<R>, R, A: Allocator + Copy>(
     Ok(())
 }
 
-/// Appends the rows of a set, in their order.
-pub(crate) fn append_set<S: Rows<R>, R: Ord, A: Allocator + Copy>(
+/// Appends a table of these rows under these heads of columns, or nothing where there is no row.
+pub fn append_table<A: Allocator>(
     out: &mut Vec<u8, A>,
-    way: &S,
-    rows: &BTreeSet<R, A>,
-) -> Result<(), AllocError>
-    ensures ok { OnOk result (out.new.items ≡ out.old.items ++ flat_map (S.text way.now) rows.now.keys) }
-    ensures grown { Extends out.old.items out.new.items }
-{
-    for row in rows {
-        way.append_row(out, row)?;
-    }
-    Ok(())
-}
-
-/// Appends a table of the rows under these heads of columns, or nothing where the rows have no text.
-#[tactic(auto, using(oct_ops::proofs::Growing::cutting))]
-pub fn append_table<S: Rows<R>, R, A: Allocator + Copy>(
-    out: &mut Vec<u8, A>,
-    way: &S,
     caption: &[u8],
     columns: &[&[u8]],
-    rows: &[R],
+    rows: &[u8],
 ) -> Result<(), AllocError>
-    ensures ok { OnOk result (out.new.items ≡ out.old.items ++ table caption.now (map (λ name. name.now) columns.now) (flat_map (S.text way.now) rows.now)) }
+    ensures ok { OnOk result (out.new.items ≡ out.old.items ++ table caption.now (map (λ name. name.now) columns.now) rows.now) }
     ensures grown { Extends out.old.items out.new.items }
 {
-    let before = out.len();
-    append_head(out, b"plain", caption, columns)?;
-    let first = out.len();
-    append_rows(out, way, rows)?;
-    if out.len() == first {
-        out.truncate(before);
+    if rows.is_empty() {
         return Ok(());
     }
-    append_end(out)
-}
-
-/// Appends a table of the rows of a set, or nothing where they have no text.
-#[tactic(auto, using(oct_ops::proofs::Growing::cutting))]
-pub fn append_set_table<S: Rows<R>, R: Ord, A: Allocator + Copy>(
-    out: &mut Vec<u8, A>,
-    way: &S,
-    caption: &[u8],
-    columns: &[&[u8]],
-    rows: &BTreeSet<R, A>,
-) -> Result<(), AllocError>
-    ensures ok { OnOk result (out.new.items ≡ out.old.items ++ table caption.now (map (λ name. name.now) columns.now) (flat_map (S.text way.now) rows.now.keys)) }
-    ensures grown { Extends out.old.items out.new.items }
-{
-    let before = out.len();
-    append_head(out, b"plain", caption, columns)?;
-    let first = out.len();
-    append_set(out, way, rows)?;
-    if out.len() == first {
-        out.truncate(before);
-        return Ok(());
-    }
-    append_end(out)
+    append_table_head(out, b"plain", caption, columns)?;
+    append_text(out, rows)?;
+    append_table_end(out)
 }
 
 /// Appends what stands before the rows of a table of this kind.
-pub(crate) fn append_head<'a, A: Allocator>(
+pub fn append_table_head<'a, A: Allocator>(
     out: &mut Vec<u8, A>,
     kind: &'a [u8],
     caption: &'a [u8],
@@ -128,7 +84,7 @@ pub(crate) fn append_head<'a, A: Allocator>(
 }
 
 /// Appends the end of a table.
-pub(crate) fn append_end<A: Allocator>(out: &mut Vec<u8, A>) -> Result<(), AllocError>
+pub fn append_table_end<A: Allocator>(out: &mut Vec<u8, A>) -> Result<(), AllocError>
     ensures ok { OnOk result (out.new.items ≡ out.old.items ++ table_end) }
     ensures grown { Extends out.old.items out.new.items }
 {

@@ -7,7 +7,7 @@ ghost use Rattle.oct_code.specs.declared.limits.TheConstants.{LIMIT};
 ghost use Rattle.oct_ops.specs.Growth.{Extends};
 ghost use Rattle.oct_tables.specs.Values.{after_shade, back_layout, back_len, back_table, before_value, begins_row, blank_for, cell_head, front_layout, front_len, front_table, front_values, is_shaded, padded, row_before, row_end, row_head, value_text, values_in, values_rows, values_table, values_tables, width_of};
 
-use crate::tables::{Rows, append_end, append_head, append_rows};
+use crate::tables::{Rows, append_rows, append_table_end, append_table_head};
 use oct_ops::Period;
 use oct_text::Piece::{Number, Text};
 use oct_text::{Shown, append_pieces, append_text};
@@ -238,9 +238,9 @@ fn append_some<A: Allocator + Copy>(
     ensures ok { OnOk result (out.new.items ≡ out.old.items ++ values_in layout caption.now values.now) }
     ensures grown { Extends out.old.items out.new.items }
 {
-    append_head(out, b"values", caption, &[b"heap", b"nim-values"])?;
+    append_table_head(out, b"values", caption, &[b"heap", b"nim-values"])?;
     append_values_rows(out, layout, greatest(values), values)?;
-    append_end(out)
+    append_table_end(out)
 }
 
 // The greatest of the values.

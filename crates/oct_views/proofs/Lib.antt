@@ -1,0 +1,3 @@
+mod KeptGames
+mod Sections
+mod Streaming

@@ -1,27 +1,31 @@
 -- The tables of all games, and of what belongs to no game.
-use Rattle.std.specs.Prelude.{ℕ, ◌+◌, ◌^◌, ◌-◌, min, if◌then◌else◌, List, [], ◌∷◌, length, codes, count_by, Option, Some, None, is_some}
+use Rattle.std.specs.Prelude.{ℕ, ◌==◌, ◌&&◌, ◌+◌, ◌^◌, ◌-◌, min, Bool, true, false, if◌then◌else◌, List, [], ◌∷◌, length, codes, count_by, is_some}
 use Rattle.std.specs.List.{concat, flat_map, fold}
 use Rattle.std.specs.Fmt.{decimal}
 use Rattle.oct_code.specs.Code.{Code}
 use Rattle.oct_code.specs.CodeText.{code_text}
 use Rattle.oct_ops.specs.Body as kind
 use Rattle.oct_ops.specs.Body.{Operation}
-use Rattle.oct_ops.specs.Operation.{Dot, Note, Period}
+use Rattle.oct_ops.specs.Operation.{Dot, Note}
 use Rattle.oct_text.specs.Words.{Text, dot_text}
 use Rattle.oct_store.specs.declared.author.Author.{Author}
 use Rattle.oct_store.specs.declared.fork.Fork.{Fork}
 use Rattle.oct_text.specs.Escape.{escaped}
-use Rattle.oct_views.specs.Game.{name_of_author}
+use Rattle.oct_views.specs.Columns.{cell, columns_of, heads}
+use Rattle.oct_views.specs.Game.{name_of_author, said_in_row}
 use Rattle.oct_sheet.specs.Names.{Called}
 use Rattle.oct_sheet.specs.Summary.{by_period, is_refuted}
 use Rattle.oct_tables.specs.Tables.{table}
+use Rattle.oct_views.specs.declared.columns.Column.{Column}
 use Rattle.oct_views.specs.declared.index.Links.{Links}
 use Rattle.oct_views.specs.declared.index.Links.TheVariants as links
 use Rattle.oct_views.specs.declared.index.Anchor.{Anchor}
 use Rattle.oct_views.specs.declared.index.Anchor.TheVariants as anchors
+use Rattle.oct_views.specs.declared.standing.Standing.{Standing}
+use Rattle.oct_views.specs.declared.standing.Standing.TheVariants as standing
 use Rattle.oct_sheet.specs.declared.periodic.Periodic.{Periodic}
+use Rattle.oct_sheet.specs.declared.summary.GameTally.{GameTally}
 use Rattle.oct_sheet.specs.declared.summary.Summary.{Summary}
-use Rattle.oct_sheet.specs.declared.summary.Tally.{Tally}
 
 -- ---- links to games
 
@@ -46,43 +50,58 @@ totals rows = concat (
     codes "<p>" ∷ decimal (length rows) ∷ codes " games, " ∷ decimal (count_by (λ row. is_some row.proved) rows)
     ∷ codes " with a proved period; " ∷ decimal (fold known_after 0 rows) ∷ codes " values known.</p>\n" ∷ [])
 
--- the games of which a block or a claim is refuted
-abbrev pub refuted_cells : Links → Summary → Text
-refuted_cells way row = concat (
+-- a game, and how many of its blocks and claims are refuted
+abbrev pub refuted_cells : Links → Code → ℕ → ℕ → Text
+refuted_cells way c blocks claims = concat (
     codes "<tr><th scope=\"row\">"
-    ∷ link_text way anchors.Refuted row.code
-    ∷ concat (codes "</th><td>" ∷ decimal row.blocks.refuted ∷ codes "</td><td>" ∷ decimal row.claims.refuted ∷ codes "</td></tr>\n" ∷ [])
+    ∷ link_text way anchors.Refuted c
+    ∷ concat (codes "</th><td>" ∷ decimal blocks ∷ codes "</td><td>" ∷ decimal claims ∷ codes "</td></tr>\n" ∷ [])
     ∷ [])
 
-abbrev pub refuted_row : Links → Summary → Text
-refuted_row way row = if is_refuted row then refuted_cells way row else []
+-- how many of its blocks, or of its claims, are refuted, and stand or are withdrawn
+abbrev pub refuted_count : Standing → GameTally → ℕ
+refuted_count standing.Stands t = t.refuted
+refuted_count standing.Withdrawn t = t.withdrawn
 
-abbrev pub refuted_table : Links → List Summary → Text
-refuted_table way rows = table (codes "Refuted") (codes "code" ∷ codes "blocks" ∷ codes "period claims" ∷ []) (flat_map (refuted_row way) rows)
+-- where one is
+abbrev pub counted_row : Links → Code → ℕ → ℕ → Text
+counted_row way c blocks claims = if blocks == 0 && claims == 0 then [] else refuted_cells way c blocks claims
 
--- a game, how many heaps are known, the period and its start where one is proved, and how many blocks and claims are proved, refuted and pending
-abbrev pub period_cells : Option Period → Text
-period_cells None = codes "<td></td><td></td>"
-period_cells (Some p) = concat (codes "<td>" ∷ decimal p.period ∷ codes "</td><td>" ∷ decimal p.start ∷ codes "</td>" ∷ [])
+-- the games of which a block or a claim is refuted and not withdrawn, and those of which one is refuted and withdrawn
+abbrev pub refuted_row : Links → Standing → Summary → Text
+refuted_row way which row = counted_row way row.code (refuted_count which row.blocks) (refuted_count which row.claims)
 
-abbrev pub tally_cells : Tally → Text
-tally_cells t = concat (
-    codes "<td>" ∷ decimal t.proved ∷ codes "</td><td>" ∷ decimal t.refuted ∷ codes "</td><td>" ∷ decimal t.pending ∷ codes "</td>" ∷ [])
+abbrev pub refuted_caption : Standing → Text
+refuted_caption standing.Stands = codes "Refuted"
+refuted_caption standing.Withdrawn = codes "Refuted, withdrawn"
 
-abbrev pub known_cells : Links → Code → ℕ → Text
-known_cells way c known = concat (codes "<tr><th scope=\"row\">" ∷ link_text way anchors.Game c ∷ concat (codes "</th><td>" ∷ decimal known ∷ codes "</td>" ∷ []) ∷ [])
+abbrev pub refuted_columns : List Text
+refuted_columns = codes "code" ∷ codes "blocks" ∷ codes "period claims" ∷ []
 
-abbrev pub game_row : Links → Summary → Text
-game_row way row = concat (
-    known_cells way row.code row.known ∷ period_cells row.proved ∷ tally_cells row.blocks ∷ tally_cells row.claims ∷ codes "</tr>\n" ∷ [])
+abbrev pub refuted_table : Links → Standing → List Summary → Text
+refuted_table way which rows = table (refuted_caption which) refuted_columns (flat_map (refuted_row way which) rows)
 
-abbrev pub game_columns : List Text
-game_columns =
-    codes "code" ∷ codes "values" ∷ codes "period" ∷ codes "start" ∷ codes "blocks proved" ∷ codes "refuted" ∷ codes "pending"
-    ∷ codes "claims proved" ∷ codes "refuted" ∷ codes "pending" ∷ []
+-- how the row of a game begins; where something of the game is refuted, and not withdrawn, it is marked
+abbrev pub row_begin : Bool → Text
+row_begin true = codes "<tr class=\"refuted\"><th scope=\"row\">"
+row_begin false = codes "<tr><th scope=\"row\">"
 
-abbrev pub games_table : Links → List Summary → Text
-games_table way rows = table (codes "Games") game_columns (flat_map (game_row way) rows)
+-- what somebody says of the game stands below its code
+abbrev pub row_head : Links → List Operation → Summary → Text
+row_head way notes row = concat (row_begin (is_refuted row) ∷ link_text way anchors.Game row.code ∷ said_in_row notes row.code ∷ codes "</th>" ∷ [])
+
+-- a game, and what stands of it in these columns
+abbrev pub game_row : Links → List Operation → List Column → Summary → Text
+game_row way notes columns row = concat (row_head way notes row ∷ flat_map (cell row) columns ∷ codes "</tr>\n" ∷ [])
+
+abbrev pub games_caption : ℕ → Text
+games_caption count = concat (codes "Games (" ∷ decimal count ∷ codes ")" ∷ [])
+
+-- all games, with the columns in which a game has something
+abbrev pub games_table : Links → List Operation → List Summary → Text
+games_table way notes rows =
+    let columns = columns_of rows in
+    table (games_caption (length rows)) (heads columns) (flat_map (game_row way notes columns) rows)
 
 -- the games with a proved period, by period
 abbrev pub periodic_row : Links → Periodic → Text
@@ -95,9 +114,10 @@ periodic_row way p = concat (
 abbrev pub periods_table : Links → List Summary → Text
 periods_table way rows = table (codes "Games by period") (codes "period" ∷ codes "start" ∷ codes "code" ∷ []) (flat_map (periodic_row way) (by_period rows))
 
-abbrev pub games_part : Links → List Summary → Text
-games_part way rows = concat (
-    totals rows ∷ refuted_table way rows ∷ games_table way rows ∷ codes "</div>\n<div id=\"periods\">\n" ∷ periods_table way rows ∷ [])
+-- with what these notes say of the games
+abbrev pub games_part : Links → List Operation → List Summary → Text
+games_part way notes rows = concat (
+    totals rows ∷ refuted_table way standing.Stands rows ∷ refuted_table way standing.Withdrawn rows ∷ games_table way notes rows ∷ codes "</div>\n<div id=\"periods\">\n" ∷ periods_table way rows ∷ [])
 
 -- ---- notes, forks, authors
 

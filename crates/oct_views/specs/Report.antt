@@ -4,11 +4,12 @@ use Rattle.std.specs.List.{concat, flat_map}
 use Rattle.std.specs.Fmt.{decimal}
 use Rattle.oct_code.specs.Code.{Code}
 use Rattle.oct_code.specs.CodeText.{code_text}
+use Rattle.oct_ops.specs.Body.{Operation}
 use Rattle.oct_ops.specs.Operation.{Period}
 use Rattle.oct_text.specs.Words.{Text}
 use Rattle.oct_views.specs.Game.{game_tables}
 use Rattle.oct_views.specs.Index.{authors_table, forks_table, games_part, notes_table}
-use Rattle.oct_plot.specs.Plot.{plot_with, title}
+use Rattle.oct_plot.specs.Plot.{pictured, plot_with, title}
 use Rattle.oct_overview.specs.Line.{with_least}
 use Rattle.oct_sheet.specs.Names.{author_name}
 use Rattle.oct_sheet.specs.Sheet.{GameSheet, Sheet}
@@ -66,29 +67,29 @@ figure_end (Some p) = codes "<figcaption>Each point is the nim-value of a heap. 
 abbrev pub figure : Shown → GameSheet → Text
 figure how g = concat (section_head g.code ∷ plot_with [] g.code (front_values how g.values g.proved) g.proved ∷ figure_end g.proved ∷ [])
 
-abbrev pub section : (ℕ → Text) → Shown → GameSheet → Text
-section names how g = concat (figure how g ∷ game_tables names how g ∷ codes "<p><a href=\"#games\">All games</a></p>\n</section>\n" ∷ [])
+abbrev pub section : List Operation → Shown → GameSheet → Text
+section notes how g = concat (figure how g ∷ game_tables notes how g ∷ codes "<p><a href=\"#games\">All games</a></p>\n</section>\n" ∷ [])
 
 -- each game is shown with the least period that its known values prove, whether or not somebody claimed it
-abbrev pub shown_summary : GameSheet → Summary
-shown_summary g = summary_of (with_least g)
+abbrev pub shown_summary : List Operation → GameSheet → Summary
+shown_summary notes g = summary_of notes (with_least g)
 
-abbrev pub shown_section : (ℕ → Text) → Shown → GameSheet → Text
-shown_section names how g = section names how (with_least g)
+abbrev pub shown_section : List Operation → Shown → GameSheet → Text
+shown_section notes how g = section notes how (with_least g)
 
 -- a report of all
 abbrev pub report : Shown → Sheet → Text
 report how s = concat (
-    games_head style_inside ∷ games_part Here (map shown_summary s.games) ∷ records_part s ∷ flat_map (shown_section (author_name s.names) how) s.games ∷ html_end ∷ [])
+    games_head style_inside ∷ games_part Here s.remarks (map (shown_summary s.remarks) s.games) ∷ records_part s ∷ flat_map (shown_section s.remarks how) s.games ∷ html_end ∷ [])
 
 -- ---- the files of a site
 
 -- the table of all games
 abbrev pub index_by : List Summary → Sheet → Text
-index_by rows s = concat (games_head style_link ∷ games_part Files rows ∷ records_part s ∷ html_end ∷ [])
+index_by rows s = concat (games_head style_link ∷ games_part Files s.remarks rows ∷ records_part s ∷ html_end ∷ [])
 
 abbrev pub index : Sheet → Text
-index s = index_by (map shown_summary s.games) s
+index s = index_by (map (shown_summary s.remarks) s.games) s
 
 -- the picture of a game, which is a file beside its HTML
 abbrev pub image_head : Code → Text → Text
@@ -96,7 +97,7 @@ image_head c named = concat (codes "<figure>\n<img width=\"840\" height=\"430\" 
 
 abbrev pub image : Code → List ℕ → Option Period → Text
 image c values proved = concat (
-    image_head c (title c (length values) proved)
+    image_head c (title c (length (pictured values proved)) proved)
     ∷ sentence values proved
     ∷ codes "\"/>\n"
     ∷ figure_end proved
@@ -115,8 +116,8 @@ page_link Nothing c = []
 page_link Page c = concat (codes "<p><a href=\"compute.html?code=" ∷ code_text c ∷ codes "\">Compute it here</a>, in this browser</p>\n" ∷ [])
 
 -- a game as a file of a site
-abbrev pub game_html : Beside → (ℕ → Text) → GameSheet → Text
-game_html beside names g = concat (game_head g.code (length g.values) ∷ page_link beside g.code ∷ image g.code g.values g.proved ∷ game_tables names Brief g ∷ html_end ∷ [])
+abbrev pub game_html : Beside → List Operation → GameSheet → Text
+game_html beside notes g = concat (game_head g.code (length g.values) ∷ page_link beside g.code ∷ image g.code g.values g.proved ∷ game_tables notes Brief g ∷ html_end ∷ [])
 
 abbrev pub style_sheet : Text
 style_sheet = html_style ++ codes "\n"

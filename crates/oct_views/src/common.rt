@@ -5,18 +5,20 @@ ghost use Rattle.std.specs.Prelude.{◌≡◌, ◌++◌, IfOk, OnOk};
 ghost use Rattle.oct_ops.specs.Operations.{listed};
 ghost use Rattle.oct_ops.specs.Growth.{Extends};
 ghost use Rattle.oct_views.specs.Report.{figure_end, games_head, html_end, records_part, style_inside};
-ghost use Rattle.oct_sheet.specs.Sheet.{sheet};
+ghost use Rattle.oct_sheet.specs.Sheet.{sheet_among};
+ghost use Rattle.written.specs.Output.{AppendsFront};
 
 use crate::records::{AuthorRows, ForkRows, NoteRows};
+use crate::streamed::stream_table;
 use crate::styles::HTML_STYLE;
 use oct_ops::Period;
 use oct_plot::PLOT_STYLE;
 use oct_record::Record;
 use oct_sheet::{names_by_author, naming_among, with_names};
-use oct_tables::append_table;
 use oct_text::Piece::Text;
 use oct_text::append_pieces;
 use std::alloc::{AllocError, Allocator};
+use std::io::{self, Write};
 
 /// What stands before the title.
 pub(crate) const HEAD_BEGIN: &[u8] =
@@ -80,43 +82,50 @@ pub(crate) fn style_inside<A: Allocator>(alloc: A) -> Result<Vec<u8, A>, AllocEr
     Ok(style)
 }
 
-/// Appends the tables of notes, forks and authors.
-pub(crate) fn append_records<A: Allocator + Copy>(
-    out: &mut Vec<u8, A>,
-    said: &Record<A>,
-) -> Result<(), AllocError>
-    ensures ok { OnOk result (out.new.items ≡ out.old.items ++ records_part (sheet (listed said.now.ops))) }
-    ensures grown { Extends out.old.items out.new.items }
+/// Puts the tables of the notes and forks of a part of what was said, and of the authors of the whole, behind what stands in the
+/// piece, and writes the piece where it is large. The error is that of the writer, or of the kind `OutOfMemory`.
+pub(crate) fn stream_records<A: Allocator + Copy, W: Write>(
+    part: &Record<A>,
+    whole: &Record<A>,
+    piece: &mut Vec<u8, A>,
+    out: &mut W,
+) -> io::Result<()>
+    ensures { OnOk result (AppendsFront (W.contents out.old) (W.contents out.new) (piece.old.items ++ records_part (sheet_among (listed part.now.ops) (listed whole.now.ops))) piece.new.items) }
 {
-    append_pieces(out, &[Text(b"</div>\n<div id=\"records\">\n")])?;
-    let notes = said.notes().live_refs()?;
-    let naming = naming_among(said.allocator(), &notes)?;
-    let names = names_by_author(said.allocator(), &naming)?;
-    append_table(
-        out,
+    append_pieces(piece, &[Text(b"</div>\n<div id=\"records\">\n")])?;
+    let saying = whole.notes().live_refs()?;
+    let naming = naming_among(whole.allocator(), &saying)?;
+    let names = names_by_author(whole.allocator(), &naming)?;
+    let notes = part.notes().live_refs()?;
+    stream_table(
         &NoteRows(&names),
         b"Notes",
         &[b"name", b"note", b"text"],
         &notes,
-    )?;
-    let forks = said.store().forks()?;
-    append_table(
+        piece,
         out,
+    )?;
+    let forks = part.store().forks()?;
+    stream_table(
         &ForkRows(&names),
         b"Forks",
         &[b"dot", b"contents"],
         &forks,
-    )?;
-    let authors = said.store().authors()?;
-    let authors = with_names(said.allocator(), &notes, &authors)?;
-    append_table(
+        piece,
         out,
+    )?;
+    let authors = whole.store().authors()?;
+    let authors = with_names(whole.allocator(), &saying, &authors)?;
+    stream_table(
         &AuthorRows,
         b"Authors",
         &[b"author", b"name", b"through", b"last"],
         &authors,
+        piece,
+        out,
     )?;
-    append_pieces(out, &[Text(b"</div>\n")])
+    append_pieces(piece, &[Text(b"</div>\n")])?;
+    Ok(())
 }
 
 /// Appends the end.

@@ -6,8 +6,8 @@
 //!     write_report(&said, how, &mut text)?; // all that the record says
 //!     write_index(&said, &rows, &mut text)?; // the front of a site
 //!
-//! - A *report* is one text, which shows all of a record. `write_report` builds the games one after another, and holds one
-//!   of them at a time.
+//! - A *report* is one text, which shows all of a record, or of a part of it. `stream_report` writes it piece by piece, builds the
+//!   games one after another, and keeps only those that are dear; `write_report` appends it to a text.
 //! - A *site* is a folder with a file for each game. `write_game_html` writes that file, `write_index` an index of all games,
 //!   and `write_style` how they look.
 //! - `laws` says that a style loads nothing.
@@ -16,15 +16,20 @@
 #![tactic(auto)]
 
 mod blocks_tables;
+mod columns;
 mod common;
 mod game_tables;
 mod index;
+mod kept;
 pub mod laws;
 mod periods_table;
 mod records;
 mod report;
+mod said;
 mod site;
+mod standing;
+mod streamed;
 mod styles;
 
-pub use report::write_report;
+pub use report::{stream_report, write_report};
 pub use site::{Beside, write_game_html, write_index, write_style};

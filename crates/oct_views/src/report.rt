@@ -1,40 +1,47 @@
-//! The report of a census.
+//! The report of a census, written piece by piece.
 #![tactic(auto, using(oct_ops::proofs::Growing::growing))]
 
-ghost use Rattle.oct_sheet.specs.Names.{name_in};
-ghost use Rattle.std.specs.Prelude.{◌≡◌, ◌++◌, OnErr, OnOk, map, ◌∷◌, []};
-ghost use Rattle.std.specs.List.{flat_map};
+ghost use Rattle.std.specs.Prelude.{IfOk, ◌≡◌, ◌++◌, true, OnErr, OnOk, map, ◌∷◌, []};
+ghost use Rattle.std.specs.Io.KnownBytes.{Appends};
+ghost use Rattle.std.specs.List.{flat_map, list_all};
 ghost use Rattle.oct_ops.specs.Operations.{listed};
+ghost use Rattle.oct_ops.specs.Sets.{contains};
+ghost use Rattle.oct_pages.specs.Catalogue.{blocks_of};
 ghost use Rattle.oct_pages.specs.Contents.{game_content};
+ghost use Rattle.oct_pages.specs.GamesIn.{AreGamesIn};
+ghost use Rattle.oct_pages.specs.Sheet.{sheet_by};
 ghost use Rattle.oct_ops.specs.Growth.{Extends};
 ghost use Rattle.oct_store.specs.Summary as summary;
-ghost use Rattle.oct_views.specs.Report.{figure, report, section, shown_section, shown_summary};
-ghost use Rattle.oct_sheet.specs.Sheet.{game_sheet, sheet};
+ghost use Rattle.oct_views.specs.Index.{games_part};
+ghost use Rattle.oct_views.specs.Report.{figure, games_head, records_part, report, section, shown_section, shown_summary, style_inside};
+ghost use Rattle.oct_views.specs.declared.index.Links.TheVariants.{Here};
+ghost use Rattle.oct_sheet.specs.Sheet.{game_sheet, sheet, sheet_among};
+ghost use Rattle.written.specs.Output.{AppendsFront};
 
 use crate::common::{
-    append_figure_end, append_head, append_html_end, append_records, style_inside,
+    append_figure_end, append_head, append_html_end, stream_records, style_inside,
 };
 use crate::game_tables::append_game_tables;
-use crate::index::{Links, append_games};
+use crate::index::{Links, stream_games};
+use crate::kept::Kept;
 use oct_code::Code;
 use oct_join::OpSet;
 use oct_overview::with_least;
-use oct_pages::{GameSheet, game_of};
+use oct_pages::{GameProgress, GameSheet, Unwatched, game_of};
+use oct_period::Game;
 use oct_plot::append_plot;
 use oct_record::Record;
-use oct_sheet::{Summary, names_by_author, naming_notes};
+use oct_sheet::{Remarks, Summary};
 use oct_tables::front_values;
 use oct_text::Piece::{Code as CodeText, Text};
-use oct_text::{Shown, append_pieces, append_text};
+use oct_text::{Shown, append_pieces};
 use std::alloc::{AllocError, Allocator};
 use std::collections::BTreeMap;
+use std::io::{self, Write};
+use written::spill;
 
-/// Appends a report, which shows all of a record, as `specs/Report` spells it, in HTML. It is written to be well-formed XML
-/// too, with no script and nothing from outside, which is tested. The tables of all games come first, then the notes, the
-/// forks and the authors; then each game with its plot, its values, as many as `how` says, its blocks and its period
-/// claims. The period of a game is the least one that its known values prove, and where no claim says so, this is said. A
-/// table without rows is left out. The games are built one after another, and each is let go before the next. The one error
-/// is that memory is refused, and then `out` stays as it is.
+/// Appends a report, which shows all of a record, as `stream_report` writes it. The one error is that memory is refused, and then
+/// `out` stays as it is.
 pub fn write_report<A: Allocator + Copy>(
     said: &Record<A>,
     how: Shown,
@@ -43,89 +50,194 @@ pub fn write_report<A: Allocator + Copy>(
     ensures ok { OnOk result (out.new.items ≡ out.old.items ++ report how (sheet (listed said.now.ops))) }
     ensures err { OnErr result (out.new.items ≡ out.old.items) }
 {
-    let before = out.len();
-    let written = append_report(out, how, said);
-    if written.is_err() {
-        out.truncate(before);
+    let mut text = Vec::new(said.allocator());
+    match stream_report(said, said, how, &mut Unwatched, &mut text) {
+        Ok(()) => out.extend_from_slice(&text),
+        Err(_) => Err(AllocError),
     }
-    written
 }
 
-// Appends the report. The sections of the games are put together beside it, since the tables of all games come first.
-fn append_report<A: Allocator + Copy>(
-    out: &mut Vec<u8, A>,
+/// Writes a report, which shows all of a part of what was said, as `specs/Report` spells it, in HTML, in pieces of some 64 KiB. It
+/// is well-formed XML too, with no script and nothing from outside, which is tested. The tables of all games come first, then the
+/// notes and the forks of the part and the authors of the whole; then each game with its plot, its values, as many as `how`
+/// says, its blocks and its period claims. Authors are called as the whole calls them. The period of a game is the least one
+/// that its known values prove, and where no claim says so, this is said. A table without rows is left out. The games are gone
+/// through twice, and `progress` is told of each before it is built; one with more than 1,024 known values is kept for the
+/// second time, as long as those that are kept have at most 2^24 together. The error is that of the writer, or of the kind
+/// `OutOfMemory`; a part of the report may have been written then.
+pub fn stream_report<A: Allocator + Copy, W: Write, P: GameProgress>(
+    part: &Record<A>,
+    whole: &Record<A>,
     how: Shown,
+    progress: &mut P,
+    out: &mut W,
+) -> io::Result<()>
+    ensures { OnOk result (Appends (W.contents out.old) (W.contents out.new) (report how (sheet_among (listed part.now.ops) (listed whole.now.ops)))) }
+{
+    let mut piece = Vec::new(part.allocator());
+    stream_parts(part, whole, how, progress, &mut piece, out)?;
+    out.write_all(&piece)
+}
+
+// Puts the report behind what stands in the piece, and writes the piece where it is large.
+fn stream_parts<A: Allocator + Copy, W: Write, P: GameProgress>(
+    part: &Record<A>,
+    whole: &Record<A>,
+    how: Shown,
+    progress: &mut P,
+    piece: &mut Vec<u8, A>,
+    out: &mut W,
+) -> io::Result<()>
+    ensures { OnOk result (AppendsFront (W.contents out.old) (W.contents out.new) (piece.old.items ++ report how (sheet_among (listed part.now.ops) (listed whole.now.ops))) piece.new.items) }
+{
+    let remarks = Remarks::of_record(whole)?;
+    let mut kept = Kept::new(part.allocator());
+    stream_tables(part, &remarks, &mut kept, progress, piece, out)?;
+    stream_records(part, whole, piece, out)?;
+    stream_sections(part, &kept.games, &remarks, how, progress, piece, out)?;
+    append_html_end(piece)?;
+    Ok(())
+}
+
+// Puts the head and the tables of all games there, and keeps games for what comes behind.
+fn stream_tables<'n, A: Allocator + Copy + 'n, W: Write, P: GameProgress>(
     said: &Record<A>,
-) -> Result<(), AllocError>
-    ensures ok { OnOk result (out.new.items ≡ out.old.items ++ report how (sheet (listed said.now.ops))) }
-    ensures grown { Extends out.old.items out.new.items }
+    remarks: &Remarks<'n, A>,
+    kept: &mut Kept<A>,
+    progress: &mut P,
+    piece: &mut Vec<u8, A>,
+    out: &mut W,
+) -> io::Result<()>
+    requires { AreGamesIn said.now.ops kept.old.games }
+    ensures kept { OnOk result (AreGamesIn said.now.ops kept.new.games) }
+    ensures text { OnOk result (AppendsFront (W.contents out.old) (W.contents out.new) (piece.old.items ++ (games_head style_inside ++ games_part Here remarks.now (map (shown_summary remarks.now) (sheet (listed said.now.ops)).games))) piece.new.items) }
+{
+    let rows = summaries(said, remarks, kept, progress)?;
+    let style = style_inside(said.allocator())?;
+    append_head(piece, &style)?;
+    stream_games(Links::Here, remarks, &rows, piece, out)
+}
+
+// The summaries of the games, of which some are kept.
+fn summaries<'n, A: Allocator + Copy + 'n, P: GameProgress>(
+    said: &Record<A>,
+    remarks: &Remarks<'n, A>,
+    kept: &mut Kept<A>,
+    progress: &mut P,
+) -> Result<Vec<Summary, A>, AllocError>
+    requires { AreGamesIn said.now.ops kept.old.games }
+    ensures kept { OnOk result (AreGamesIn said.now.ops kept.new.games) }
+    ensures rows { IfOk result (λ rows. rows.items ≡ map (shown_summary remarks.now) (sheet (listed said.now.ops)).games) }
 {
     let mut rows = Vec::new(said.allocator());
-    let mut sections = Vec::new(said.allocator());
-    let notes = naming_notes(said)?;
-    let names = names_by_author(said.allocator(), &notes)?;
-    append_sections(&mut rows, &mut sections, &names, how, said)?;
-    let style = style_inside(said.allocator())?;
-    append_head(out, &style)?;
-    append_games(out, Links::Here, &rows)?;
-    append_records(out, said)?;
-    append_text(out, &sections)?;
-    append_html_end(out)
+    let games = said.games();
+    prove!(games.len() <= usize::MAX);
+    let all = games.len() as u64;
+    let mut done = 0_u64;
+    for (code, ops) in games.iter() {
+        progress.tell(*code, done, all);
+        let game = game_of(said, *code)?;
+        add_summary(&mut rows, said, remarks, &game, ops)?;
+        kept.keep(game)?;
+        done = done.saturating_add(1);
+    }
+    Ok(rows)
 }
 
-// Adds the summaries of the games, and appends their sections.
-fn append_sections<'n, A: Allocator + Copy + 'n>(
+// Adds the summary of a game, which holds the blocks of these operations.
+fn add_summary<'n, A: Allocator + Copy + 'n>(
     rows: &mut Vec<Summary, A>,
-    sections: &mut Vec<u8, A>,
-    names: &BTreeMap<u32, &'n [u8], A>,
-    how: Shown,
     said: &Record<A>,
+    remarks: &Remarks<'n, A>,
+    game: &Game<A>,
+    ops: &OpSet<A>,
 ) -> Result<(), AllocError>
-    ensures rows { OnOk result (rows.new.items ≡ rows.old.items ++ map shown_summary (sheet (listed said.now.ops)).games) }
-    ensures sections { OnOk result (sections.new.items ≡ sections.old.items ++ flat_map (shown_section (name_in (λ text. text.now) names.now) how) (sheet (listed said.now.ops)).games) }
+    requires { list_all (contains game.now.blocks) (blocks_of game.now.code (listed ops.now)) ≡ true }
+    ensures { OnOk result (rows.new.items ≡ rows.old.items ++ shown_summary remarks.now (sheet_by game.now (listed ops.now)) ∷ []) }
+{
+    let sheet = GameSheet::of_game(said.allocator(), game, ops)?;
+    let found = game.find_period();
+    let shown = with_least(sheet, &found);
+    Summary::add(rows, &shown, remarks)
+}
+
+// Puts the sections of the games there.
+fn stream_sections<'n, A: Allocator + Copy + 'n, W: Write, P: GameProgress>(
+    said: &Record<A>,
+    kept: &BTreeMap<Code, Game<A>, A>,
+    remarks: &Remarks<'n, A>,
+    how: Shown,
+    progress: &mut P,
+    piece: &mut Vec<u8, A>,
+    out: &mut W,
+) -> io::Result<()>
+    requires { AreGamesIn said.now.ops kept.now }
+    ensures { OnOk result (AppendsFront (W.contents out.old) (W.contents out.new) (piece.old.items ++ flat_map (shown_section remarks.now how) (sheet (listed said.now.ops)).games) piece.new.items) }
 {
     let games = said.games();
     prove!(games.len() <= usize::MAX);
+    let all = games.len() as u64;
+    let mut done = 0_u64;
     for (code, ops) in games.iter() {
-        append_game(rows, sections, names, how, said, *code, ops)?;
+        progress.tell(*code, done, all);
+        append_game(piece, remarks, how, said, kept, *code, ops)?;
+        spill(piece, out)?;
+        done = done.saturating_add(1);
     }
     Ok(())
 }
 
-// Adds the summary of a game with these operations, and appends its section.
+// Appends the section of a game with these operations. Where it is not kept, it is built, and let go after it.
 fn append_game<'n, A: Allocator + Copy + 'n>(
-    rows: &mut Vec<Summary, A>,
-    sections: &mut Vec<u8, A>,
-    names: &BTreeMap<u32, &'n [u8], A>,
+    out: &mut Vec<u8, A>,
+    remarks: &Remarks<'n, A>,
     how: Shown,
     said: &Record<A>,
+    kept: &BTreeMap<Code, Game<A>, A>,
     code: Code,
     ops: &OpSet<A>,
 ) -> Result<(), AllocError>
-    requires { ops.now ≡ summary.of_game said.now.ops code }
-    ensures rows { OnOk result (rows.new.items ≡ rows.old.items ++ shown_summary (game_sheet (listed said.now.ops) code) ∷ []) }
-    ensures sections { OnOk result (sections.new.items ≡ sections.old.items ++ shown_section (name_in (λ text. text.now) names.now) how (game_sheet (listed said.now.ops) code)) }
+    requires kept { AreGamesIn said.now.ops kept.now }
+    requires its { ops.now ≡ summary.of_game said.now.ops code }
+    ensures { OnOk result (out.new.items ≡ out.old.items ++ shown_section remarks.now how (game_sheet (listed said.now.ops) code)) }
 {
+    if let Some(game) = kept.get(&code) {
+        return append_shown(said.allocator(), out, remarks, how, game, ops);
+    }
     let game = game_of(said, code)?;
-    let sheet = GameSheet::of_game(said.allocator(), &game, ops)?;
+    append_shown(said.allocator(), out, remarks, how, &game, ops)
+}
+
+// Appends the section of a game, which holds the blocks of these operations.
+fn append_shown<'n, A: Allocator + Copy + 'n>(
+    alloc: A,
+    out: &mut Vec<u8, A>,
+    remarks: &Remarks<'n, A>,
+    how: Shown,
+    game: &Game<A>,
+    ops: &OpSet<A>,
+) -> Result<(), AllocError>
+    requires { list_all (contains game.now.blocks) (blocks_of game.now.code (listed ops.now)) ≡ true }
+    ensures { OnOk result (out.new.items ≡ out.old.items ++ shown_section remarks.now how (sheet_by game.now (listed ops.now))) }
+{
+    let sheet = GameSheet::of_game(alloc, game, ops)?;
     let found = game.find_period();
     let shown = with_least(sheet, &found);
-    Summary::add(rows, &shown)?;
-    append_section(sections, names, how, &shown)
+    append_section(out, remarks, how, &shown)
 }
 
 // Appends the section of a game.
 fn append_section<'n, A: Allocator + Copy, B: Allocator + Copy + 'n>(
     out: &mut Vec<u8, A>,
-    names: &BTreeMap<u32, &'n [u8], B>,
+    remarks: &Remarks<'n, B>,
     how: Shown,
     game: &GameSheet<'_, B>,
 ) -> Result<(), AllocError>
-    ensures ok { OnOk result (out.new.items ≡ out.old.items ++ section (name_in (λ text. text.now) names.now) how (game_content game.now)) }
+    ensures ok { OnOk result (out.new.items ≡ out.old.items ++ section remarks.now how (game_content game.now)) }
     ensures grown { Extends out.old.items out.new.items }
 {
     append_figure(out, how, game)?;
-    append_game_tables(out, names, how, game)?;
+    append_game_tables(out, remarks, how, game)?;
     append_pieces(
         out,
         &[Text(b"<p><a href=\"#games\">All games</a></p>\n</section>\n")],

@@ -1,30 +1,31 @@
 //! The files of a site: HTML for each game, an index of all games, and their style.
 #![tactic(auto, using(oct_ops::proofs::Growing::growing))]
 
-ghost use Rattle.oct_sheet.specs.Names.{name_in};
 ghost use Rattle.std.specs.Prelude.{◌≡◌, ◌++◌, OnErr, OnOk, codes};
+ghost use Rattle.std.specs.Io.KnownBytes.{Appends};
 ghost use Rattle.oct_ops.specs.Operations.{listed};
 ghost use Rattle.oct_pages.specs.Contents.{game_content};
 ghost use Rattle.oct_ops.specs.Growth.{Extends};
 ghost use Rattle.oct_views.specs.Report.{game_head, game_html, image, image_head, index_by, page_link, style_sheet};
 ghost use Rattle.oct_sheet.specs.Sheet.{sheet};
+ghost use Rattle.written.specs.Output.{AppendsFront};
 
 use crate::common::{
-    HEAD_BEGIN, STYLE_LINK, append_figure_end, append_head, append_html_end, append_records,
+    HEAD_BEGIN, STYLE_LINK, append_figure_end, append_head, append_html_end, stream_records,
 };
 use crate::game_tables::append_game_tables;
-use crate::index::{Links, append_games};
+use crate::index::{Links, stream_games};
 use crate::styles::HTML_STYLE;
 use oct_code::Code;
 use oct_ops::Period;
 use oct_pages::GameSheet;
-use oct_plot::{append_sentence, title_of};
+use oct_plot::{append_sentence, pictured, title_of};
 use oct_record::Record;
-use oct_sheet::Summary;
+use oct_sheet::{Remarks, Summary};
 use oct_text::Piece::{Code as CodeText, Number, Text};
 use oct_text::{Shown, append_pieces};
 use std::alloc::{AllocError, Allocator};
-use std::collections::BTreeMap;
+use std::io::{self, Write};
 
 /// What stands beside the tables of a site.
 #[derive(Clone, Copy)]
@@ -36,19 +37,19 @@ pub enum Beside {
 }
 
 /// Appends the HTML of a game, a file of a site beside `index.html`, `style.css`, and the game's picture, b-file and JSON,
-/// which have the code for their names: what is proved of all heaps, its values in short, its blocks and its claims. Authors
-/// are called by these names. The one error is that memory is refused, and then `out` stays as it is.
+/// which have the code for their names: what is proved of all heaps, its values in short, its blocks and its claims, with
+/// what these remarks say: the names of authors, what is withdrawn, and long periods. The one error is that memory is refused, and then `out` stays as it is.
 pub fn write_game_html<'n, A: Allocator + Copy, B: Allocator + Copy + 'n>(
     beside: Beside,
-    names: &BTreeMap<u32, &'n [u8], B>,
+    remarks: &Remarks<'n, B>,
     game: &GameSheet<'_, B>,
     out: &mut Vec<u8, A>,
 ) -> Result<(), AllocError>
-    ensures ok { OnOk result (out.new.items ≡ out.old.items ++ game_html beside (name_in (λ text. text.now) names.now) (game_content game.now)) }
+    ensures ok { OnOk result (out.new.items ≡ out.old.items ++ game_html beside remarks.now (game_content game.now)) }
     ensures err { OnErr result (out.new.items ≡ out.old.items) }
 {
     let before = out.len();
-    let written = append_game_html(out, beside, names, game);
+    let written = append_game_html(out, beside, remarks, game);
     if written.is_err() {
         out.truncate(before);
     }
@@ -65,12 +66,11 @@ pub fn write_index<A: Allocator + Copy>(
     ensures ok { OnOk result (out.new.items ≡ out.old.items ++ index_by rows.now (sheet (listed said.now.ops))) }
     ensures err { OnErr result (out.new.items ≡ out.old.items) }
 {
-    let before = out.len();
-    let written = append_index(out, said, rows);
-    if written.is_err() {
-        out.truncate(before);
+    let mut text = Vec::new(said.allocator());
+    match stream_index(said, rows, &mut text) {
+        Ok(()) => out.extend_from_slice(&text),
+        Err(_) => Err(AllocError),
     }
-    written
 }
 
 /// Appends the style sheet of a site. The one error is that memory is refused, and then `out` stays as it is.
@@ -90,16 +90,16 @@ pub fn write_style<A: Allocator>(out: &mut Vec<u8, A>) -> Result<(), AllocError>
 fn append_game_html<'n, A: Allocator + Copy, B: Allocator + Copy + 'n>(
     out: &mut Vec<u8, A>,
     beside: Beside,
-    names: &BTreeMap<u32, &'n [u8], B>,
+    remarks: &Remarks<'n, B>,
     game: &GameSheet<'_, B>,
 ) -> Result<(), AllocError>
-    ensures ok { OnOk result (out.new.items ≡ out.old.items ++ game_html beside (name_in (λ text. text.now) names.now) (game_content game.now)) }
+    ensures ok { OnOk result (out.new.items ≡ out.old.items ++ game_html beside remarks.now (game_content game.now)) }
     ensures grown { Extends out.old.items out.new.items }
 {
     append_game_head(out, &game.code, game.values.len())?;
     append_page_link(out, beside, &game.code)?;
     append_image(out, &game.code, game.values, &game.proved)?;
-    append_game_tables(out, names, Shown::Brief, game)?;
+    append_game_tables(out, remarks, Shown::Brief, game)?;
     append_html_end(out)
 }
 
@@ -166,7 +166,8 @@ fn append_image<A: Allocator + Copy>(
     ensures ok { OnOk result (out.new.items ≡ out.old.items ++ image code.now values.now proved.now) }
     ensures grown { Extends out.old.items out.new.items }
 {
-    let title = title_of(*out.allocator(), code, values.len(), proved)?;
+    let shown = pictured(values, proved);
+    let title = title_of(*out.allocator(), code, shown.len(), proved)?;
     append_image_head(out, code, &title)?;
     append_sentence(out, values, proved)?;
     append_pieces(out, &[Text(b"\"/>\n")])?;
@@ -194,17 +195,32 @@ fn append_image_head<A: Allocator>(
     )
 }
 
-// Appends the index of all games.
-fn append_index<A: Allocator + Copy>(
-    out: &mut Vec<u8, A>,
+// Writes the index of all games.
+fn stream_index<A: Allocator + Copy, W: Write>(
     said: &Record<A>,
     rows: &[Summary],
-) -> Result<(), AllocError>
-    ensures ok { OnOk result (out.new.items ≡ out.old.items ++ index_by rows.now (sheet (listed said.now.ops))) }
-    ensures grown { Extends out.old.items out.new.items }
+    out: &mut W,
+) -> io::Result<()>
+    ensures { OnOk result (Appends (W.contents out.old) (W.contents out.new) (index_by rows.now (sheet (listed said.now.ops)))) }
 {
-    append_head(out, STYLE_LINK)?;
-    append_games(out, Links::Files, rows)?;
-    append_records(out, said)?;
-    append_html_end(out)
+    let mut piece = Vec::new(said.allocator());
+    stream_index_parts(said, rows, &mut piece, out)?;
+    out.write_all(&piece)
+}
+
+// Puts the index behind what stands in the piece, and writes the piece where it is large.
+fn stream_index_parts<A: Allocator + Copy, W: Write>(
+    said: &Record<A>,
+    rows: &[Summary],
+    piece: &mut Vec<u8, A>,
+    out: &mut W,
+) -> io::Result<()>
+    ensures { OnOk result (AppendsFront (W.contents out.old) (W.contents out.new) (piece.old.items ++ index_by rows.now (sheet (listed said.now.ops))) piece.new.items) }
+{
+    let remarks = Remarks::of_record(said)?;
+    append_head(piece, STYLE_LINK)?;
+    stream_games(Links::Files, &remarks, rows, piece, out)?;
+    stream_records(said, said, piece, out)?;
+    append_html_end(piece)?;
+    Ok(())
 }

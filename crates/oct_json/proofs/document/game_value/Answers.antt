@@ -19,4 +19,4 @@ pub returns : goal.returns
 returns c =
     let is = c.in_ok-sheet.ensures ∙ sheet_by-is c.args.said.now.ops c.args.code c.in_ok-game.game c.args.ops.now c.in_ok-game.ensures c.requires in
     let shown = game_content c.in_ok-sheet.sheet in
-    IfOk-weaker c.game_json.result _ (λ v. view v ≡ game_data (game_sheet (listed c.args.said.now.ops) c.args.code)) (λ v made. made ∙ ap (game_by shown) c.of-least.ensures ∙ ap game_data is) c.game_json.ensures
+    IfOk-weaker c.game_json.result _ (λ v. view v ≡ game_data c.args.remarks.now (game_sheet (listed c.args.said.now.ops) c.args.code)) (λ v made. made ∙ ap (game_by c.args.remarks.now shown) c.of-least.ensures ∙ ap (game_data c.args.remarks.now) is) c.game_json.ensures

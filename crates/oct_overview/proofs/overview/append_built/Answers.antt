@@ -16,4 +16,4 @@ of-line-requires g c = least_found c.in_ok-game.game (listed c.args.ops.now) (ga
 pub returns-clause-ok : goal.returns-clause-ok
 returns-clause-ok g c =
     let is = c.in_ok-sheet.ensures ∙ sheet_by-is c.args.said.now.ops c.args.code c.in_ok-game.game c.args.ops.now c.in_ok-game.ensures c.requires in
-    on_ok_weaker c.append_selected.result (λ e. e ∙ ap (λ s. c.args.out.now.items ++ told_if c.args.which.now c.args.listing c.args.names.now s) is) c.append_selected.ensures.ok
+    on_ok_weaker c.append_selected.result (λ e. e ∙ ap (λ s. c.args.out.now.items ++ told_if c.args.which.now c.args.listing c.args.remarks.now s) is) c.append_selected.ensures.ok

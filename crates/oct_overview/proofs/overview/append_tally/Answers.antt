@@ -1,10 +1,6 @@
-use Rattle.std.proofs.Common.{[], ◌++◌, ◌∙◌}
-use Rattle.std.proofs.lemmas.Result.{on_ok_weaker}
-use Rattle.std.specs.Fmt.{decimal}
+use Rattle.oct_text.proofs.Joined.{joined_three}
 use Rattle.oct_overview.proofs.overview.append_tally.Goals as goal
 
 pub returns-clause-ok : goal.returns-clause-ok
 returns-clause-ok g c =
-    on_ok_weaker c.append_pieces.result
-    (λ e. e ∙ (λ i. c.args.out.now.items ++ (c.args.front.now ++ (decimal c.args.tally.proved ++ (c.word.ensures i ++ (decimal c.args.tally.refuted ++ (c.word-2.ensures i ++ (decimal c.args.tally.pending ++ []))))))))
-    c.append_pieces.ensures.ok
+    joined_three c.append_pending.result _ _ _ _ _ _ _ c.in_ok-append_proved.ensures.ok c.in_ok-append_withdrawn_count.ensures.ok c.append_pending.ensures.ok

@@ -4,5 +4,5 @@ use Rattle.oct_overview.proofs.overview.append_wrong_blocks.Goals as goal
 
 pub loop-row-preserved : goal.loop-row-preserved
 loop-row-preserved g c =
-    grown_each (block_refutation c.args.form c.args.names.now c.args.code) c.args.rows.now c.loop-row.row-index _ c.row-item.result c.args.out.now.items c.loop-row.out.items c.append_block_refutation.new.out.items
+    grown_each (block_refutation c.args.form c.args.remarks.now c.args.code) c.args.rows.now c.loop-row.row-index _ c.row-item.result c.args.out.now.items c.loop-row.out.items c.append_block_refutation.new.out.items
     c.loop-row-test.true c.row-item.is c.loop-row.invariant c.in_ok-append_block_refutation.ensures.ok

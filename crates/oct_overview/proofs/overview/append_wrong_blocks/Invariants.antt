@@ -4,4 +4,4 @@ use Rattle.oct_overview.specs.Overview.{block_refutation}
 use Rattle.oct_overview.proofs.overview.append_wrong_blocks.Given as goal
 
 abbrev pub invariant-loop-row : goal.invariant-loop-row
-invariant-loop-row g l = l.out.items ≡ l.fn.out.items ++ flat_map (block_refutation l.fn.form l.fn.names l.fn.code) (take l.row-index l.rows)
+invariant-loop-row g l = l.out.items ≡ l.fn.out.items ++ flat_map (block_refutation l.fn.form l.fn.remarks l.fn.code) (take l.row-index l.rows)

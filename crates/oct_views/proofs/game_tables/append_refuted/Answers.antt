@@ -4,4 +4,4 @@ use Rattle.oct_views.proofs.game_tables.append_refuted.Goals as goal
 pub returns-clause-ok : goal.returns-clause-ok
 returns-clause-ok g c =
     joined_four c.append_pieces.result _ _ _ _ _ _ _ _ _
-    c.in_ok-append_refuted_head.ensures.ok (rw c.deref.ensures.value at c.in_ok-append_table.ensures.ok) (rw c.deref-2.ensures.value at c.in_ok-append_table-2.ensures.ok) c.append_pieces.ensures.ok
+    c.in_ok-append_refuted_head.ensures.ok (rw c.deref.ensures.value at c.in_ok-append_refutations.ensures.ok) c.in_ok-append_broken.ensures.ok c.append_pieces.ensures.ok

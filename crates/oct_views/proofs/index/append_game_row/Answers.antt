@@ -1,0 +1,7 @@
+use Rattle.oct_text.proofs.Joined.{joined_three}
+use Rattle.oct_views.proofs.index.append_game_row.Goals as goal
+
+pub returns-clause-ok : goal.returns-clause-ok
+returns-clause-ok g c =
+    joined_three c.append_pieces.result _ _ _ _ _ _ _
+    c.in_ok-append_row_head.ensures.ok c.in_ok-append_cells.ensures.ok c.append_pieces.ensures.ok

@@ -1,0 +1,20 @@
+use Rattle.std.proofs.Common.{◌++◌, subst}
+use Rattle.std.proofs.lemmas.Result.{on_ok_weaker}
+use Rattle.std.specs.Io.KnownBytes.{Appends}
+use Rattle.oct_ops.specs.Operations.{listed}
+use Rattle.oct_sheet.proofs.Streamed.{front_done}
+use Rattle.oct_sheet.specs.Sheet.{sheet}
+use Rattle.oct_views.specs.Report.{index_by}
+use Rattle.written.specs.Output.{AppendsFront}
+use Rattle.oct_views.proofs.site.stream_index.Goals as goal
+
+pub returns : goal.returns
+returns g c =
+    let contents = g.W.Write.contents in
+    let text = index_by c.args.rows.now (sheet (listed c.args.said.now.ops)) in
+    let mid = c.stream_index_parts.new.out in
+    let piece = c.stream_index_parts.new.piece.items in
+    let put = subst (λ front. AppendsFront (contents c.args.out.now) (contents mid) (front ++ text) piece) c.new-piece.ensures.items c.in_ok-stream_index_parts.ensures in
+    on_ok_weaker c.write_all.result
+    (λ wrote. front_done (contents c.args.out.now) (contents mid) (contents c.write_all.new.self) text piece put (subst (Appends (contents mid) (contents c.write_all.new.self)) c.deref.ensures.value wrote))
+    c.write_all.ensures.bytes

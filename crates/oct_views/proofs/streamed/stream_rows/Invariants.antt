@@ -1,0 +1,8 @@
+use Rattle.std.proofs.Common.{◌++◌, take}
+use Rattle.std.specs.List.{flat_map}
+use Rattle.written.specs.Output.{AppendsFront}
+use Rattle.oct_views.proofs.streamed.stream_rows.Given as goal
+
+abbrev pub invariant-loop-row : goal.invariant-loop-row
+invariant-loop-row g l =
+    AppendsFront (g.W.Write.contents l.fn.out) (g.W.Write.contents l.out) (l.fn.piece.items ++ flat_map (g.S.Rows.text l.way) (take l.row-index l.rows)) l.piece.items
