@@ -1,5 +1,6 @@
 -- What several files hold together.
-use Rattle.std.specs.Prelude.{List, [], ◌∷◌, Result, Ok}
+use Rattle.std.specs.Prelude.{◌≡◌, List, [], ◌∷◌, Option, Result, Ok}
+use Rattle.std.specs.Io.KnownBytes.{Appends}
 use Rattle.oct_delta.specs.Text.{Bytes}
 use Rattle.oct_ops.specs.Operations.{Operations, empty, listed, union}
 use Rattle.oct_text.specs.Words.{Text}
@@ -20,6 +21,10 @@ held_onto ops (file ∷ files) = operations_in file >>= λ more. held_onto (unio
 -- the catalogue of what the files hold together
 abbrev pub read_together : List Bytes → Result Text Fault
 read_together files = held_onto empty files >>= λ ops. Ok (catalogue (listed ops))
+
+-- there is a text, and it is written
+abbrev pub Written : Option Bytes → Option Bytes → Result Text Fault → Type 0
+Written old new answer = (text : Text) × (answer ≡ Ok text) × Appends old new text
 
 -- the log of what the files hold together
 abbrev pub log_together : {A : Type 0} → Wanted A → List Bytes → Result Text Fault

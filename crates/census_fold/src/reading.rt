@@ -1,28 +1,51 @@
 //! What several files hold together.
 
-ghost use Rattle.std.specs.Prelude.{◌≡◌, ◌≢◌, Ok, Err, IfOk, IfErr, map};
+ghost use Rattle.std.specs.Prelude.{◌≡◌, ◌≢◌, ◌⊎◌, Ok, Err, IfOk, IfErr, OnOk, map};
+ghost use Rattle.std.specs.Io.KnownBytes.{Appends, Keeps};
 ghost use Rattle.oct_ops.specs.Operations.{empty, listed, union};
 ghost use Rattle.oct_pages.specs.Catalogue.{catalogue};
 ghost use Rattle.oct_log.specs.Log.{log_text};
-ghost use Rattle.census_fold.specs.Reading.{diff_of_files, diff_of_files_in, held_onto, log_together, read_together};
+ghost use Rattle.census_fold.specs.Reading.{Written, diff_of_files, diff_of_files_in, held_onto, log_together, read_together};
 
 use crate::digests::read_held;
-use census_state::{Fault, nothing, read_codes};
+use census_state::{Fault, nothing, read_codes, write_fault};
 use oct_log::{Wanted, write_diff, write_diff_of, write_log};
-use oct_pages::write_catalogue_of;
+use oct_pages::{GameProgress, stream_catalogue};
 use oct_record::Record;
 use std::alloc::{AllocError, Global};
+use std::io::Write;
 
-/// The catalogue of what files hold together, each a state or a delta; of no file that of no operation. A file is read as a state
-/// where it begins with `OGS1`, and else as a delta. The fault is that of the first file that is neither: `Load` where it begins
-/// as a state, and else `Merge`. `OutOfMemory` may come before that.
-pub fn read_together(alloc: Global, files: &[Vec<u8>]) -> Result<Vec<u8>, Fault>
-    ensures ok { IfOk result (λ text. read_together (map (λ file. file.items) files.now) ≡ Ok text.items) }
-    ensures err { IfErr result (λ e. e ≢ Fault.OutOfMemory → read_together (map (λ file. file.items) files.now) ≡ Err e) }
+/// Writes the catalogue of what files hold together, each a state or a delta, in pieces of some 64 KiB, as it is made, and tells
+/// `progress` of each game; of no file it is that of no operation. A file is read as a state where it begins with `OGS1`, and else
+/// as a delta. The fault is that of the first file that is neither, and nothing is written then: `Load` where it begins as a
+/// state, and else `Merge`; or `Write` where the writer fails. `OutOfMemory` may come at any time.
+pub fn read_together<W: Write, P: GameProgress>(
+    alloc: Global,
+    files: &[Vec<u8>],
+    progress: &mut P,
+    out: &mut W,
+) -> Result<(), Fault>
+    ensures ok { OnOk result (Written (W.contents out.old) (W.contents out.new) (read_together (map (λ file. file.items) files.now))) }
+    ensures err { IfErr result (λ e. e ≢ Fault.OutOfMemory → e ≢ Fault.Write → read_together (map (λ file. file.items) files.now) ≡ Err e) }
+    ensures kept { IfErr result (λ e. e ≢ Fault.OutOfMemory → e ≢ Fault.Write → Keeps (W.contents out.old) (W.contents out.new)) }
 {
     let all = held_together(alloc, files)?;
-    let text = catalogue_text(alloc, &all)?;
-    Ok(text)
+    write_held(&all, progress, out)
+}
+
+// Writes the catalogue of what is held. The fault is `Write` or `OutOfMemory`.
+fn write_held<W: Write, P: GameProgress>(
+    held: &Record<Global>,
+    progress: &mut P,
+    out: &mut W,
+) -> Result<(), Fault>
+    ensures ok { OnOk result (Appends (W.contents out.old) (W.contents out.new) (catalogue (listed held.now.ops))) }
+    ensures err { IfErr result (λ e. (e ≡ Fault.Write) ⊎ (e ≡ Fault.OutOfMemory)) }
+{
+    match stream_catalogue(held, held, progress, out) {
+        Ok(()) => Ok(()),
+        Err(error) => Err(write_fault(&error)),
+    }
 }
 
 /// The log of what files hold together, each a state or a delta: a line for each operation that is wanted. The fault is as above.
@@ -83,15 +106,6 @@ fn both(
     all.join(one)?;
     all.join(other)?;
     Ok(all)
-}
-
-// The catalogue of what is held.
-fn catalogue_text(alloc: Global, held: &Record<Global>) -> Result<Vec<u8>, AllocError>
-    ensures { IfOk result (λ text. text.items ≡ catalogue (listed held.now.ops)) }
-{
-    let mut text = Vec::new(alloc);
-    write_catalogue_of(held, &mut text)?;
-    Ok(text)
 }
 
 /// What the files hold.

@@ -1,1 +1,2 @@
+pub mod FirstGames
 mod Pieces

@@ -1,3 +1,5 @@
+pub mod FirstGames
+pub mod Positions
 pub mod Resumed
 pub mod SearchTexts
 pub mod Searching

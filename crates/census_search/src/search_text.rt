@@ -32,8 +32,8 @@ pub(crate) fn search_text(
     }
 }
 
-// The nim-value of a heap, where a period is found, or where it is computed.
-fn value_told(game: &Search<Global>, found: Option<SeenPeriod>, heap: u64) -> Option<u16>
+/// The nim-value of a heap, where a period is found, or where it is computed.
+pub(crate) fn value_told(game: &Search<Global>, found: Option<SeenPeriod>, heap: u64) -> Option<u16>
     requires { IsFound game.now.code game.now.len found }
     ensures { result ≡ value_told game.now.code found game.now.len heap }
 {

@@ -64,8 +64,8 @@ pub fn first_values<P: Progress>(
     Ok(game)
 }
 
-// Refuses a number of values that no search computes.
-fn check_searchable(count: u64) -> Result<(), Fault>
+/// Refuses a number of values that no search computes: `Number` where it is 0 or above `SEARCH_LIMIT`.
+pub fn check_searchable(count: u64) -> Result<(), Fault>
     ensures ok { OnOk result (searchable count ≡ Ok count) }
     ensures fits { OnOk result (count ≤ MOST) }
     ensures err { IfErr result (λ e. searchable count ≡ Err e) }
@@ -76,8 +76,8 @@ fn check_searchable(count: u64) -> Result<(), Fault>
     Ok(())
 }
 
-// Computes nim-values until they show a period, or those of `count` heaps are known, and tells how many are known.
-fn search_told<P: Progress>(
+/// Computes nim-values until they show a period, or those of `count` heaps are known, and tells how many are known.
+pub(crate) fn search_told<P: Progress>(
     game: &mut Search<Global>,
     count: usize,
     progress: &mut P,

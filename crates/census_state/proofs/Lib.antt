@@ -2,9 +2,9 @@ mod CodeTexts
 pub mod Merging
 mod Rejoining
 mod Renumbering
-mod Piecewise
 pub mod Rounds
 mod SomeGames
 pub mod Stepping
+mod StateLengths
 pub mod StoredStates
 mod Uniting

@@ -20,3 +20,8 @@ IsFoldFault e = IsInputFault e ⊎ (e ≡ fault.Write)
 abbrev pub read_fault : ErrorKind → Fault
 read_fault kind.OutOfMemory = fault.OutOfMemory
 read_fault _ = fault.Read
+
+-- the fault of a write that failed so
+abbrev pub write_fault : ErrorKind → Fault
+write_fault kind.OutOfMemory = fault.OutOfMemory
+write_fault _ = fault.Write

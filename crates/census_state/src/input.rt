@@ -1,9 +1,9 @@
-//! The whole of an input.
+//! The whole of an input, and what it means that a stream fails.
 
 ghost use Rattle.std.specs.Prelude.{◌≡◌, ◌⊎◌, ◌+◌, ◌<◌, ◌≤◌, ◌^◌, length, vec_len, IfOk, OnOk, IfSome, IfErr, IsErrOf};
 ghost use Rattle.std.specs.Io.KnownBytes.{IsAtEnd};
 ghost use Rattle.std.specs.IoError.{error_kind};
-ghost use Rattle.census_state.specs.Inputs.{IsInputFault, read_fault};
+ghost use Rattle.census_state.specs.Inputs.{IsInputFault, read_fault, write_fault};
 
 use crate::fault::Fault;
 use std::alloc::Allocator;
@@ -41,5 +41,16 @@ pub fn read_fault(error: &Error) -> Fault
     match error.kind() {
         ErrorKind::OutOfMemory => Fault::OutOfMemory,
         _ => Fault::Read,
+    }
+}
+
+/// The fault of a write that failed: `OutOfMemory` exactly where its error is of that kind, and else `Write`.
+pub fn write_fault(error: &Error) -> Fault
+    ensures is { result ≡ write_fault (error_kind error.now) }
+    ensures either { (result ≡ Fault.Write) ⊎ (result ≡ Fault.OutOfMemory) }
+{
+    match error.kind() {
+        ErrorKind::OutOfMemory => Fault::OutOfMemory,
+        _ => Fault::Write,
     }
 }

@@ -34,7 +34,7 @@ pub use codes::{read_code, read_codes};
 pub use empty_record::nothing;
 pub use fault::Fault;
 pub use import_error::ImportError;
-pub use input::{INPUT_LIMIT, read_fault, read_whole};
+pub use input::{INPUT_LIMIT, read_fault, read_whole, write_fault};
 pub use period_texts::{append_period, append_vain_line, append_vain_words, needs};
 pub use reply::Reply;
 pub use request::Request;

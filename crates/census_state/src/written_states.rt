@@ -14,9 +14,7 @@ use oct_join::Ops;
 use oct_record::Record;
 use std::alloc::{AllocError, Global};
 use std::io::{self, ErrorKind, Write};
-
-// So many bytes are written at a time, and the text of one operation.
-const PIECE: usize = 65_536;
+use written::spill;
 
 // How many bytes stand in a state's text in front of its operations: its tag, the author, and the head of the delta.
 const FRONT: u64 = 16;
@@ -51,10 +49,7 @@ fn write_ops<W: Write>(front: Vec<u8>, ops: Ops<'_, Global>, out: &mut W) -> io:
 {
     let mut piece = front;
     for op in ops {
-        if piece.len() >= PIECE {
-            out.write_all(&piece)?;
-            piece.clear();
-        }
+        spill(&mut piece, out)?;
         if put_op(&mut piece, op).is_err() {
             return Err(io::Error::from(ErrorKind::OutOfMemory));
         }

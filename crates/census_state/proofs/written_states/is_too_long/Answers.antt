@@ -3,7 +3,7 @@ use Rattle.std.proofs.lemmas.Bool.{false≢true}
 use Rattle.std.specs.List.{flat_map}
 use Rattle.oct_delta.specs.Text.{op_bytes}
 use Rattle.oct_ops.specs.Operations.{listed}
-use Rattle.census_state.proofs.Piecewise.{length-next, length-state}
+use Rattle.census_state.proofs.StateLengths.{length-next, length-state}
 use Rattle.census_state.proofs.written_states.is_too_long.Goals as goal
 
 pub loop-op-init : goal.loop-op-init

@@ -3,9 +3,8 @@ use Rattle.std.specs.Io.KnownBytes.{Appends}
 use Rattle.std.specs.List.{flat_map}
 use Rattle.oct_delta.proofs.Written.{written}
 use Rattle.oct_delta.specs.Text.{op_bytes}
-use Rattle.census_state.proofs.Piecewise.{IsUnderway, begun, flushed, moved, put}
+use Rattle.written.proofs.Piecewise.{IsUnderway, begun, moved, put, spilled}
 use Rattle.census_state.proofs.written_states.write_ops.Goals as goal
-use Rattle.census_state.proofs.written_states.write_ops.Goals.{then-len-ge-PIECE+in_ok-write_all, else-len-ge-PIECE}
 
 pub loop-op-init : goal.loop-op-init
 loop-op-init g c =
@@ -18,18 +17,10 @@ loop-op-preserved g c =
     let text = c.args.front.items ++ flat_map op_bytes c.args.ops in
     let old = g.W.Write.contents c.args.out.now in
     let before = g.W.Write.contents c.loop-op.out in
-    let now = g.W.Write.contents c.if-len-ge-PIECE.out in
-    let piece = c.if-len-ge-PIECE.piece.items in
+    let now = g.W.Write.contents c.spill.new.out in
+    let piece = c.spill.new.piece.items in
     let rest = flat_map op_bytes c.loop-op.op-iterator in
-    let here : IsUnderway old now text piece rest =
-    elim c.if-len-ge-PIECE.branch as (λ x. IsUnderway old now text piece rest) [
-      | then-len-ge-PIECE+in_ok-write_all w ↦
-          let later = g.W.Write.contents w.write_all.new.self in
-          let wrote = subst (Appends before later) w.deref.ensures.value w.in_ok-write_all.ensures.bytes in
-          moved old now later text piece _ rest (ap g.W.Write.contents w.out-is) (ap (λ p. p.items) w.piece-is ∙ w.clear.ensures.items)
-          (flushed old before later text c.loop-op.piece.items rest c.loop-op.invariant wrote)
-      | else-len-ge-PIECE w ↦ moved old now before text piece c.loop-op.piece.items rest (ap g.W.Write.contents w.out-is) (ap (λ p. p.items) w.piece-is) c.loop-op.invariant
-    ] in
+    let here = spilled old before now text c.loop-op.piece.items piece rest c.loop-op.invariant c.in_ok-spill.ensures.ok in
     let next = op_bytes c.in-Some.op.now in
     let steps = ap (λ ops. flat_map op_bytes ops) c.in-Some.ensures.steps in
     let more = flat_map op_bytes c.next.new.self in

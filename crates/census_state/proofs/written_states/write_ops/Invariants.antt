@@ -1,7 +1,7 @@
 use Rattle.std.proofs.Common.{◌++◌}
 use Rattle.std.specs.List.{flat_map}
 use Rattle.oct_delta.specs.Text.{op_bytes}
-use Rattle.census_state.proofs.Piecewise.{IsUnderway}
+use Rattle.written.proofs.Piecewise.{IsUnderway}
 use Rattle.census_state.proofs.written_states.write_ops.Given as goal
 
 abbrev pub invariant-loop-op : goal.invariant-loop-op
