@@ -7,14 +7,19 @@
 //!   `first_values` computes as many as are asked for, and `write_values` writes them as a b-file. `search_in_windows` keeps few
 //!   of them, and gives a `Keeper` each `Place` that it comes to; `write_place` writes one, `read_search` reads it, and
 //!   `resume_in_windows` goes on from there.
+//! - `value_by_search` says which nim-value a position has, by a state or else by a search, and `move_by_search` names a winning
+//!   move. `plot_heaps` draws some heaps of a game of a state.
 //! - `check` compares a b-file with computed values, and `find_shift` says whether they are right at other heaps.
-//! - `unite` makes one delta of several files, `read_together` the catalogue of what several files hold, and `log_together` their
+//! - `stream_view` writes all that a state says, in a view, as it is made, and `stream_only` what it says of some games; a
+//!   `GameProgress` is told how far they are.
+//! - `unite` makes one delta of several files, `read_together` writes the catalogue of what several files hold, and `log_together` gives their
 //!   log: a line for each operation that is `Wanted`. `diff` says how two differ, and `diff_of_games` how they do in some games.
 //!   `left_in` gives the games of a list of which several files lack one of the first values, and `own_left` those of which the
 //!   author of a state said not all of them.
 //! - `digest` names the set of operations of a file by 64 digits, and `author_for` gives the number of the author that a text has.
 //! - `status` says in a few lines what a state file holds, and `outcome` how many of its blocks and claims are proved, refuted
 //!   and pending.
+//! - `sql_script` gives the script in SQL that makes a database of all that a state says.
 //! - `list_games` tells of those games of a state for which each `Condition` holds, in the form of a `Listing`.
 //! - `new_forks` gives the dots that are used twice since.
 //! - `write_site` puts the files of a site into a `Folder`, one game in memory at a time.
@@ -29,7 +34,9 @@
 
 mod command;
 pub mod laws;
+mod moving;
 mod progress;
+mod reaching;
 
 pub use census_fold::{
     Intake, author_for, diff, diff_of_games, digest, fold_intake, fold_lines, left_in,
@@ -48,9 +55,14 @@ pub use census_state::{
     Fault, INPUT_LIMIT, ImportError, Rejoined, Reply, Request, SavedError, View, number,
     read_whole, rejoin, rejoined_text, unchanged, write_state,
 };
-pub use census_tell::{Beside, Condition, Folder, Listing, list_games, write_site};
+pub use census_tell::{
+    Beside, Condition, Folder, GameProgress, Listing, Unwatched, list_games, plot_heaps,
+    sql_script, stream_only, stream_view, write_site,
+};
 pub use command::{perform, perform_kept};
+pub use moving::move_by_search;
 pub use oct_log::Wanted;
 pub use oct_saved::write_place;
 pub use oct_text::{Form, Told};
 pub use oct_window::{Forgetful, Keeper, Place, Progress, Unkept};
+pub use reaching::value_by_search;

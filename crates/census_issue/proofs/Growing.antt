@@ -25,7 +25,7 @@ use Rattle.oct_record.specs.Content.{RecordContent}
 use Rattle.oct_record.specs.Taking.{has_number, next_op}
 use Rattle.oct_record.specs.declared.error.IssueError.TheVariants as issue
 use Rattle.oct_ops.proofs.Members.{any-In, any_source, Has-listed, In-listed, insert-keeps}
-use Rattle.oct_replica.proofs.Settled.{In-filter_map, In-filter_map_source}
+use Rattle.oct_pages.proofs.InGames.{In-filter_map, In-filter_map_source}
 use Rattle.oct_verify.specs.Filing.{Filing, blocks_in}
 use Rattle.oct_verify.specs.FilingLaws.{filing_cmp_total, filing_cmp_exact}
 use Rattle.oct_verify.specs.Known.{end, is_shown, is_true, shows}

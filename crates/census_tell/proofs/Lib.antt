@@ -1,3 +1,4 @@
 mod Asked
+pub mod Moves
 mod Outcomes
 mod Shelves

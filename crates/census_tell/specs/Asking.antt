@@ -1,5 +1,5 @@
 -- What the commands give that leave a state as it is.
-use Rattle.std.specs.Prelude.{ℕ, ◌++◌, Bool, true, false, List, [], codes, Result, Ok, Err, if◌then◌else◌}
+use Rattle.std.specs.Prelude.{ℕ, ◌==◌, ◌++◌, Bool, true, false, not, List, [], codes, Result, Ok, Err, if◌then◌else◌}
 use Rattle.oct_code.specs.Code.{Code}
 use Rattle.oct_delta.specs.Text.{Bytes}
 use Rattle.oct_ops.specs.Body.{Operation}
@@ -61,6 +61,11 @@ unknown_text Json index = unknown_object index
 abbrev pub value_text : Form → Code → List ℕ → Result ℕ Unknown → Text
 value_text form c heaps (Ok value) = known_text form value (winner (wins c heaps))
 value_text form c heaps (Err unknown) = unknown_text form unknown.index
+
+-- the value and who wins by the value alone, or that heap
+abbrev pub position_text : Form → Result ℕ Unknown → Text
+position_text form (Ok value) = known_text form value (winner (not (value == 0)))
+position_text form (Err unknown) = unknown_text form unknown.index
 
 abbrev pub page_of : List Operation → ℕ → Result Answer Fault
 page_of ops number = if has_page ops number then Ok (text_alone (catalogue.page ops number)) else Err NoPage

@@ -13,7 +13,7 @@ use Rattle.oct_text.specs.declared.form.Form.{Form}
 use Rattle.oct_text.specs.declared.told.Told.{Told}
 use Rattle.census_state.specs.Alone.{only_of}
 use Rattle.census_state.specs.Codes.{codes_of}
-use Rattle.census_tell.specs.Questions.{shown_in}
+use Rattle.census_tell.specs.Questions.{shown_among}
 use Rattle.census_state.specs.Replies.{Answer, text_alone}
 use Rattle.census_state.specs.Steps.{◌>>=◌}
 use Rattle.census_state.specs.Stored.{loaded}
@@ -41,8 +41,9 @@ list_games state words which listing = do
 abbrev pub games : Bytes → List Bytes → Told → Form → Result Answer Fault
 games state words what form = list_games state words [] (listing_of what form)
 
+-- the games that are named, with the authors of the whole state
 abbrev pub only : Bytes → List Bytes → View → Result Answer Fault
 only state words view = do
   replica ← loaded state
   named ← codes_of words
-  Ok (text_alone (shown_in view (only_of named replica.ops)))
+  Ok (text_alone (shown_among view (only_of named replica.ops) replica.ops))

@@ -1,6 +1,6 @@
 -- The files of a site, which any web server shows as they are: HTML, a picture, a b-file and a JSON document of each game, the index, and the
 -- style sheet. A name is a code, that is digits and a point, with a word behind it, or one of three words.
-use Rattle.std.specs.Prelude.{ℕ, ◌≡◌, ◌⊎◌, ◌++◌, List, [], ◌∷◌, codes, Result, Ok, Err}
+use Rattle.std.specs.Prelude.{◌≡◌, ◌⊎◌, ◌++◌, List, [], ◌∷◌, codes, Result, Ok, Err}
 use Rattle.std.specs.List.{flat_map}
 use Rattle.oct_code.specs.CodeText.{code_text}
 use Rattle.oct_delta.specs.Text.{Bytes}
@@ -11,9 +11,8 @@ use Rattle.oct_plot.specs.Plot.{plot}
 use Rattle.oct_views.specs.Report.{game_html, index, style_sheet}
 use Rattle.oct_views.specs.declared.site.Beside.{Beside}
 use Rattle.oct_overview.specs.Line.{with_least}
-use Rattle.oct_sheet.specs.Names.{author_name}
+use Rattle.oct_ops.specs.Body.{Operation}
 use Rattle.oct_sheet.specs.Sheet.{GameSheet, Sheet, sheet}
-use Rattle.oct_text.specs.Words.{Text}
 use Rattle.serde_json.specs.Written.{compact_text}
 use Rattle.census_state.specs.Steps.{◌>>=◌}
 use Rattle.census_state.specs.Stored.{loaded}
@@ -41,26 +40,26 @@ picture_of g = named g (codes ".svg") (plot g.code g.values g.proved)
 abbrev pub bfile_of : GameSheet → File
 bfile_of g = named g (codes ".txt") (bfile_text g.values)
 
-abbrev pub json_of : GameSheet → File
-json_of g = named g (codes ".json") (compact_text (game_data g) ++ codes "\n")
+abbrev pub json_of : List Operation → GameSheet → File
+json_of notes g = named g (codes ".json") (compact_text (game_data notes g) ++ codes "\n")
 
-abbrev pub html_of : Beside → (ℕ → Text) → GameSheet → File
-html_of beside names g = named g (codes ".html") (game_html beside names g)
+abbrev pub html_of : Beside → List Operation → GameSheet → File
+html_of beside notes g = named g (codes ".html") (game_html beside notes g)
 
--- the files of a game, whose HTML calls authors by these names
-abbrev pub files_of : Beside → (ℕ → Text) → GameSheet → List File
-files_of beside names g = picture_of g ∷ bfile_of g ∷ json_of g ∷ html_of beside names g ∷ []
+-- the files of a game, of which HTML and JSON have what these notes say: the names of authors, what is withdrawn, and long periods
+abbrev pub files_of : Beside → List Operation → GameSheet → List File
+files_of beside notes g = picture_of g ∷ bfile_of g ∷ json_of notes g ∷ html_of beside notes g ∷ []
 
 -- the period that they show is the least one that its known values prove, whether or not somebody claimed it
-abbrev pub shown_files : Beside → (ℕ → Text) → GameSheet → List File
-shown_files beside names g = files_of beside names (with_least g)
+abbrev pub shown_files : Beside → List Operation → GameSheet → List File
+shown_files beside notes g = files_of beside notes (with_least g)
 
 abbrev pub index_of : Sheet → File
 index_of s = record { name = codes "index.html"; bytes = index s }
 
 -- the files in the order in which they are written: the index comes last, so that its links lead somewhere
 abbrev pub site : Beside → Sheet → List File
-site beside s = marker ∷ style ∷ flat_map (shown_files beside (author_name s.names)) s.games ++ index_of s ∷ []
+site beside s = marker ∷ style ∷ flat_map (shown_files beside s.remarks) s.games ++ index_of s ∷ []
 
 -- those of a state, or why it is none
 abbrev pub site_of : Beside → Bytes → Result (List File) Fault

@@ -2,7 +2,7 @@
 
 ghost use Rattle.std.specs.Prelude.{◌≡◌, ◌≢◌, Ok, Err, IfOk, IfErr};
 ghost use Rattle.oct_ops.specs.Operations.{listed};
-ghost use Rattle.census_tell.specs.Asking.{known_text, outcome_line, page, page_of, unknown_text, value_of, value_text};
+ghost use Rattle.census_tell.specs.Asking.{known_text, outcome_line, page, page_of, position_text, unknown_text, value_of, value_text};
 ghost use Rattle.census_tell.specs.Questions.{answered, told_of};
 ghost use Rattle.census_state.specs.Replies.{answer_of};
 ghost use Rattle.census_tell.specs.Viewing.{bfile_of, plot_of};
@@ -12,7 +12,7 @@ use crate::moving::move_text;
 use census_state::{Fault, Reply, load, number_line, read_code};
 use oct_bfile::write_bfile;
 use oct_pages::{game_of, write_page_of};
-use oct_period::{Game, Outcome, outcome_of};
+use oct_period::{Game, Outcome, Unknown, outcome_of};
 use oct_plot::write_plot;
 use oct_record::Record;
 use oct_text::Form;
@@ -58,7 +58,7 @@ fn answer_text(
 {
     match question {
         Question::Value(heaps, form) => value_text(alloc, game, heaps, form),
-        Question::Move(heaps, form) => move_text(alloc, game, heaps, form),
+        Question::Move(heaps, form) => move_text(alloc, game.winning_move(heaps), heaps, form),
         Question::Bfile => bfile_text(alloc, game),
         Question::Plot => plot_text(alloc, game),
     }
@@ -73,7 +73,17 @@ fn value_text(
 ) -> Result<Vec<u8>, AllocError>
     ensures { IfOk result (λ text. text.items ≡ value_text form game.now.code heaps.now (value_of game.now heaps.now)) }
 {
-    let position = game.position_value(heaps);
+    position_text(alloc, game.position_value(heaps), form)
+}
+
+/// The nim-value of a position and who wins it, or the first heap whose nim-value is not known.
+pub fn position_text(
+    alloc: Global,
+    position: Result<u32, Unknown>,
+    form: Form,
+) -> Result<Vec<u8>, AllocError>
+    ensures { IfOk result (λ text. text.items ≡ position_text form position) }
+{
     match position {
         Ok(value) => known_text(alloc, value, &outcome_of(position), form),
         Err(unknown) => unknown_text(alloc, unknown.index, form),

@@ -1,24 +1,25 @@
 //! The text that names a winning move.
 
-ghost use Rattle.std.specs.Prelude.{◌≡◌, IfOk, ◌++◌, OnOk};
-ghost use Rattle.census_tell.specs.Moving.{left_text, lost_text, move_line, move_of, move_text, move_told};
+ghost use Rattle.std.specs.Prelude.{◌≡◌, ◌<◌, length, IfOk, IfSome, ◌++◌, OnOk};
+ghost use Rattle.census_tell.specs.Moving.{left_text, lost_text, move_line, move_text, move_told};
 
 use crate::asking::unknown_text;
 use crate::json_lines::{lost_object, move_object};
-use oct_period::{Game, Move};
+use oct_period::{Move, Unknown};
 use oct_text::{Form, append_labelled, append_text};
 use std::alloc::{AllocError, Global};
 
-/// The first winning move, or that there is none, or the first heap whose nim-value is not known.
-pub(crate) fn move_text(
+/// A move that wins a position, or that there is none, or the first heap whose nim-value is not known.
+pub fn move_text(
     alloc: Global,
-    game: &Game<Global>,
+    answer: Result<Option<Move>, Unknown>,
     heaps: &[u64],
     form: Form,
 ) -> Result<Vec<u8>, AllocError>
-    ensures { IfOk result (λ text. text.items ≡ move_text form heaps.now (move_of game.now heaps.now)) }
+    requires { IfOk answer (λ found. IfSome found (λ m. m.index < length heaps.now)) }
+    ensures { IfOk result (λ text. text.items ≡ move_text form heaps.now answer) }
 {
-    match game.winning_move(heaps) {
+    match answer {
         Ok(Some(found)) => move_told(alloc, &found, heaps[found.index], form),
         Ok(None) => lost_text(alloc, form),
         Err(unknown) => unknown_text(alloc, unknown.index, form),

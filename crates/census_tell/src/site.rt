@@ -8,7 +8,6 @@ ghost use Rattle.oct_overview.specs.Line.{period_of};
 ghost use Rattle.oct_pages.specs.Contents.{game_content};
 ghost use Rattle.oct_store.specs.Summary as summary;
 ghost use Rattle.oct_views.specs.Report.{index_by, shown_summary};
-ghost use Rattle.oct_sheet.specs.Names.{name_in};
 ghost use Rattle.oct_sheet.specs.Sheet.{game_sheet, sheet};
 ghost use Rattle.census_tell.specs.Site.{Filled, IsPutFault, IsSite, IsSiteFault, bfile_of, files_of, html_of, json_of, picture_of, shown_files, site, site_of, style};
 
@@ -21,10 +20,9 @@ use oct_overview::{LeastPeriod, with_least};
 use oct_pages::{GameSheet, game_of};
 use oct_plot::write_plot;
 use oct_record::Record;
-use oct_sheet::{Summary, names_by_author, naming_notes};
+use oct_sheet::{Remarks, Summary};
 use oct_views::{Beside, write_game_html, write_index, write_style};
 use std::alloc::Global;
-use std::collections::BTreeMap;
 
 /// A place for files, as a folder is.
 pub trait Folder {
@@ -40,6 +38,11 @@ pub trait Folder {
     fn put(&mut self, name: &[u8], bytes: &[u8]) -> Result<(), Fault>
         ensures ok { OnOk result (puts self.old name.now bytes.now self.new) }
         ensures err { IfErr result refuses };
+
+    /// Is told that the files of this game are next, after those of so many games of all. A file makes of the place what it would
+    /// have made of it before.
+    fn tell(&mut self, code: Code, done: u64, all: u64)
+        ensures { (name bytes : List ℕ) → (next : Self) → puts self.new name bytes next → puts self.old name bytes next };
 }
 
 /// Puts the files of the site of a state into the folder, as `specs/Site` says which: each once, the index last. Where the page
@@ -72,10 +75,9 @@ fn put_site<S: Folder>(
 {
     folder.put(b"census-site", b"census site 1\n")?;
     put_style(alloc, folder)?;
-    let notes = naming_notes(held)?;
-    let names = names_by_author(alloc, &notes)?;
+    let remarks = Remarks::of_record(held)?;
     let mut rows = Vec::new(alloc);
-    put_games(alloc, held, beside, &names, &mut rows, folder)?;
+    put_games(alloc, held, beside, &remarks, &mut rows, folder)?;
     put_index(alloc, held, &rows, folder)
 }
 
@@ -94,18 +96,21 @@ fn put_games<S: Folder>(
     alloc: Global,
     held: &Record<Global>,
     beside: Beside,
-    names: &BTreeMap<u32, &[u8], Global>,
+    remarks: &Remarks<'_, Global>,
     rows: &mut Vec<Summary>,
     folder: &mut S,
 ) -> Result<(), Fault>
-    ensures rows { OnOk result (rows.new.items ≡ rows.old.items ++ map shown_summary (sheet (listed held.now.ops)).games) }
-    ensures put { OnOk result (Filled S.puts folder.old (flat_map (shown_files beside (name_in (λ text. text.now) names.now)) (sheet (listed held.now.ops)).games) folder.new) }
+    ensures rows { OnOk result (rows.new.items ≡ rows.old.items ++ map (shown_summary remarks.now) (sheet (listed held.now.ops)).games) }
+    ensures put { OnOk result (Filled S.puts folder.old (flat_map (shown_files beside remarks.now) (sheet (listed held.now.ops)).games) folder.new) }
     ensures err { IfErr result (IsPutFault S.refuses) }
 {
     let games = held.games();
-    prove!(games.len() <= usize::MAX);
+    let all = games.len() as u64;
+    let mut done = 0;
     for (code, ops) in games.iter() {
-        put_game(alloc, held, *code, ops, beside, names, rows, folder)?;
+        folder.tell(*code, done, all);
+        put_game(alloc, held, *code, ops, beside, remarks, rows, folder)?;
+        done = done.saturating_add(1);
     }
     Ok(())
 }
@@ -117,13 +122,13 @@ fn put_game<S: Folder>(
     code: Code,
     ops: &OpSet<Global>,
     beside: Beside,
-    names: &BTreeMap<u32, &[u8], Global>,
+    remarks: &Remarks<'_, Global>,
     rows: &mut Vec<Summary>,
     folder: &mut S,
 ) -> Result<(), Fault>
     requires { ops.now ≡ summary.of_game held.now.ops code }
-    ensures rows { OnOk result (rows.new.items ≡ rows.old.items ++ shown_summary (game_sheet (listed held.now.ops) code) ∷ []) }
-    ensures put { OnOk result (Filled S.puts folder.old (shown_files beside (name_in (λ text. text.now) names.now) (game_sheet (listed held.now.ops) code)) folder.new) }
+    ensures rows { OnOk result (rows.new.items ≡ rows.old.items ++ shown_summary remarks.now (game_sheet (listed held.now.ops) code) ∷ []) }
+    ensures put { OnOk result (Filled S.puts folder.old (shown_files beside remarks.now (game_sheet (listed held.now.ops) code)) folder.new) }
     ensures err { IfErr result (IsPutFault S.refuses) }
 {
     let game = game_of(held, code)?;
@@ -131,8 +136,8 @@ fn put_game<S: Folder>(
     let found = game.find_period();
     let least = LeastPeriod::of(&sheet, &found);
     let shown = with_least(sheet, &found);
-    Summary::add(rows, &shown)?;
-    put_sheet(alloc, &shown, &least, beside, names, folder)
+    Summary::add(rows, &shown, remarks)?;
+    put_sheet(alloc, &shown, &least, beside, remarks, folder)
 }
 
 // Puts the files of a game with this least period there.
@@ -141,17 +146,17 @@ fn put_sheet<S: Folder>(
     game: &GameSheet<'_, Global>,
     least: &Option<LeastPeriod>,
     beside: Beside,
-    names: &BTreeMap<u32, &[u8], Global>,
+    remarks: &Remarks<'_, Global>,
     folder: &mut S,
 ) -> Result<(), Fault>
     requires { least.now ≡ period_of (game_content game.now) }
-    ensures ok { OnOk result (Filled S.puts folder.old (files_of beside (name_in (λ text. text.now) names.now) (game_content game.now)) folder.new) }
+    ensures ok { OnOk result (Filled S.puts folder.old (files_of beside remarks.now (game_content game.now)) folder.new) }
     ensures err { IfErr result (IsPutFault S.refuses) }
 {
     put_picture(alloc, game, folder)?;
     put_bfile(alloc, game, folder)?;
-    put_json(alloc, game, least, folder)?;
-    put_html(alloc, game, beside, names, folder)
+    put_json(alloc, game, remarks, least, folder)?;
+    put_html(alloc, game, beside, remarks, folder)
 }
 
 // Puts the picture of a game there.
@@ -186,15 +191,16 @@ fn put_bfile<S: Folder>(
 fn put_json<S: Folder>(
     alloc: Global,
     game: &GameSheet<'_, Global>,
+    remarks: &Remarks<'_, Global>,
     least: &Option<LeastPeriod>,
     folder: &mut S,
 ) -> Result<(), Fault>
     requires { least.now ≡ period_of (game_content game.now) }
-    ensures ok { OnOk result (S.puts folder.old (json_of (game_content game.now)).name (json_of (game_content game.now)).bytes folder.new) }
+    ensures ok { OnOk result (S.puts folder.old (json_of remarks.now (game_content game.now)).name (json_of remarks.now (game_content game.now)).bytes folder.new) }
     ensures err { IfErr result (IsPutFault S.refuses) }
 {
     let mut bytes = Vec::new(alloc);
-    write_game_json(alloc, game, least, &mut bytes)?;
+    write_game_json(alloc, game, remarks, least, &mut bytes)?;
     bytes.extend_from_slice(b"\n")?;
     put_named(alloc, &game.code, b".json", &bytes, folder)
 }
@@ -204,14 +210,14 @@ fn put_html<S: Folder>(
     alloc: Global,
     game: &GameSheet<'_, Global>,
     beside: Beside,
-    names: &BTreeMap<u32, &[u8], Global>,
+    remarks: &Remarks<'_, Global>,
     folder: &mut S,
 ) -> Result<(), Fault>
-    ensures ok { OnOk result (S.puts folder.old (html_of beside (name_in (λ text. text.now) names.now) (game_content game.now)).name (html_of beside (name_in (λ text. text.now) names.now) (game_content game.now)).bytes folder.new) }
+    ensures ok { OnOk result (S.puts folder.old (html_of beside remarks.now (game_content game.now)).name (html_of beside remarks.now (game_content game.now)).bytes folder.new) }
     ensures err { IfErr result (IsPutFault S.refuses) }
 {
     let mut bytes = Vec::new(alloc);
-    write_game_html(beside, names, game, &mut bytes)?;
+    write_game_html(beside, remarks, game, &mut bytes)?;
     put_named(alloc, &game.code, b".html", &bytes, folder)
 }
 

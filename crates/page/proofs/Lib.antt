@@ -1,4 +1,3 @@
-pub mod FirstGames
 pub mod HeldFiles
 pub mod Outcomes
 pub mod RightlyTold

@@ -1,38 +1,13 @@
--- A game of which the first nim-values are known, and the period that they prove.
-use Rattle.std.specs.Prelude.{◌≡◌, ℕ, ◌≤◌, ◌++◌, false, List, [], ◌∷◌, Option, Some, None}
+-- What is shown of a game by its first nim-values and the period that they prove.
+use Rattle.std.specs.Prelude.{ℕ, ◌++◌, List}
 use Rattle.oct_code.specs.Code.{Code}
 use Rattle.oct_mex.specs.NimValues.{nim_values}
-use Rattle.oct_ops.specs.Operation.{Block, Period, claimed}
-use Rattle.oct_period.specs.Claims.{claims_in}
-use Rattle.oct_period.specs.Found.{found_period}
-use Rattle.oct_period.specs.GameContent.{GameContent}
-use Rattle.oct_period.specs.Moving.{winning_move}
-use Rattle.oct_period.specs.Periods.{position_value}
 use Rattle.oct_plot.specs.Plot.{plot}
 use Rattle.oct_text.specs.Words.{Text}
-use Rattle.oct_verify.specs.Filing.{blocks_in}
-use Rattle.oct_verify.specs.Known.{is_shown, known}
 use Rattle.oct_text.specs.declared.form.Form.TheVariants.{Lines}
+use Rattle.census_search.specs.FirstGames.{first_move, first_value, proved_period}
 use Rattle.census_tell.specs.Asking.{value_text}
 use Rattle.census_tell.specs.Moving.{move_text}
-
--- a block of the first `count` nim-values
-abbrev pub first_values : Code → ℕ → List Block
-first_values c count = claimed c 0 (nim_values c count) ∷ []
-
--- the least period that they prove, from the least heap on; none where they prove none
-abbrev pub proved_period : Code → ℕ → Option Period
-proved_period c count = found_period c (first_values c count)
-
-abbrev pub listed_if : Option Period → List Period
-listed_if None = []
-listed_if (Some p) = p ∷ []
-
--- the claim of that period
-abbrev pub proved_claims : Code → ℕ → List Period
-proved_claims c count = listed_if (proved_period c count)
-
--- ---- what is shown
 
 -- the picture of the values
 abbrev pub picture : Code → ℕ → Text
@@ -40,29 +15,11 @@ picture c count = plot c (nim_values c count) (proved_period c count)
 
 -- what is said of the value of a position
 abbrev pub value_said : Code → ℕ → List ℕ → Text
-value_said c count heaps = value_text Lines c heaps (position_value c (first_values c count) (proved_claims c count) heaps)
+value_said c count heaps = value_text Lines c heaps (first_value c count heaps)
 
 -- and of a winning move
 abbrev pub move_said : Code → ℕ → List ℕ → Text
-move_said c count heaps = move_text Lines heaps (winning_move c (first_values c count) (proved_claims c count) heaps)
+move_said c count heaps = move_text Lines heaps (first_move c count heaps)
 
 abbrev pub position : Code → ℕ → List ℕ → Text
 position c count heaps = value_said c count heaps ++ move_said c count heaps
-
--- ---- while the values are put in
-
--- the blocks show no place from the known length on
-abbrev pub EndsAtKnown : List Block → Type 0
-EndsAtKnown blocks = (n : ℕ) → known blocks ≤ n → is_shown blocks n ≡ false
-
--- so many values are known of the game, and no more are said
-pub record IsKnownTo (c : Code) (count : ℕ) (game : GameContent) : Type 0 where
-  pub code : game.code ≡ c
-  pub length : known (blocks_in game.blocks) ≡ count
-  pub end : EndsAtKnown (blocks_in game.blocks)
-
--- and the period that they prove is claimed
-pub record IsFirstGame (c : Code) (count : ℕ) (game : GameContent) : Type 0 where
-  pub code : game.code ≡ c
-  pub length : known (blocks_in game.blocks) ≡ count
-  pub claims : claims_in game.claims ≡ proved_claims c count

@@ -21,7 +21,6 @@ ghost use Rattle.page.specs.Telling.{Tells};
 mod asking;
 mod checking;
 mod files;
-mod first_values;
 mod lines;
 mod playing;
 mod searching;

@@ -8,8 +8,8 @@ ghost use Rattle.page.specs.Answers.{IsPicture, IsPosition};
 ghost use Rattle.page.specs.FirstGame as first;
 
 use crate::asking::asked;
-use crate::first_values::{first_game, known_game};
 use crate::lines::append_line;
+use census_search::{first_game, known_game};
 use census_state::Fault;
 use oct_code::{Code, LIMIT};
 use oct_period::{Game, Move, Outcome, outcome_of};

@@ -6,7 +6,6 @@ use Rattle.oct_overview.specs.Line.{with_least}
 use Rattle.oct_pages.specs.Contents.{game_content}
 use Rattle.oct_pages.proofs.SheetLaws.{group_held, sheet_by-is}
 use Rattle.oct_sheet.specs.Summary.{summary_of}
-use Rattle.oct_sheet.specs.Names.{name_in}
 use Rattle.census_tell.specs.Site.{Filled, files_of}
 use Rattle.census_tell.proofs.site.put_game.Goals as goal
 
@@ -23,10 +22,10 @@ pub returns-clause-rows : goal.returns-clause-rows
 returns-clause-rows g c =
     let is = c.in_ok-sheet.ensures ∙ sheet_by-is c.args.held.now.ops c.args.code c.in_ok-game.game c.args.ops.now c.in_ok-game.ensures c.requires in
     let shown = c.with_least-shown.ensures ∙ ap with_least is in
-    on_ok_weaker c.put_sheet.result (λ _. c.in_ok-add.ensures.ok ∙ ap (λ s. c.args.rows.now.items ++ summary_of s ∷ []) shown) c.put_sheet.ensures.ok
+    on_ok_weaker c.put_sheet.result (λ _. c.in_ok-add.ensures.ok ∙ ap (λ s. c.args.rows.now.items ++ summary_of c.args.remarks.now s ∷ []) shown) c.put_sheet.ensures.ok
 
 pub returns-clause-put : goal.returns-clause-put
 returns-clause-put g c =
     let is = c.in_ok-sheet.ensures ∙ sheet_by-is c.args.held.now.ops c.args.code c.in_ok-game.game c.args.ops.now c.in_ok-game.ensures c.requires in
     let shown = c.with_least-shown.ensures ∙ ap with_least is in
-    on_ok_weaker c.put_sheet.result (λ e. subst (λ s. Filled g.S.Folder.puts c.args.folder.now (files_of c.args.beside (name_in (λ text. text.now) c.args.names.now) s) c.put_sheet.new.folder) shown e) c.put_sheet.ensures.ok
+    on_ok_weaker c.put_sheet.result (λ e. subst (λ s. Filled g.S.Folder.puts c.args.folder.now (files_of c.args.beside c.args.remarks.now s) c.put_sheet.new.folder) shown e) c.put_sheet.ensures.ok

@@ -6,16 +6,15 @@ use Rattle.oct_pages.proofs.BuiltGames.{AreHeld}
 use Rattle.oct_pages.specs.Catalogue.{games}
 use Rattle.oct_sheet.specs.Sheet.{game_sheet}
 use Rattle.oct_views.specs.Report.{shown_summary}
-use Rattle.oct_sheet.specs.Names.{name_in}
 use Rattle.census_tell.proofs.Shelves.{Filling}
 use Rattle.census_tell.specs.Site.{shown_files}
 use Rattle.census_tell.proofs.site.put_games.Given as goal
 
 abbrev pub invariant-loop-code : goal.invariant-loop-code
 invariant-loop-code g l = record {
-  rows : l.rows.items ++ map (λ (e : Code × Operations). shown_summary (game_sheet (listed l.fn.held.ops) e.0)) l.code-iterator
-      ≡ l.fn.rows.items ++ map shown_summary (map (game_sheet (listed l.fn.held.ops)) (games (listed l.fn.held.ops)));
-  put : Filling g.S.Folder.puts l.fn.folder l.folder (flat_map (λ (e : Code × Operations). shown_files l.fn.beside (name_in (λ text. text.now) l.fn.names) (game_sheet (listed l.fn.held.ops) e.0)) l.code-iterator)
-      (flat_map (shown_files l.fn.beside (name_in (λ text. text.now) l.fn.names)) (map (game_sheet (listed l.fn.held.ops)) (games (listed l.fn.held.ops))));
+  rows : l.rows.items ++ map (λ (e : Code × Operations). shown_summary l.fn.remarks (game_sheet (listed l.fn.held.ops) e.0)) l.code-iterator
+      ≡ l.fn.rows.items ++ map (shown_summary l.fn.remarks) (map (game_sheet (listed l.fn.held.ops)) (games (listed l.fn.held.ops)));
+  put : Filling g.S.Folder.puts l.fn.folder l.folder (flat_map (λ (e : Code × Operations). shown_files l.fn.beside l.fn.remarks (game_sheet (listed l.fn.held.ops) e.0)) l.code-iterator)
+      (flat_map (shown_files l.fn.beside l.fn.remarks) (map (game_sheet (listed l.fn.held.ops)) (games (listed l.fn.held.ops))));
   held : AreHeld l.fn.held.ops l.code-iterator;
 }

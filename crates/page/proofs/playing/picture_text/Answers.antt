@@ -4,8 +4,8 @@ use Rattle.oct_period.specs.Found.{found_period}
 use Rattle.oct_plot.specs.Plot.{plot}
 use Rattle.oct_verify.specs.Filing.{GameBlocks, blocks_in}
 use Rattle.oct_verify.specs.Known.{known}
-use Rattle.page.specs.FirstGame.{first_values}
-use Rattle.page.proofs.FirstGames.{first_known, same_period}
+use Rattle.census_search.specs.FirstGames.{first_values}
+use Rattle.census_search.proofs.FirstGames.{first_known, same_period}
 use Rattle.page.proofs.playing.picture_text.Goals as goal
 
 pub returns : goal.returns

@@ -2,7 +2,7 @@ use Rattle.std.proofs.Common.{◌++◌, ap, ◌∙◌}
 use Rattle.oct_text.specs.declared.form.Form.TheVariants.{Lines}
 use Rattle.census_tell.specs.Asking.{value_of, value_text}
 use Rattle.census_tell.specs.Moving.{move_text}
-use Rattle.page.proofs.FirstGames.{move_first, value_first}
+use Rattle.census_search.proofs.FirstGames.{move_first, value_first}
 use Rattle.page.proofs.playing.position_text.Goals as goal
 
 pub returns : goal.returns
