@@ -15,8 +15,20 @@ const NAMED: usize = 3;
 pub struct Audience {
     /// Whether it is a terminal.
     pub is_watching: bool,
+    /// Whether standard output is a terminal, so that a line on the other stream may stand in what is printed.
+    pub is_printing: bool,
     /// Whether advice was asked for, by `--explain` or by the environment.
     pub is_asking: bool,
+}
+
+impl Audience {
+    /// Those who watch how far a command is that prints as it goes on: nobody where it prints on a terminal.
+    pub fn beside_output(self) -> Audience {
+        Audience {
+            is_watching: self.is_watching && !self.is_printing,
+            ..self
+        }
+    }
 }
 
 /// Warnings and explanations. They are written to standard error where it is a terminal or where they were asked for,

@@ -31,12 +31,11 @@ const SHARED: u32 = 0o666;
 
 /// A folder that takes the files of a site, from one command at a time.
 #[derive(Drop)]
-pub struct SiteFolder<'a, 'b, R, E> {
+pub struct SiteFolder<'a, R> {
     rt: &'a R,
     path: &'a str,
-    advice: &'a mut Advice<'b, E>,
     lock_path: String,
-    /// The lock of the folder, which is held from the first file on.
+    /// The lock of the folder, which is held from `lock` on.
     lock: Option<Lock>,
     /// The names of the files that it has taken.
     names: BTreeSet<String>,
@@ -44,25 +43,19 @@ pub struct SiteFolder<'a, 'b, R, E> {
     failure: Option<Failure>,
 }
 
-impl<'a, 'b, R, E> SiteFolder<'a, 'b, R, E>
+impl<'a, R> SiteFolder<'a, R>
 where
     R: Files<File = File> + AllocGlobal + Clock + Clone + Drop,
-    E: Write,
 {
     /// The folder at the path, where nothing would be lost. It is not made yet, nor locked. The fault is `Occupied` where
     /// something stands there that is no folder, or a folder that has anything but a site; `File` where that can't be
     /// seen; and `OutOfMemory`.
-    pub fn open(
-        rt: &'a R,
-        path: &'a str,
-        advice: &'a mut Advice<'b, E>,
-    ) -> Result<SiteFolder<'a, 'b, R, E>, Failure> {
+    pub fn open(rt: &'a R, path: &'a str) -> Result<SiteFolder<'a, R>, Failure> {
         check_free(rt, path)?;
         let alloc = rt.alloc();
         Ok(SiteFolder {
             rt,
             path,
-            advice,
             lock_path: format!(in alloc; "{path}/{LOCK}")?,
             lock: None,
             names: BTreeSet::new(alloc),
@@ -70,11 +63,28 @@ where
         })
     }
 
-    /// Writes a file of this name with these bytes beside, and gives it its name, whole. Before its first file the folder
-    /// is made, where there is none, and locked, and it is looked again whether anything would be lost. The fault is
-    /// `File`, after which the file is as it was, `Occupied`, and `OutOfMemory`; `close` knows more of it.
+    /// Whether it is locked, so that it takes files.
+    pub fn is_locked(&self) -> bool {
+        self.lock.is_some()
+    }
+
+    /// Makes the folder, where there is none, waits for its lock, and looks again whether anything would be lost. The fault is
+    /// `File`, `Occupied`, and `OutOfMemory`; `close` knows more of it.
+    pub fn lock<E: Write>(&mut self, advice: &mut Advice<'_, E>) -> Result<(), Fault> {
+        let locked = self.locked(advice);
+        self.noted(locked)
+    }
+
+    /// Writes a file of this name with these bytes beside, and gives it its name, whole, where the folder is locked. The fault
+    /// is `File`, after which the file is as it was, and `OutOfMemory`; `close` knows more of it.
     pub fn put(&mut self, name: &[u8], bytes: &[u8]) -> Result<(), Fault> {
-        match self.taken(name, bytes) {
+        let taken = self.taken(name, bytes);
+        self.noted(taken)
+    }
+
+    // Keeps what is known of a fault, for `close`.
+    fn noted(&mut self, done: Result<(), Failure>) -> Result<(), Fault> {
+        match done {
             Ok(()) => Ok(()),
             Err(failure) => {
                 let fault = failure.fault;
@@ -84,15 +94,12 @@ where
         }
     }
 
-    // The same, with what is known of the fault.
+    // Writes the file, and gives what is known of a fault.
     fn taken(&mut self, name: &[u8], bytes: &[u8]) -> Result<(), Failure> {
         let alloc = self.rt.alloc();
         let Ok(name) = str::from_utf8(name) else {
             return Err(Failure::of(alloc, Fault::File, self.path));
         };
-        if self.lock.is_none() {
-            self.begin()?;
-        }
         let path = self.path_of(name)?;
         let new_path = beside(alloc, path.as_str(), ".new")?;
         if let Err(why) = self.renew(path.as_str(), new_path.as_str(), bytes) {
@@ -104,12 +111,12 @@ where
     }
 
     // Makes the folder, where there is none, and waits for its lock.
-    fn begin(&mut self) -> Result<(), Failure> {
+    fn locked<E: Write>(&mut self, advice: &mut Advice<'_, E>) -> Result<(), Failure> {
         let (rt, path) = (self.rt, self.path);
         if let Err(error) = fs::create_dir_all(rt, path) {
             return Err(Failure::of(rt.alloc(), Fault::File, path).because(error));
         }
-        let mut waiting = Telling::new(rt, path, self.advice);
+        let mut waiting = Telling::new(rt, path, advice);
         match Lock::take(rt, self.lock_path.as_str(), None, &mut waiting) {
             Ok(lock) => self.lock = Some(lock),
             Err(why) => return Err(unlocked(rt.alloc(), path, &self.lock_path, why)),

@@ -3,7 +3,7 @@
 //! Some commands take hours or weeks. A terminal shows how far they are, and they keep in a file what they have done, so that
 //! a stop costs little of it.
 //!
-//! - `ProgressLine` is the line on a terminal.
+//! - `ProgressLine` is the line on a terminal, which says also how fast a search goes on and how long it may take.
 //! - `TurnSaver` saves the state while `extend` and `survey` give games their turns.
 //! - `search_saved` does a `WindowSearch` that is saved in a file, and goes on from there.
 //! - `say_what_became` says whether the blocks and claims that are new in a `Changed` state are proved, refuted or pending, and
@@ -11,6 +11,8 @@
 //!   records hold.
 #![tactic(auto)]
 
+mod count;
+mod line_text;
 mod pause;
 mod progress_line;
 mod saved_search;

@@ -125,6 +125,7 @@ where
         lines: &[u8],
         progress: &mut ProgressLine<'b, R, E>,
     ) -> Result<(), Unkept> {
+        progress.end_turn();
         let is_due = self.turn.is_due(self.rt) || self.pause.is_due(self.rt);
         self.turn.begin(self.rt);
         if !is_due {
