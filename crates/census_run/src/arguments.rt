@@ -1,6 +1,7 @@
 //! The program over the words that it was called with.
 
 use crate::program::{report, run_watched};
+use crate::readers::Readers;
 use census_core::Fault;
 use census_failure::{Audience, Failure};
 use std::alloc::Global;
@@ -15,9 +16,12 @@ use std::time::Clock;
 // The variable of the environment that is `1` where advice is wanted.
 const EXPLAIN: &str = "CENSUS_EXPLAIN";
 
+// The variable that is set and not empty where no colours are wanted, as https://no-color.org has it.
+const NO_COLOR: &str = "NO_COLOR";
+
 /// Does the command line that the program was called with, as `run` does its words, and says on a terminal how far it
-/// is. Advice is given there, and where the variable `CENSUS_EXPLAIN` of the environment is `1`. The fault is `Words`
-/// where one is not UTF-8.
+/// is. Advice is given there, and where the variable `CENSUS_EXPLAIN` of the environment is `1`. Colours are shown on a terminal
+/// alone, and not where the variable `NO_COLOR` is set and not empty. The fault is `Words` where a word is not UTF-8.
 pub fn run_called<R, I, O, E>(rt: &R, input: &mut I, output: &mut O, errors: &mut E) -> u8
 where
     R: Env
@@ -29,15 +33,20 @@ where
         + Clone
         + Drop,
     I: Read,
-    O: Write,
+    O: Write + IsTerminal,
     E: Write + IsTerminal,
 {
     let audience = Audience {
         is_watching: errors.is_terminal(),
+        is_printing: output.is_terminal(),
         is_asking: is_asked(rt),
     };
+    let readers = Readers {
+        audience,
+        is_plain: is_plain(rt),
+    };
     match words_of(rt) {
-        Ok(words) => run_watched(rt, &words, input, output, errors, audience),
+        Ok(words) => run_watched(rt, &words, input, output, errors, readers),
         Err(failure) => report(rt.alloc(), errors, audience, &failure),
     }
 }
@@ -46,6 +55,14 @@ where
 fn is_asked<R: Env + AllocGlobal>(rt: &R) -> bool {
     match env::var(rt, EXPLAIN) {
         Ok(value) => value.as_str() == "1",
+        Err(_) => false,
+    }
+}
+
+// Whether the environment asks for no colours.
+fn is_plain<R: Env + AllocGlobal>(rt: &R) -> bool {
+    match env::var(rt, NO_COLOR) {
+        Ok(value) => !value.is_empty(),
         Err(_) => false,
     }
 }

@@ -212,6 +212,7 @@ where
     let (name, read) = beside.read(rt, &change.request)?;
     let undone = undone_of(rt.alloc(), change, &bytes, output)?;
     let request = undone.as_ref().unwrap_or(&change.request);
+    progress.give_turns(turns_in(request));
     let mut saver = TurnSaver::new(rt, file, bytes.len(), output);
     let reply = match perform_kept(rt.alloc(), request, &bytes, &read, progress, &mut saver) {
         Ok(reply) => reply,
@@ -234,6 +235,14 @@ where
         reply,
         printed: saver.printed(),
     })
+}
+
+// How many games have their turns where the request is done.
+fn turns_in(request: &Request) -> usize {
+    match request {
+        Request::Extend { codes, .. } | Request::Survey { codes, .. } => codes.len(),
+        _ => 0,
+    }
 }
 
 // The request without the games that are done, where they are left out; it is said how many they are.

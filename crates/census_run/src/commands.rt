@@ -52,6 +52,7 @@ pub(crate) mod search;
 pub(crate) mod serve;
 pub(crate) mod show;
 pub(crate) mod site;
+pub(crate) mod sqlite;
 pub(crate) mod status;
 pub(crate) mod survey;
 pub(crate) mod sync;
@@ -144,7 +145,14 @@ fn what_is_known() -> Part {
     }
 }
 
-const PUBLISHED: &[Row] = &[bfile::ROW, plot::ROW, json::ROW, report::ROW, site::ROW];
+const PUBLISHED: &[Row] = &[
+    bfile::ROW,
+    plot::ROW,
+    json::ROW,
+    sqlite::ROW,
+    report::ROW,
+    site::ROW,
+];
 
 fn published() -> Part {
     Part {

@@ -1,7 +1,6 @@
 //! What was found on a command line.
 
-use crate::lists::{is_listed, listed};
-use census_core::{Fault, Form, Request, View};
+use census_core::{Fault, Form};
 use census_diagnosis::of_code;
 use census_failure::Failure;
 use census_files::Out;
@@ -9,8 +8,6 @@ use census_words::words::{self, Word};
 use clap::ArgMatches;
 use oct_code::Code;
 use std::alloc::Global;
-use std::io::Read;
-use std::rt::Files;
 
 /// A word of the command line.
 pub(crate) fn word<'a>(found: &ArgMatches<'a>, word: Word) -> Result<&'a str, Failure> {
@@ -111,23 +108,4 @@ pub(crate) fn form(found: &ArgMatches<'_>) -> Form {
     } else {
         Form::Lines
     }
-}
-
-/// The request for all that is known, or the one for some games alone in this view, where some are named, be it by a list.
-pub(crate) fn all_or_only<R, I>(
-    rt: &R,
-    found: &ArgMatches<'_>,
-    all: Request,
-    view: View,
-    input: &mut I,
-) -> Result<Request, Failure>
-where
-    R: Files + AllocGlobal,
-    I: Read,
-{
-    let codes = listed(rt, found, words::ONLY.name, input)?;
-    if codes.is_empty() && !is_listed(found) {
-        return Ok(all);
-    }
-    Ok(Request::Only { codes, view })
 }

@@ -5,12 +5,12 @@
 //!
 //! - `task` has the tasks, and reads them; `found` and `numbers` read words, `lists` files of codes, `endpoint` the address of a
 //!   peer, and `drawing` draws the number of an author where none is given.
-//! - `change` and `ask` do what most commands are: a request that changes a state, or that leaves it as it is. `undone` leaves
-//!   out the games that are done. `printing` has
+//! - `change` and `ask` do what most commands are: a request that changes a state, or that leaves it as it is; `viewing` shows
+//!   what a state says as it is made. `undone` leaves out the games that are done. `printing` has
 //!   what several print.
 //! - `program` does a task: `run` that of any words, and `run_called` (`arguments`) that of the words that the program was
 //!   called with.
-//! - `system` is what all of it asks of the machine.
+//! - `system` is what all of it asks of the machine, and `readers` who reads what it writes.
 //!
 //! What a command makes of the bytes of its files is `census_core`; the words of faults are `census_failure` and
 //! `census_diagnosis`, files and locks `census_files`, sessions `census_net`, what takes long `census_progress`, and what is made
@@ -29,9 +29,11 @@ mod noting;
 mod numbers;
 mod printing;
 mod program;
+mod readers;
 mod system;
 mod task;
 mod undone;
+mod viewing;
 
 pub use arguments::run_called;
 pub use program::run;

@@ -1,7 +1,7 @@
 //! Numbers among the words of a command line.
 
 use crate::found::word;
-use census_core::{Fault, check_count, number};
+use census_core::{Fault, SEARCH_LIMIT, check_count, number};
 use census_failure::{Failure, shown};
 use census_words::words::{self, Choice, Word};
 use clap::ArgMatches;
@@ -42,14 +42,20 @@ pub(crate) const HEAPS: Range = Range {
     greatest: LIMIT as u64,
 };
 
+/// How many values of a game a search may compute.
+pub(crate) const SEARCHED: Range = Range {
+    least: 1,
+    greatest: SEARCH_LIMIT,
+};
+
 /// How many sessions a hub may have at once.
 pub(crate) const SESSIONS: Range = Range {
     least: 1,
     greatest: 1_024,
 };
 
-// The heaps of a position.
-const ANY_HEAP: Range = Range {
+/// The heaps of a position.
+pub(crate) const ANY_HEAP: Range = Range {
     least: 0,
     greatest: u64::MAX,
 };
@@ -124,6 +130,22 @@ pub(crate) fn option_of(
     }
 }
 
+/// The number of an option, within the range, where the option stands.
+pub(crate) fn option_if(
+    alloc: Global,
+    found: &ArgMatches<'_>,
+    choice: Choice,
+    range: Range,
+) -> Result<Option<u64>, Failure> {
+    let Some(text) = found.get_str(choice.name) else {
+        return Ok(None);
+    };
+    match number(text, range.greatest) {
+        Some(number) if number >= range.least => Ok(Some(number)),
+        _ => Err(option_misfit(alloc, choice, text, range)),
+    }
+}
+
 /// The permissions of a socket, in octal digits; those of a command that makes none are not looked at.
 pub(crate) fn mode(alloc: Global, found: &ArgMatches<'_>) -> Result<u32, Failure> {
     let Some(text) = found.get_str(words::MODE.name) else {
@@ -169,6 +191,17 @@ pub(crate) fn value_count(
     match number(text, range.greatest) {
         Some(count) if count >= range.least => Ok(count),
         _ => Err(misfit(alloc, words::VALUES.name, text, range)),
+    }
+}
+
+/// By how many values a game is searched, where that is asked for.
+pub(crate) fn searched(alloc: Global, found: &ArgMatches<'_>) -> Result<Option<u64>, Failure> {
+    let Some(text) = found.get_str(words::SEARCHED.name) else {
+        return Ok(None);
+    };
+    match number(text, SEARCHED.greatest) {
+        Some(count) if count >= SEARCHED.least => Ok(Some(count)),
+        _ => Err(option_misfit(alloc, words::SEARCHED, text, SEARCHED)),
     }
 }
 

@@ -2,11 +2,12 @@
 
 use crate::commands::{
     check, completion, diff, digest, explain, fold, games, hub, init, left, log, manual, parts,
-    read, recheck, search, serve, site, status, sync, union,
+    plot, read, recheck, search, serve, site, sqlite, status, sync, union, value, winning_move,
 };
+use crate::readers::Readers;
 use crate::system::System;
 use crate::task::{Task, read_task};
-use crate::{ask, change};
+use crate::{ask, change, viewing};
 use census_core::Fault;
 use census_failure::{Advice, Audience, Failure, INPUT_NAME, OUTPUT_NAME, escaped_lines};
 use census_files::Noted;
@@ -44,9 +45,14 @@ where
 {
     let audience = Audience {
         is_watching: false,
+        is_printing: false,
         is_asking: false,
     };
-    run_watched(rt, words, input, output, errors, audience)
+    let readers = Readers {
+        audience,
+        is_plain: true,
+    };
+    run_watched(rt, words, input, output, errors, readers)
 }
 
 /// Does the same, and where somebody watches the third stream, it says there how far it is; there, and where it is
@@ -57,7 +63,7 @@ pub(crate) fn run_watched<R, S, I, O, E>(
     input: &mut I,
     output: &mut O,
     errors: &mut E,
-    audience: Audience,
+    readers: Readers,
 ) -> u8
 where
     R: System + RandomSource,
@@ -76,11 +82,15 @@ where
     match command.try_get_matches_from(words) {
         Ok(matches) => {
             let audience = Audience {
-                is_asking: audience.is_asking || is_explained(&matches),
-                ..audience
+                is_asking: readers.audience.is_asking || is_explained(&matches),
+                ..readers.audience
+            };
+            let readers = Readers {
+                audience,
+                ..readers
             };
             let (mut input, mut output) = (Noted::new(input), Noted::new(output));
-            match attempted(rt, &matches, &mut input, &mut output, errors, audience) {
+            match attempted(rt, &matches, &mut input, &mut output, errors, readers) {
                 Ok(status) => status,
                 Err(failure) => {
                     let failure = of_streams(alloc, failure, input.error(), output.error());
@@ -170,7 +180,7 @@ fn attempted<R, I, O, E>(
     input: &mut I,
     output: &mut O,
     errors: &mut E,
-    audience: Audience,
+    readers: Readers,
 ) -> Result<u8, Failure>
 where
     R: System + RandomSource,
@@ -179,7 +189,7 @@ where
     E: Write,
 {
     let task = read_task(rt, matches, input)?;
-    done(rt, &task, input, output, errors, audience)
+    done(rt, &task, input, output, errors, readers)
 }
 
 // Does the task, and gives the exit status: 0, or 1 where a file was checked and is not right.
@@ -189,7 +199,7 @@ fn done<R, I, O, E>(
     input: &mut I,
     output: &mut O,
     errors: &mut E,
-    audience: Audience,
+    readers: Readers,
 ) -> Result<u8, Failure>
 where
     R: System,
@@ -197,9 +207,17 @@ where
     O: Write,
     E: Write,
 {
+    let audience = readers.audience;
     match task {
         Task::Fold => fold::run(rt.alloc(), input, output, errors)?,
-        Task::Read { files } => read::run(rt, files, output)?,
+        Task::Read { files } => {
+            let mut progress = ProgressLine::new(rt, errors, audience.beside_output());
+            read::run(rt, files, output, &mut progress)?;
+        }
+        Task::View(viewed) => {
+            let mut progress = ProgressLine::new(rt, errors, audience.beside_output());
+            viewing::run(rt, viewed, output, &mut progress)?;
+        }
         Task::Log { files, wanted } => log::run(rt, files, wanted, output)?,
         Task::Diff(asked) => return diff::run(rt, asked, input, output),
         Task::Left(asked) => left::run(rt, asked, input, output)?,
@@ -208,7 +226,10 @@ where
             let mut progress = ProgressLine::new(rt, errors, audience);
             search::run(rt, asked, output, &mut progress)?;
         }
-        Task::Recheck(asked) => return recheck::run(rt, asked, output),
+        Task::Recheck(asked) => {
+            let mut progress = ProgressLine::new(rt, errors, audience);
+            return recheck::run(rt, asked, output, &mut progress);
+        }
         Task::List { count, code } => {
             let mut progress = ProgressLine::new(rt, errors, audience);
             search::list(rt, *code, *count, output, &mut progress)?;
@@ -226,7 +247,16 @@ where
             change::run(rt, change, input, output, &mut progress)?;
         }
         Task::Ask(ask) => ask::run(rt, ask, output, &mut Advice::new(errors, audience))?,
-        Task::Games(asked) => games::run(rt, asked, output)?,
+        Task::Value(asked) => {
+            let mut progress = ProgressLine::new(rt, errors, audience);
+            value::run(rt, asked, output, &mut progress)?;
+        }
+        Task::Move(asked) => winning_move::run(rt, asked, output)?,
+        Task::Draw(asked) => plot::run(rt, asked, output)?,
+        Task::Games(asked) => {
+            let mut progress = ProgressLine::new(rt, errors, audience.beside_output());
+            games::run(rt, asked, readers, output, &mut progress)?;
+        }
         Task::Union { out, deltas } => {
             let mut advice = Advice::new(errors, audience);
             union::run(rt, *out, deltas, input, output, &mut advice)?;
@@ -236,10 +266,14 @@ where
             folder,
             page,
         } => {
-            let mut advice = Advice::new(errors, audience);
-            site::run(rt, state, folder, *page, &mut advice)?;
+            let mut progress = ProgressLine::new(rt, errors, audience);
+            site::run(rt, state, folder, *page, &mut progress)?;
         }
-        Task::Digest { files, form } => digest::run(rt, files, *form, output)?,
+        Task::Sqlite { state } => sqlite::run(rt, state, output)?,
+        Task::Digest { files, form } => {
+            let mut progress = ProgressLine::new(rt, errors, audience.beside_output());
+            digest::run(rt, files, *form, output, &mut progress)?;
+        }
         Task::Serve { meeting, is_quiet } => {
             let mut advice = Advice::new(errors, audience);
             serve::run(rt, *meeting, *is_quiet, input, output, &mut advice)?;

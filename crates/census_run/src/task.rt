@@ -5,10 +5,14 @@ use crate::change::Change;
 use crate::commands::diff::Compared;
 use crate::commands::games::Asked;
 use crate::commands::left::Left;
+use crate::commands::plot::Drawn;
 use crate::commands::recheck::Recheck;
 use crate::commands::search::Search;
+use crate::commands::value::Placed;
+use crate::commands::winning_move::Played;
 use crate::commands::{self, parts};
 use crate::endpoint::Meeting;
+use crate::viewing::Viewed;
 use census_core::{Fault, Form, Wanted};
 use census_failure::{Failure, Reason};
 use census_files::Out;
@@ -78,6 +82,14 @@ pub(crate) enum Task<'a> {
     Change(Change<'a>),
     /// A command that reads a state file.
     Ask(Ask<'a>),
+    /// The value of a position, by a state file or else by a search.
+    Value(Placed<'a>),
+    /// A winning move of a position, by a state file or else by the first values of the game.
+    Move(Played<'a>),
+    /// What a state file says, in a view.
+    View(Viewed<'a>),
+    /// The picture of some heaps of a game of a state file.
+    Draw(Drawn<'a>),
     /// What is listed of games of a state file.
     Games(Asked<'a>),
     /// The union of delta files as one.
@@ -90,6 +102,10 @@ pub(crate) enum Task<'a> {
         state: &'a str,
         folder: &'a str,
         page: Option<&'a str>,
+    },
+    /// The script that makes a database of a state file.
+    Sqlite {
+        state: &'a str,
     },
     /// The digest of each file.
     Digest {
@@ -182,6 +198,7 @@ where
         "bfile" => commands::bfile::task(alloc, found),
         "plot" => commands::plot::task(alloc, found),
         "json" => commands::json::task(rt, found, input),
+        "sqlite" => commands::sqlite::task(found),
         "report" => commands::report::task(rt, found, input),
         "site" => commands::site::task(found),
         "delta" => commands::delta::task(rt, found, input),

@@ -463,6 +463,30 @@ pub const KNOWN_BELOW: Choice = Choice {
     default: None,
 };
 
+/// By how many values a game is searched for a value that its state does not give.
+pub const SEARCHED: Choice = Choice {
+    name: "search",
+    takes: Takes::One("COUNT"),
+    meaning: "Where a heap is not known, searches the game by COUNT values at most, 1 to 4294967296",
+    default: None,
+};
+
+/// The first heap of a picture.
+pub const FIRST_HEAP: Choice = Choice {
+    name: "from",
+    takes: Takes::One("HEAP"),
+    meaning: "Begins with this heap, whose value has to be known, and not with heap 0",
+    default: None,
+};
+
+/// The last heap of a picture.
+pub const LAST_HEAP: Choice = Choice {
+    name: "to",
+    takes: Takes::One("HEAP"),
+    meaning: "Ends with this heap, or with the last known one, and not with the second run of the period",
+    default: None,
+};
+
 /// Whether games are told of as comma-separated values.
 pub const AS_CSV: Choice = Choice {
     name: "csv",
@@ -477,6 +501,14 @@ pub const AS_LATEX: Choice = Choice {
     takes: Takes::Nothing,
     meaning: "Prints codes, known heaps, periods and starts as a table of LaTeX",
     default: None,
+};
+
+/// When what is told of games has colours.
+pub const COLOR: Choice = Choice {
+    name: "color",
+    takes: Takes::One("WHEN"),
+    meaning: "Shows refuted counts red and periods green: always, never, or auto, on a terminal alone",
+    default: Some("auto"),
 };
 
 /// The dots up to which operations are known.

@@ -6,6 +6,7 @@ use census_core::{Fault, Form, digest};
 use census_diagnosis::{Given, of_either};
 use census_failure::{Failure, escaped};
 use census_files::read_file;
+use census_progress::ProgressLine;
 use census_words::{Row, words};
 use clap::ArgMatches;
 use serde_json::json;
@@ -13,6 +14,7 @@ use std::alloc::Global;
 use std::io::Write;
 use std::rt::Files;
 use std::str;
+use std::time::Clock;
 use written::write_out;
 
 /// Its row in the table.
@@ -26,7 +28,8 @@ pub(crate) const ROW: Row = Row {
 A line for each file has 64 hexadecimal digits, two spaces and the name. Files have the same digits
 where they hold the same operations, be they states, whoever their authors are, or deltas. The digits
 are the SHA-256 of the file that `census delta` writes. With --json a line is an object of `digest` and
-`file`. The first file that is refused ends it; the lines before it stand.
+`file`. The first file that is refused ends it; the lines before it stand. On a terminal a line on
+standard error says after a second which file it is, where what is printed goes elsewhere.
 
 Exit status: 0 done, 1 refused: Load (a state), Merge (a file is neither), TooMany; 2 command line,
 3 file, 4 memory
@@ -45,20 +48,39 @@ pub(crate) fn task<'a>(alloc: Global, found: &ArgMatches<'a>) -> Result<Task<'a>
 
 /// Prints the digest of each file before it goes on to the next. The fault is that of the first file that is refused, and
 /// `Write`.
-pub(crate) fn run<R, O>(rt: &R, files: &[&str], form: Form, output: &mut O) -> Result<(), Failure>
+pub(crate) fn run<R, O, E>(
+    rt: &R,
+    files: &[&str],
+    form: Form,
+    output: &mut O,
+    progress: &mut ProgressLine<'_, R, E>,
+) -> Result<(), Failure>
 where
-    R: Files + AllocGlobal,
+    R: Files + AllocGlobal + Clock,
     O: Write,
+    E: Write,
 {
-    for path in files {
-        let bytes = read_file(rt, path)?;
-        let digits = match digest(rt.alloc(), &bytes) {
-            Ok(digits) => digits,
-            Err(fault) => return Err(of_either(rt.alloc(), fault, Given::new(path, &bytes))),
-        };
-        write_out(output, &told(rt.alloc(), &digits, path, form)?)?;
+    for (index, path) in files.iter().enumerate() {
+        progress.tell_file(index + 1, files.len());
+        match digested(rt, path, form) {
+            Ok(line) => write_out(output, &line)?,
+            Err(failure) => {
+                progress.clear();
+                return Err(failure);
+            }
+        }
     }
+    progress.clear();
     Ok(())
+}
+
+// The line of a file's digest.
+fn digested<R: Files + AllocGlobal>(rt: &R, path: &str, form: Form) -> Result<Vec<u8>, Failure> {
+    let bytes = read_file(rt, path)?;
+    match digest(rt.alloc(), &bytes) {
+        Ok(digits) => told(rt.alloc(), &digits, path, form),
+        Err(fault) => Err(of_either(rt.alloc(), fault, Given::new(path, &bytes))),
+    }
 }
 
 // The line of a file's digest and its name.

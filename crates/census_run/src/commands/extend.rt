@@ -22,7 +22,8 @@ pub(crate) const ROW: Row = Row {
 COUNT is how many values of a game are to be known in all; what is known already counts. For each
 game in turn blocks of at most 1024 values are issued, as compute does it. A line for each game says
 how many values are known then, and how many blocks were issued: none where COUNT values were known.
-On a terminal a line on standard error says how far it is.
+On a terminal a line on standard error says how far it is, which of several games has its turn, and how
+long all may take.
 
 The games are those of the words CODE, and then those of --codes FILE, which has one or more codes a
 line, with spaces or tabs between, or none; what stands behind a # is passed over. With --part I/N

@@ -3,17 +3,21 @@
 use crate::found::word;
 use crate::lists::{is_listed, listed};
 use crate::numbers::{FROM_1, option_of};
+use crate::readers::Readers;
 use crate::task::Task;
 use census_core::{Condition, Fault, Form, Listing, list_games};
 use census_diagnosis::{Given, of_games};
-use census_failure::Failure;
+use census_failure::{Failure, shown};
 use census_files::read_state;
+use census_progress::ProgressLine;
+use census_table::{Look, When};
 use census_words::words::Choice;
 use census_words::{Row, words};
 use clap::ArgMatches;
-use std::alloc::Global;
+use std::alloc::{AllocError, Global};
 use std::io::{Read, Write};
 use std::rt::Files;
+use std::time::Clock;
 use written::write_out;
 
 /// Its row in the table.
@@ -31,6 +35,7 @@ pub(crate) const ROW: Row = Row {
         words::EACH_JSON,
         words::AS_CSV,
         words::AS_LATEX,
+        words::COLOR,
     ],
     line: "A line for each game, or for each refuted claim",
     about: "Says of each game how much is known, which period is proved, and what became of its claims",
@@ -40,6 +45,9 @@ from which on it is so proved, and how many blocks and period claims are proved,
 A period that no claim says with this start is `unclaimed`: census period or survey claims it. Where
 games are named, these have a line, in the order in which they are named, be anything known of them or
 not: the words CODE, and then those of --codes FILE, or of all these the part --part I/N.
+
+What is refuted and withdrawn by who said it is counted apart, as `withdrawn`. A line more for each
+period above 65,536 that a note says of a game begins with the code and `said:`; it is not proved.
 
 --period P, --no-period, --unclaimed and --known-below N leave games out, and together they leave out
 what one of them does. --no-period goes with neither --period nor --unclaimed.
@@ -66,6 +74,7 @@ pub(crate) struct Asked<'a> {
     codes: Vec<Vec<u8>>,
     which: Vec<Condition>,
     listing: Listing,
+    colored: When,
 }
 
 /// What its words ask for.
@@ -90,7 +99,23 @@ where
         codes,
         which,
         listing,
+        colored: colored(rt.alloc(), found)?,
     }))
+}
+
+// When colours are shown.
+fn colored(alloc: Global, found: &ArgMatches<'_>) -> Result<When, Failure> {
+    match found.get_str(words::COLOR.name) {
+        Some("always") => Ok(When::Always),
+        Some("never") => Ok(When::Never),
+        Some("auto") | None => Ok(When::Auto),
+        Some(other) => Err(Failure::from(Fault::Words).found(color_text(alloc, other))),
+    }
+}
+
+fn color_text(alloc: Global, word: &str) -> Result<String, AllocError> {
+    let word = shown(alloc, word)?;
+    format!(in alloc; "--color must be always, never or auto, and is {word}")
 }
 
 // What is listed.
@@ -159,24 +184,49 @@ fn apart(alloc: Global, text: &'static str) -> Failure {
     Failure::from(Fault::Words).found(String::from_str(alloc, text))
 }
 
-/// Prints what is asked of a state file.
-pub(crate) fn run<R, O>(rt: &R, asked: &Asked<'_>, output: &mut O) -> Result<(), Failure>
+/// Prints what is asked of a state file: the lines of games in columns, where they are read on a terminal or have colours.
+pub(crate) fn run<R, O, E>(
+    rt: &R,
+    asked: &Asked<'_>,
+    readers: Readers,
+    output: &mut O,
+    progress: &mut ProgressLine<'_, R, E>,
+) -> Result<(), Failure>
 where
-    R: Files + AllocGlobal,
+    R: Files + AllocGlobal + Clock,
     O: Write,
+    E: Write,
 {
+    let alloc = rt.alloc();
     let bytes = read_state(rt, asked.state)?;
-    match list_games(
-        rt.alloc(),
-        &bytes,
-        &asked.codes,
-        &asked.which,
-        asked.listing,
-    ) {
-        Ok(reply) => Ok(write_out(output, &reply.text)?),
+    let Asked {
+        codes,
+        which,
+        listing,
+        ..
+    } = asked;
+    let listed = list_games(alloc, &bytes, codes, which, *listing, progress);
+    progress.clear();
+    match listed {
+        Ok(reply) => {
+            let text = look_of(asked, readers).show(alloc, reply.text)?;
+            Ok(write_out(output, &text)?)
+        }
         Err(fault) => {
             let state = Given::new(asked.state, &bytes);
-            Err(of_games(rt.alloc(), fault, &asked.codes, state))
+            Err(of_games(alloc, fault, codes, state))
         }
+    }
+}
+
+// How the lines are shown: those of games alone have columns.
+fn look_of(asked: &Asked<'_>, readers: Readers) -> Look {
+    match asked.listing {
+        Listing::Games(Form::Lines) => Look::of(
+            asked.colored,
+            readers.audience.is_printing,
+            readers.is_plain,
+        ),
+        _ => Look::Bare,
     }
 }

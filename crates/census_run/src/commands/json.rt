@@ -1,9 +1,8 @@
 //! `census json`: all that is known, for scripts.
 
-use crate::ask::asking;
-use crate::found::all_or_only;
 use crate::task::Task;
-use census_core::{Request, View};
+use crate::viewing::viewing;
+use census_core::View;
 use census_failure::Failure;
 use census_words::{Row, words};
 use clap::ArgMatches;
@@ -20,7 +19,7 @@ pub(crate) const ROW: Row = Row {
     after: "\
 It has the keys authors, census (the edition of the catalogue), forks, games and notes;
 docs/FORMATS.md says what stands under each. With --only or --codes it has the blocks and claims of
-the games that are named, and nothing else.
+the games that are named, and the authors of the whole state; the notes are left out.
 
 Exit status: 0 done, 1 refused: Load (the state), Code; 2 command line, 3 file, 4 memory
 
@@ -38,6 +37,5 @@ where
     R: Files + AllocGlobal,
     I: Read,
 {
-    let request = all_or_only(rt, found, Request::Json, View::Json, input)?;
-    asking(found, None, request)
+    viewing(rt, found, View::Json, input)
 }

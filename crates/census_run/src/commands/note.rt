@@ -17,11 +17,15 @@ pub(crate) const ROW: Row = Row {
     line: "Issues a note",
     about: "Issues a note, and prints its author and number",
     after: "\
+A note of the name author-name is the name of its author, and one of the name withdrawn whose text is
+the number of a block or claim of the same author, as 2.1, marks this as withdrawn.
+
 Exit status: 0 done, 1 refused: Load (the state), Note, Issue, TooMany; 2 command line, 3 file,
 4 memory
 
-Example:
-  census note anna.state kayles 'period 12 from heap 71'",
+Examples:
+  census note anna.state kayles 'period 12 from heap 71'
+  census note ben.state withdrawn 2.1",
 };
 
 /// What its words ask for.

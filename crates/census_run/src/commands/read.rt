@@ -2,17 +2,19 @@
 
 use crate::found::repeated;
 use crate::task::Task;
+use crate::viewing::flushed;
 use census_core::{Fault, read_together};
 use census_diagnosis::{Given, of_either};
 use census_failure::Failure;
 use census_files::read_file;
+use census_progress::ProgressLine;
 use census_words::{Row, words};
 use clap::ArgMatches;
 use oct_delta::read_ops;
 use std::alloc::Global;
 use std::io::Write;
 use std::rt::Files;
-use written::write_out;
+use std::time::Clock;
 
 /// Its row in the table.
 pub(crate) const ROW: Row = Row {
@@ -40,14 +42,23 @@ pub(crate) fn task<'a>(alloc: Global, found: &ArgMatches<'a>) -> Result<Task<'a>
 }
 
 /// Prints the catalogue of what files hold together.
-pub(crate) fn run<R, O>(rt: &R, paths: &[&str], output: &mut O) -> Result<(), Failure>
+pub(crate) fn run<R, O, E>(
+    rt: &R,
+    paths: &[&str],
+    output: &mut O,
+    progress: &mut ProgressLine<'_, R, E>,
+) -> Result<(), Failure>
 where
-    R: Files + AllocGlobal,
+    R: Files + AllocGlobal + Clock,
     O: Write,
+    E: Write,
 {
     let files = read_files(rt, paths)?;
-    match read_together(rt.alloc(), &files) {
-        Ok(text) => Ok(write_out(output, &text)?),
+    let done = read_together(rt.alloc(), &files, progress, output);
+    progress.clear();
+    match done {
+        Ok(()) => flushed(output),
+        Err(fault @ (Fault::Write | Fault::OutOfMemory)) => Err(Failure::from(fault)),
         Err(fault) => Err(of_files(rt.alloc(), fault, paths, &files)),
     }
 }

@@ -1,19 +1,21 @@
 //! `census recheck`: the long periods that notes say, searched again.
 
 use crate::found::{copies, games, word};
+use crate::system::System;
 use crate::task::Task;
-use census_core::Fault;
+use census_core::{Fault, Progress};
 use census_diagnosis::{Given, of_games};
 use census_failure::Failure;
 use census_files::read_state;
-use census_noted::{PeriodNote, Rechecked, period_notes, recheck};
+use census_noted::{Rechecked, period_notes, recheck};
+use census_progress::ProgressLine;
 use census_words::{Row, words};
 use clap::ArgMatches;
 use oct_code::Code;
 use oct_record::Record;
+use oct_said::PeriodNote;
 use std::alloc::Global;
 use std::io::Write;
-use std::rt::Files;
 use written::write_out;
 
 /// Its row in the table.
@@ -32,7 +34,8 @@ is searched again by as many values as its line needs: 2E + 2P + k, k the number
 A line says of it `is so`, and then it holds for all heaps; or which period was found, and not that
 one; or that there is no period in so many values. A note that says no period is named, and so is one
 that needs more than 4294967296 values, which is not searched. Where codes are named, the notes of
-these games alone are read. The state stays as it is.
+these games alone are read. The state stays as it is. On a terminal a line on standard error says how
+far a search is, how fast it goes on, and how long it may take.
 
 Exit status: 0 each note is so, 1 one is not, or refused: Load (the state), Code, PastValue (a value is
 above 65535); 2 command line, 3 file, 4 memory
@@ -57,10 +60,16 @@ pub(crate) fn task<'a>(alloc: Global, found: &ArgMatches<'a>) -> Result<Task<'a>
 }
 
 /// Rechecks the notes, and prints the line of each before it goes on to the next. The status is 0 where each is so, and else 1.
-pub(crate) fn run<R, O>(rt: &R, asked: &Recheck<'_>, output: &mut O) -> Result<u8, Failure>
+pub(crate) fn run<R, O, E>(
+    rt: &R,
+    asked: &Recheck<'_>,
+    output: &mut O,
+    progress: &mut ProgressLine<'_, R, E>,
+) -> Result<u8, Failure>
 where
-    R: Files + AllocGlobal,
+    R: System,
     O: Write,
+    E: Write,
 {
     let alloc = rt.alloc();
     let bytes = read_state(rt, asked.state)?;
@@ -74,7 +83,9 @@ where
     let mut status = 0;
     for note in &notes {
         if asked.codes.is_empty() || asked.codes.contains(&note.code) {
-            let done = rechecked(alloc, note)?;
+            let done = rechecked(alloc, note, progress);
+            progress.clear();
+            let done = done?;
             write_out(output, &done.line)?;
             if !done.is_so {
                 status = 1;
@@ -90,6 +101,10 @@ fn notes_in(alloc: Global, state: &[u8]) -> Result<Vec<PeriodNote>, Fault> {
 }
 
 // What a search says of a note.
-fn rechecked(alloc: Global, note: &PeriodNote) -> Result<Rechecked<Global>, Fault> {
-    Ok(recheck(alloc, note)?)
+fn rechecked<P: Progress>(
+    alloc: Global,
+    note: &PeriodNote,
+    progress: &mut P,
+) -> Result<Rechecked<Global>, Fault> {
+    Ok(recheck(alloc, note, progress)?)
 }

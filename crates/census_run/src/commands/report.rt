@@ -1,9 +1,8 @@
 //! `census report`: all that is known, as one page of HTML.
 
-use crate::ask::asking;
-use crate::found::all_or_only;
 use crate::task::Task;
-use census_core::{Fault, Request, View};
+use crate::viewing::viewing;
+use census_core::{Fault, View};
 use census_failure::Failure;
 use census_words::{Row, words};
 use clap::ArgMatches;
@@ -23,7 +22,8 @@ Tables of all games come first, then notes, forks and authors, then each game wi
 picture of the first of them, its blocks and its period claims. Where a period is proved, the values
 up to the end of its second run are shown, which go on so for ever; else the first 1,000 and the last
 100, unless all are asked for. The page has no script, and names nothing outside it. With --only or
---codes it has the blocks and claims of the games that are named, and nothing else.
+--codes it has the blocks and claims of the games that are named, and the authors of the whole
+state; the notes are left out.
 
 Exit status: 0 done, 1 refused: Load (the state), Code; 2 command line, 3 file, 4 memory
 
@@ -46,7 +46,5 @@ where
         Some("all") => Shown::All,
         _ => return Err(Failure::from(Fault::Words)),
     };
-    let all = Request::Report { shown };
-    let request = all_or_only(rt, found, all, View::Report(shown), input)?;
-    asking(found, None, request)
+    viewing(rt, found, View::Report(shown), input)
 }

@@ -3,11 +3,11 @@
 use crate::found::{copies, game, games};
 use crate::lists::{is_listed, listed};
 use crate::noting::{check_state, note_found};
-use crate::numbers::{Range, heaps, value_count};
+use crate::numbers::{Range, SEARCHED, heaps, value_count};
 use crate::system::System;
 use crate::task::Task;
 use census_core::{
-    Fault, Forgetful, Form, Progress, SEARCH_LIMIT, WINDOW_LIMIT, first_values, number, search,
+    Fault, Forgetful, Form, Progress, WINDOW_LIMIT, first_values, number, search,
     search_in_windows, write_values,
 };
 use census_failure::{Advice, Failure};
@@ -69,7 +69,8 @@ census recheck searches again for what such notes say. --note takes no --json.
 The games are named as for extend; those of --bfile and --save are one word CODE.
 
 No state is needed. A value takes a byte of memory while none is above 255, and two from then on, and
-up to a third more while the list grows. On a terminal a line on standard error says how far it is.
+up to a third more while the list grows. On a terminal a line on standard error says how far it is, how
+fast it goes on, and how long it may take at that pace.
 All codes are read before the first value is computed; after a later fault the lines of the games
 before it stand.
 
@@ -99,12 +100,7 @@ pub(crate) struct Search<'a> {
     pub(crate) note: Option<&'a str>,
 }
 
-// How many values are computed at most.
-const SEARCHED: Range = Range {
-    least: 1,
-    greatest: SEARCH_LIMIT,
-};
-
+// How many values are computed at most, where few are kept.
 const WINDOWED: Range = Range {
     least: 1,
     greatest: WINDOW_LIMIT,

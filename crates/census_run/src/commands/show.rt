@@ -1,9 +1,8 @@
 //! `census show`: the catalogue.
 
-use crate::ask::asking;
-use crate::found::all_or_only;
 use crate::task::Task;
-use census_core::{Request, View};
+use crate::viewing::viewing;
+use census_core::View;
 use census_failure::Failure;
 use census_words::{Row, words};
 use clap::ArgMatches;
@@ -18,8 +17,8 @@ pub(crate) const ROW: Row = Row {
     line: "The catalogue: all that follows from the state's operations",
     about: "Prints the catalogue",
     after: "\
-With --only or --codes the catalogue has the blocks and claims of the games that are named, and
-nothing else.
+With --only or --codes the catalogue has the blocks and claims of the games that are named, and the
+authors of the whole state; the notes are left out.
 
 Exit status: 0 done, 1 refused: Load (the state), Code; 2 command line, 3 file, 4 memory
 
@@ -38,6 +37,5 @@ where
     R: Files + AllocGlobal,
     I: Read,
 {
-    let request = all_or_only(rt, found, Request::Show, View::Catalogue, input)?;
-    asking(found, None, request)
+    viewing(rt, found, View::Catalogue, input)
 }

@@ -2,13 +2,14 @@
 
 use crate::found::word;
 use crate::task::Task;
-use census_core::{Beside, Fault, Folder, write_site};
+use census_core::{Beside, Fault, Folder, GameProgress, write_site};
 use census_diagnosis::{Given, of_state};
-use census_failure::{Advice, Failure};
+use census_failure::Failure;
 use census_files::{PageFile, SiteFolder, read_page, read_state};
+use census_progress::ProgressLine;
 use census_words::{Row, words};
 use clap::ArgMatches;
-use std::alloc::Global;
+use oct_code::Code;
 use std::fs::File;
 use std::io::Write;
 use std::rt::Files;
@@ -59,7 +60,7 @@ pub(crate) fn run<R, E>(
     state: &str,
     path: &str,
     page: Option<&str>,
-    advice: &mut Advice<'_, E>,
+    progress: &mut ProgressLine<'_, R, E>,
 ) -> Result<(), Failure>
 where
     R: Files<File = File> + AllocGlobal + Clock + Clone + Drop,
@@ -70,7 +71,7 @@ where
         Some(folder) => read_page(rt, folder)?,
         None => Vec::new(rt.alloc()),
     };
-    let Err(failure) = filled(rt, &bytes, &page, path, advice) else {
+    let Err(failure) = filled(rt, &bytes, &page, path, progress) else {
         return Ok(());
     };
     match failure.fault {
@@ -85,19 +86,21 @@ fn filled<'a, R, E>(
     bytes: &[u8],
     page: &[PageFile],
     path: &'a str,
-    advice: &'a mut Advice<'_, E>,
+    progress: &'a mut ProgressLine<'_, R, E>,
 ) -> Result<(), Failure>
 where
     R: Files<File = File> + AllocGlobal + Clock + Clone + Drop,
     E: Write,
 {
-    let mut site = LockedFolder {
-        folder: SiteFolder::open(rt, path, advice)?,
+    let mut site = WatchedFolder {
+        folder: SiteFolder::open(rt, path)?,
+        progress,
     };
     let put = match write_site(rt.alloc(), bytes, beside(page), &mut site) {
         Ok(()) => put_page(page, &mut site.folder),
         Err(fault) => Err(fault),
     };
+    site.progress.clear();
     site.folder.close(put)
 }
 
@@ -111,10 +114,9 @@ fn beside(page: &[PageFile]) -> Beside {
 }
 
 // Puts the files of the page there.
-fn put_page<R, E>(page: &[PageFile], folder: &mut SiteFolder<'_, '_, R, E>) -> Result<(), Fault>
+fn put_page<R>(page: &[PageFile], folder: &mut SiteFolder<'_, R>) -> Result<(), Fault>
 where
     R: Files<File = File> + AllocGlobal + Clock + Clone + Drop,
-    E: Write,
 {
     for file in page {
         folder.put(file.name.as_bytes(), &file.bytes)?;
@@ -122,13 +124,14 @@ where
     Ok(())
 }
 
-// A folder that no other command writes into meanwhile, as it takes the files of a site.
+// A folder that no other command writes into from its first file on, with the line that says which game is next.
 #[derive(Drop)]
-struct LockedFolder<'a, 'b, R, E> {
-    folder: SiteFolder<'a, 'b, R, E>,
+struct WatchedFolder<'a, 'b, R, E> {
+    folder: SiteFolder<'a, R>,
+    progress: &'a mut ProgressLine<'b, R, E>,
 }
 
-impl<'a, 'b, R, E> Folder for LockedFolder<'a, 'b, R, E>
+impl<'a, 'b, R, E> Folder for WatchedFolder<'a, 'b, R, E>
 where
     R: Files<File = File> + AllocGlobal + Clock + Clone + Drop,
     E: Write,
@@ -138,6 +141,13 @@ where
     ghost refuses = { λ fault. Unit {0} };
 
     fn put(&mut self, name: &[u8], bytes: &[u8]) -> Result<(), Fault> {
+        if !self.folder.is_locked() {
+            self.folder.lock(self.progress.advice())?;
+        }
         self.folder.put(name, bytes)
+    }
+
+    fn tell(&mut self, code: Code, done: u64, all: u64) {
+        GameProgress::tell(self.progress, code, done, all)
     }
 }

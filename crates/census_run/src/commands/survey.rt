@@ -22,7 +22,8 @@ pub(crate) const ROW: Row = Row {
     after: "\
 It does for each game in turn what extend does, and says what find says. A period that is found is
 claimed, unless the state has that claim. With --json it says it as `find --json` does. On a terminal
-a line on standard error says how far it is.
+a line on standard error says how far it is, which of several games has its turn, and how long all may
+take.
 The state is written on the way, as extend writes it. The games are named and left out as for extend;
 of one that is left out nothing is looked for and nothing is claimed. With --json the line that says
 how many these are is an object with the key left_out.
