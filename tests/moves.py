@@ -1,7 +1,8 @@
 #!/usr/bin/env python3
 """Plays positions of Kayles and Dawson's Kayles against the program: whether each move that it names is one by the rules, leaves
 the nim-value 0, and is there exactly where the position's nim-value is not 0. The values are computed by the rule up to the end of
-the first period, and go on with the periods of the literature (12 from 71 and 34 from 53).
+the first period, and go on with the periods of the literature (12 from 71 and 34 from 53). Moves past what a state gives are the
+first of all that win: these are tried here one after another, with values that are computed by the rule alone.
 """
 
 import functools
@@ -10,7 +11,7 @@ import operator
 import random
 import re
 
-from lib import done, folder, need, nim_values, same
+from lib import done, folder, need, nim_values, refused, same
 
 LARGEST = 2**64 - 1
 STATE = "moves.state"
@@ -86,11 +87,78 @@ def play(code):
     return count
 
 
+def moves(code, heap):
+    """The moves in a heap, by the beans removed and then by the smaller heap left: each with the heaps that are left."""
+    head, digits = code.split(".")
+    for removed, rule in enumerate(map(int, head + digits)):
+        rest = heap - removed
+        if removed and rest >= 0 and rule & (2 if rest else 1):
+            yield removed, [rest] if rest else []
+        if rule & 4:
+            yield from ((removed, [less, rest - less]) for less in range(1, rest // 2 + 1))
+
+
+def first_move(code, heaps, value):
+    """The first of all moves after which the other player loses, as it is said."""
+    total = nim_sum(heaps, value)
+    for index, beans in enumerate(heaps):
+        for removed, left in moves(code, beans):
+            if total ^ value(beans) ^ nim_sum(left, value) == 0:
+                return f"heap {index} of {beans}: remove {removed}, leave {' and '.join(map(str, left)) or 'nothing'}\n"
+    return "none: the player to move loses\n"
+
+
+def moves_searched():
+    """Moves past what a state gives: all of a game whose period is found, and those below COUNT of one that shows none there."""
+    rng = random.Random(9)
+    for code, count, largest in (("0.77", 200, 900), ("0.07", 200, 900), ("4.5", 700, 700), ("0.16", 2000, 2000), ("0.137", 600, 3000)):
+        values = nim_values(code, largest)
+        for size in (1, 2, 3, 5):
+            for _ in range(4):
+                heaps = [rng.randrange(largest) for _ in range(size)]
+                words = [STATE, code, *map(str, heaps), "--search", str(count)]
+                line = first_move(code, heaps, values.__getitem__)
+                same(f"a move by a search: {code} {heaps}", done("move", *words), line)
+                same(f"the same as JSON: {code} {heaps}", json.loads(done("move", *words, "--json")), as_object(line))
+    for heaps in ([LARGEST], [10**18 + 3, 5, 10**12], [LARGEST, LARGEST], [7] * 4):
+        words = [STATE, "0.77", *map(str, heaps)]
+        removals, start, period = GAMES["0.77"]
+        values = nim_values("0.77", start + period)
+        answer = done("move", *words, "--search", "168")
+        need(is_right(answer, heaps, removals, lambda heap: value_of(heap, values, start, period)), f"{heaps}: {answer!r}")
+    same("one value fewer proves no period", done("move", STATE, "0.77", "9", str(LARGEST), "--search", "167"), "unknown at 1\n")
+    same("a search that ends before a heap", done("move", STATE, "0.16", "9", "2000", "--search", "2000"), "unknown at 1\n")
+    same("the same as JSON", done("move", STATE, "0.16", "9", "2000", "--search", "2000", "--json"), '{"unknown":1}\n')
+    same("a move that the state gives", done("move", STATE, "0.77", "7", "18", "--search", "1"), done("move", STATE, "0.77", "7", "18"))
+    refused(2, "Number", "move", STATE, "0.77", "7", "--search", "0")
+    refused(2, "Number", "move", STATE, "0.77", "7", "--search", "65537")
+    refused(1, "Code Digit", "move", STATE, "0.x", "7", "--search", "9")
+    refused(3, "File", "move", "missing.state", "0.77", "7", "--search", "9")
+
+
+def searched():
+    """Values past what a state gives: by a search that finds the period, and by one that ends before it."""
+    _, start, period = GAMES["0.77"]
+    values = nim_values("0.77", start + period)
+    done("compute", STATE, "0.77", "20")
+    heaps = ["5000", "3", str(LARGEST)]
+    total = nim_sum(map(int, heaps), lambda heap: value_of(heap, values, start, period))
+    line = f"value {total}\nnext player {'wins' if total else 'loses'}\n"
+    same("a value by a search", done("value", STATE, "0.77", *heaps, "--search", "1000"), line)
+    same("a value of the state", done("value", STATE, "0.77", "7", "18", "--search", "1"), f"value {values[7] ^ values[18]}\nnext player wins\n")
+    same("a search that ends before the heap", done("value", STATE, "0.77", "7", "60", "--search", "50"), "unknown at 1\n")
+    same("the same as JSON", done("value", STATE, "0.77", "7", "60", "--search", "50", "--json"), '{"unknown":1}\n')
+    refused(2, "Number", "value", STATE, "0.77", "7", "--search", "0")
+    refused(1, "Code Digit", "value", STATE, "0.x", "7", "--search", "9")
+
+
 def main():
     done("init", STATE, "1")
     same("a heap that is not known", done("move", STATE, "0.77", "0", "9"), "unknown at 1\n")
     for command in ("move", "value"):
         same(f"{command} --json of a heap that is not known", done(command, "--json", STATE, "0.77", "0", "9"), '{"unknown":1}\n')
+    searched()
+    moves_searched()
     print(f"{sum(map(play, GAMES))} positions, and each answer is right")
 
 

@@ -1,7 +1,8 @@
 #!/usr/bin/env python3
 """Makes a table with each kind of row, and compares its b-files, plots, page, site and JSON with what `show` says: each point that
 is drawn with the known values, each number and each status of the pages, that a note with the marks of a page stands there as
-text, that the name of an author stands behind each of its dots, and what `games` says in each form. Also whether each text has contrast enough to what it stands
+text, that the name of an author stands behind each of its dots, which columns the table of games has and which of its rows are marked, and what
+`games` says in each form. Also whether each text has contrast enough to what it stands
 on, whether pictures and pages are well-formed XML with no script and nothing from outside, whether each link of the site leads
 somewhere, which folders a site is not written to, that the page that computes stands beside it where it is asked for, with a link
 from each game, and, where there is a Chromium, that no part of a page is wider than the window at 360, 400, 768 and 1,280 pixels
@@ -160,6 +161,12 @@ def sentence(game):
     return f"From heap {start} on the nim-values repeat with period {period}, for ever" + (f":{words}." if period <= 40 else ".")
 
 
+def pictured(game):
+    """The game with the values of its picture alone: those up to the end of the second run, where a period is proved."""
+    period = proved(game)
+    return {**game, "values": game["values"][:period[0] + 2 * period[1]]} if period else game
+
+
 def is_plot(what, root, code, game):
     values, period = game["values"], proved(game)
     last = max(1, len(values) - 1)
@@ -272,6 +279,16 @@ def called(dot, names):
     return f"{dot} {names[author]}" if author in names else dot
 
 
+def of_claim(values, period, status):
+    """What is said of a claim of this period; where it is refuted, with both values, which differ."""
+    if status[0] != "refuted":
+        return " ".join(status).replace("pending", "pending,")
+    at, later = int(status[2]), int(status[2]) + int(period)
+    if values[at] == values[later]:
+        fail(f"a claim of the period {period} does not break at {at}")
+    return f"refuted at {at}: value {values[at]}, at {later} value {values[later]}"
+
+
 def is_game(what, root, code, game, names, brief):
     """What a page shows of a game below its picture."""
     values, period = game["values"], proved(game)
@@ -291,7 +308,7 @@ def is_game(what, root, code, game, names, brief):
     same(f"{code}: blocks", rows(root, "Blocks"), [(called(dot, names), start, count, status[0]) for dot, start, count, status in blocks])
     refuted = [(called(dot, names), status[2], status[4], status[6]) for dot, _, _, status in blocks if status[0] == "refuted"]
     same(f"{code}: refuted blocks", rows(root, "Refuted blocks"), refuted)
-    claims = [(called(dot, names), start, period, " ".join(status).replace("pending", "pending,")) for dot, start, period, status in game["periods"]]
+    claims = [(called(dot, names), start, period, of_claim(values, period, status)) for dot, start, period, status in game["periods"]]
     same(f"{code}: claims", rows(root, "Period claims"), claims)
     same(f"{code}: refuted claims", rows(root, "Refuted period claims"), [claim for claim in claims if claim[3].startswith("refuted")])
     if root.find(f".//*[@id='refuted-{code}']") is None:
@@ -307,6 +324,24 @@ def is_landmarked(what, root):
             fail(f"{what} has a head without a scope")
 
 
+HEADS = ("code", "values", "period", "start", *(f"{kind} {word}" for kind in ("blocks", "claims") for word in ("proved", "refuted", "pending")))
+ALWAYS = ("code", "values", "blocks proved")
+
+
+def is_table_of_games(what, root, summary):
+    """The table of games: its caption says how many there are, a column in which no game has anything is left out, and the row of a game
+    of which something is refuted is marked."""
+    caption = f"Games ({len(summary)})"
+    stand = [at for at, head in enumerate(HEADS) if head in ALWAYS or any(row[at] not in ("", "0") for row in summary)]
+    same(f"{what}: games", rows(root, caption), [tuple(row[at] for at in stand) for row in summary])
+    table = table_of(root, caption)
+    if table is not None:
+        same(f"{what}: columns of games", [head.text for head in table.iter(HTML + "th") if head.get("scope") == "col"], [HEADS[at] for at in stand])
+        marks = [row.get("class") for row in table.find(HTML + "tbody")]
+        same(f"{what}: games that are marked", marks, ["refuted" if row[5] != "0" or row[8] != "0" else None for row in summary])
+        same(f"{what}: regions of games", [part.get("aria-label") for part in root.iter(HTML + "div") if table in part and part.get("role")], [caption])
+
+
 def is_index(what, root, games, notes, forks, authors, names):
     summary = []
     for code, game in games.items():
@@ -314,7 +349,7 @@ def is_index(what, root, games, notes, forks, authors, names):
         statuses = [[row[-1][0] for row in game[kind]] for kind in ("blocks", "periods")]
         counts = [words.count(word) for words in statuses for word in ("proved", "refuted", "pending")]
         summary.append((code, str(len(game["values"])), *((str(period[1]), str(period[0])) if period else ("", "")), *map(str, counts)))
-    same(f"{what}: games", rows(root, "Games"), summary)
+    is_table_of_games(what, root, summary)
     same(f"{what}: refuted", rows(root, "Refuted"), [(row[0], row[5], row[8]) for row in summary if row[5] != "0" or row[8] != "0"])
     by_period = sorted((int(row[2]), int(row[3]), list(games).index(row[0])) for row in summary if row[2])
     same(f"{what}: by period", rows(root, "Games by period"), [(str(p), str(start), list(games)[at]) for p, start, at in by_period])
@@ -336,8 +371,8 @@ def is_page(text, games, notes, forks, authors, names, brief):
     same("sections", [section.get("id") for section in sections], [f"game-{code}" for code in games])
     for section, (code, game) in zip(sections, games.items()):
         same(f"{code}: heading", section.find(HTML + "h2").text, code)
-        pictured = {**game, "values": game["values"][:front(game)]} if brief else game
-        is_plot(f"{code} on the page", section.find(f"{HTML}figure/{SVG}svg"), code, pictured)
+        drawn_here = {**game, "values": game["values"][:front(game)]} if brief else game
+        is_plot(f"{code} on the page", section.find(f"{HTML}figure/{SVG}svg"), code, drawn_here)
         is_game(f"{code} on the page", section, code, game, names, brief)
 
 
@@ -377,7 +412,7 @@ def is_site(folder, state, games, notes, forks, authors, names, page=False):
         root = xml.fromstring(files[f"{code}.html"])
         same(f"{code}: heading", root.find(f".//{HTML}h1").text, code)
         (image,) = root.iter(HTML + "img")
-        same(f"{code}: words for the picture", image.get("alt"), f"{title(code, game)}. {sentence(game)}")
+        same(f"{code}: words for the picture", image.get("alt"), f"{title(code, pictured(game))}. {sentence(game)}")
         is_game(f"the page of {code}", root, code, game, names, True)
         same(f"{code}: picture", files[f"{code}.svg"], done("plot", state, code))
         same(f"{code}: b-file", files[f"{code}.txt"], done("bfile", state, code))
@@ -636,7 +671,9 @@ def is_listed(games):
         same(f"b-file of {code}", done("bfile", "pages.state", code), "".join(lines))
         root = xml.fromstring(done("plot", "pages.state", code))
         is_closed(f"the plot of {code}", root)
-        is_plot(f"the plot of {code}", root, code, game)
+        is_plot(f"the plot of {code}", root, code, pictured(game))
+        whole = xml.fromstring(done("plot", "pages.state", code, "--from", "0"))
+        is_plot(f"the plot of all of {code}", whole, code, game)
 
 
 def main():

@@ -4,8 +4,8 @@
 # short form, and a long one, which they take where the word here is --long.
 tests_of() {
   printf '%s\n' 'tests/contracts.py --check' tests/cited.py
-  printf '%s\n' tests/{session,survey,log,status,noted,left,cluster,at_once,group,stdio,sockets,hub,all,numbers,manual,released,git}.sh
-  printf '%s\n' tests/{saved,files,beside,faults,verdicts,crowd,strangers,limits,apart,hostile,resumed,moves,pages,bfiles,web,look,stopped}.py
+  printf '%s\n' tests/{session,survey,log,status,written,noted,withdrawn,left,cluster,at_once,group,stdio,sockets,hub,all,numbers,plot,manual,released,git}.sh
+  printf '%s\n' tests/{saved,files,beside,faults,verdicts,terminal,memory,crowd,strangers,limits,apart,hostile,resumed,moves,pages,sqlite,bfiles,web,look,stopped}.py
   printf '%s\n' tests/{crash,worst,search}.py"${1:+ $1}"
 }
 
