@@ -40,9 +40,9 @@ use Rattle.oct_pages.specs.Catalogue.{Text, author_line, block_line, blocks_of, 
 use Rattle.oct_replica.specs.Complete.{AuthorsAreShown, BlocksAreShown, ClaimsAreShown, ForksAreShown, GamesAreShown, HasLine, IsOpenBy, IsOutOfReach, IsProvedBy, IsUnbroken, NotesAreShown, ShowsValue}
 use Rattle.oct_replica.specs.Settled.{blocks_in, claims_in}
 use Rattle.oct_replica.specs.Shown.{Has}
-use Rattle.oct_replica.proofs.Lines.{In-arranged, In-games}
+use Rattle.oct_pages.proofs.InGames.{In-arranged, In-filter_map, In-filter_map_source, In-games}
 use Rattle.oct_ops.proofs.Members.{In, among-In, In-filter, In-filter_source, In-listed, In-map, Has-listed, any-In, any_source}
-use Rattle.oct_replica.proofs.Settled.{In-contains, In-filter_map, In-filter_map_source}
+use Rattle.oct_replica.proofs.Settled.{In-contains}
 use Rattle.oct_replica.proofs.Shown.{block_so, claim_of_op, claim_so, values_row}
 
 of_its_code : (c : Code) → code_eq c c ≡ true

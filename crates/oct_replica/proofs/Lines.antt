@@ -1,16 +1,11 @@
 -- The lines of blocks and claims that are not pending stay in the catalogue.
-use Rattle.std.proofs.Common.{◌≡◌, Bool, true, false, List, [], ◌∷◌, ◌++◌, map, Some, inr, refl, sym, ap, ◌∙◌, subst}
+use Rattle.std.proofs.Common.{◌≡◌, Bool, true, false, List, [], ◌∷◌, ◌++◌, map, Some, inr, refl, ap, subst}
 use Rattle.std.specs.List.{filter_map, flat_map}
-use Rattle.std.specs.declared.cmp.Ordering.{Ordering}
-use Rattle.std.specs.Ordering.{eq_by_cmp, is_eq}
-use Rattle.std.specs.Cmp.{IsTotalOrder, Equal-is}
-use Rattle.std.specs.FinMap.{IsAntisymmetric}
-use Rattle.std.proofs.lemmas.Cmp.{tied_itself}
+use Rattle.std.specs.Cmp.{Equal-is}
 use Rattle.oct_code.specs.Code.{Code, code_cmp, code_eq}
-use Rattle.oct_code.specs.CodeOrder.{code_cmp_total, code_cmp_exact}
+use Rattle.oct_code.specs.CodeOrder.{code_cmp_exact}
 use Rattle.oct_mex.specs.NimValues.{nim_values}
 use Rattle.oct_code.proofs.Members as members
-use Rattle.oct_ops.specs.Arranged.{arranged}
 use Rattle.oct_ops.specs.Operation.{Dot, Block, Period}
 use Rattle.oct_ops.specs.Operations.{listed}
 use Rattle.oct_ops.specs.Sets as sets
@@ -25,16 +20,9 @@ use Rattle.oct_period.proofs.FarLaws as far
 use Rattle.oct_period.proofs.Statuses.{settled_claims_stay}
 use Rattle.oct_pages.specs.Catalogue.{Text, games, if_some, under, block_in, claim_in, blocks_of, claims_of, block_line, period_line, block_text, period_text, values_lines, game_text, heading, ending, game_lines, note_line, fork_line, author_line, lines}
 use Rattle.oct_replica.specs.Settled.{blocks_in, claims_in, BlockLinesStay, ClaimLinesStay}
-use Rattle.oct_ops.proofs.Members.{In, In-among, among-In, In-map, In-listed, Has-listed, any_source, any-In}
-use Rattle.oct_replica.proofs.Settled.{In-filter_map, In-filter_map_source, blocks_grow, claims_grow, claims_later, start_some}
-
--- a list in order has what the list has
-pub In-arranged : {K : Type 0} {R : K → K → Ordering} (total : IsTotalOrder R) (exact : IsAntisymmetric R) (xs : List K) (x : K) → In x xs → In x (arranged R xs)
-In-arranged {K} {R} total exact xs x h =
-    let has : sets.contains (sets.set_of {R = R} xs) x ≡ true = laws.contains-set_of total exact xs x ∙ any-In (eq_by_cmp R x) xs x h (ap is_eq (tied_itself total x)) in
-    let s = any_source (eq_by_cmp R x) (sets.listed (sets.set_of {R = R} xs)) (sym (laws.contains-listed (sets.set_of {R = R} xs) x) ∙ has) in
-    let same : x ≡ s.0 = exact x s.0 ((Equal-is (R x s.0)).0 s.2) in
-    subst (In x) (laws.listed-arranged total exact xs) (subst (λ y. In y (sets.listed (sets.set_of {R = R} xs))) (sym same) s.1)
+use Rattle.oct_ops.proofs.Members.{In, In-among, among-In, In-map, In-listed, Has-listed}
+use Rattle.oct_pages.proofs.InGames.{In-filter_map, In-filter_map_source, In-games}
+use Rattle.oct_replica.proofs.Settled.{blocks_grow, claims_grow, claims_later, start_some}
 
 -- ---- the game of a block and of a claim
 
@@ -56,9 +44,6 @@ claim_game c d (kind.Block x) p h = cc
 claim_game c d (kind.Period x) p h = ap Some (same_code x.code c (taken d (code_eq x.code c) x p h))
 claim_game c d (kind.Note x) p h = cc
 claim_game c d (kind.Removal x) p h = cc
-
-pub In-games : (c : Code) (ops : List Operation) (o : Operation) → In o ops → game_of o ≡ Some c → In c (games ops)
-In-games c ops o h is = In-arranged code_cmp_total code_cmp_exact (filter_map game_of ops) c (In-filter_map game_of ops o c h is)
 
 -- ---- lines
 

@@ -1,6 +1,6 @@
 -- What is proved or refuted stays so when operations are added.
-use Rattle.std.proofs.Common.{◌≡◌, ℕ, ◌≤◌, Bool, true, false, cond, ◌||◌, ◌==◌, List, [], ◌∷◌, Option, Some, None, inl, inr, refl, sym, ap, ◌∙◌, subst, arith}
-use Rattle.std.specs.List.{All, Contains, filter_map, cons_option}
+use Rattle.std.proofs.Common.{◌≡◌, ℕ, ◌≤◌, Bool, true, false, cond, ◌||◌, ◌==◌, List, [], ◌∷◌, Option, Some, None, inl, inr, sym, ap, ◌∙◌, subst, arith}
+use Rattle.std.specs.List.{All, Contains, filter_map}
 use Rattle.std.proofs.lemmas.List.Elements.{All-from_recursion}
 use Rattle.std.proofs.lemmas.Bool.{cases_eq, eq-eqb, or_left}
 use Rattle.oct_code.specs.Code.{Code, code_eq}
@@ -20,6 +20,7 @@ use Rattle.oct_period.proofs.Statuses as claims
 use Rattle.oct_pages.specs.Catalogue.{block_in, blocks_of, claim_in, claims_of, if_some, under}
 use Rattle.oct_record.specs.Valid.{AreValid}
 use Rattle.oct_replica.specs.Settled.{blocks_in, claims_in, SettledBlocksStay, SettledClaimsStay}
+use Rattle.oct_pages.proofs.InGames.{In-filter_map, In-filter_map_source}
 use Rattle.oct_ops.proofs.Members.{In, In-among, among-In, In-map, Has-listed, In-listed, all_in}
 
 -- ---- parts of lists
@@ -29,25 +30,6 @@ In-contains xs x h = In-among xs x (h.0, (h.1, sym h.2))
 
 pub contains-In : {X : Type 0} (xs : List X) (x : X) → In x xs → Contains xs x
 contains-In xs x h = let among = among-In xs x h in (among.0, among.1.0, sym among.1.1)
-
-In-cons_option : {Y : Type 0} (o : Option Y) (ys : List Y) (y : Y) → In y ys → In y (cons_option o ys)
-In-cons_option None ys y i = i
-In-cons_option (Some v) ys y i = inr i
-
-pub In-filter_map : {X Y : Type 0} (f : X → Option Y) (xs : List X) (x : X) (y : Y) → In x xs → f x ≡ Some y → In y (filter_map f xs)
-In-filter_map f [] x y h k = absurd h
-In-filter_map f (z ∷ xs) x y h k = elim h [
-  | inl e ↦ subst (λ o. In y (cons_option o (filter_map f xs))) (sym (ap f (sym e) ∙ k)) (inl refl)
-  | inr t ↦ In-cons_option (f z) (filter_map f xs) y (In-filter_map f xs x y t k)
-]
-
-pub In-filter_map_source : {X Y : Type 0} (f : X → Option Y) (xs : List X) (y : Y) → In y (filter_map f xs) → (x : X) × In x xs × (f x ≡ Some y)
-In-filter_map_source f [] y h = absurd h
-In-filter_map_source f (z ∷ xs) y h =
-    elim (f z) as (λ o. f z ≡ o → In y (cons_option o (filter_map f xs)) → (x : _) × In x (z ∷ xs) × (f x ≡ Some y)) [
-      | None ↦ λ e i. let s = In-filter_map_source f xs y i in (s.0, inr s.1, s.2)
-      | Some v ↦ λ e i. elim i [ inl same ↦ (z, inl refl, e ∙ ap Some (sym same)) | inr t ↦ let s = In-filter_map_source f xs y t in (s.0, inr s.1, s.2) ]
-    ] refl h
 
 pub blocks_grow : (c : Code) (ops more : Operations) → IsSubset ops more → AreAmong (blocks_in c ops) (blocks_in c more)
 blocks_grow c ops more sub b h =

@@ -37,7 +37,8 @@ use Rattle.oct_replica.specs.Shown as shown
 use Rattle.oct_replica.proofs.Headline.{refuted_at_first_wrong, refuted_at_first_break, proved_periods_hold}
 use Rattle.oct_replica.proofs.Lines.{same_code}
 use Rattle.oct_ops.proofs.Members.{In, In-among, among-In, Has-listed}
-use Rattle.oct_replica.proofs.Settled.{claim_is_valid, contains-In, In-filter_map_source}
+use Rattle.oct_pages.proofs.InGames.{In-filter_map_source}
+use Rattle.oct_replica.proofs.Settled.{claim_is_valid, contains-In}
 
 -- ---- what was taken from an operation
 
