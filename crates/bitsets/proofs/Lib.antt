@@ -1,0 +1,3 @@
+pub mod Bits
+mod Framing
+mod Turned

@@ -1,0 +1,217 @@
+-- Lists of steps, as they grow.
+use Rattle.std.proofs.Common.{◌≡◌, ℕ, ◌+◌, ◌<◌, ◌≤◌, ◌⊎◌, ◌++◌, ◌∷◌, [], IsTrue, Result, Ok, Err, OnOk, List, length, slice_index, slice_index_or, inl, inr, refl, sym, subst, ap, ◌∙◌, arith, length-append}
+use Rattle.std.proofs.lemmas.Bool.{cases_eq, cases_lt}
+use Rattle.std.proofs.lemmas.List.{get_or_default}
+use Rattle.std.specs.List.{Contains}
+use Rattle.oct_code.specs.Code.{Code, len, allows}
+use Rattle.oct_mex.proofs.NimValues.{get-before, get-end}
+use Rattle.oct_sets.specs.Plans.{AddsSteps, HasHeap, HasStep, HasStepIn, IsEndStep, IsFarStep, IsHeapStep, IsPairStep, IsShapedPlan, IsShapedSteps}
+use Rattle.oct_sets.specs.declared.plan.Plan.{Plan}
+use Rattle.oct_sets.specs.declared.sorted.SmallHeap.{SmallHeap}
+use Rattle.oct_sets.specs.declared.steps.Steps.{Steps}
+
+-- ---- a list with one more step
+
+module _ {A : Type 0} (old new : Steps A) (o v : ℕ) (beside : length old.values.items ≡ length old.offsets.items)
+    (offsets : new.offsets.items ≡ old.offsets.items ++ o ∷ []) (values : new.values.items ≡ old.values.items ++ v ∷ []) where
+  pub step_kept : (d x : ℕ) → HasStepIn old d x → HasStepIn new d x
+  step_kept d x h = record {
+    at = h.at;
+    within = omega (arith, h.within, ap length offsets, length-append old.offsets.items (o ∷ []));
+    offset = ap (λ xs. slice_index xs h.at) offsets ∙ get-before old.offsets.items (o ∷ []) h.at h.within ∙ h.offset;
+    value = ap (λ xs. slice_index xs h.at) values ∙ get-before old.values.items (v ∷ []) h.at (omega (arith, beside, h.within)) ∙ h.value;
+  }
+
+  pub step_has : HasStepIn new o v
+  step_has = record {
+    at = length old.offsets.items;
+    within = omega (arith, ap length offsets, length-append old.offsets.items (o ∷ []));
+    offset = ap (λ xs. slice_index xs (length old.offsets.items)) offsets ∙ get-end old.offsets.items o (length old.offsets.items) refl;
+    value = ap (λ xs. slice_index xs (length old.offsets.items)) values ∙ get-end old.values.items v (length old.offsets.items) beside;
+  }
+
+  pub step_only : (d x : ℕ) → HasStepIn new d x → HasStepIn old d x ⊎ ((d ≡ o) × (x ≡ v))
+  step_only d x h = elim (cases_lt h.at (length old.offsets.items)) [
+    | inl less ↦ inl (record {
+      at = h.at;
+      within = less;
+      offset = sym (ap (λ xs. slice_index xs h.at) offsets ∙ get-before old.offsets.items (o ∷ []) h.at less) ∙ h.offset;
+      value = sym (ap (λ xs. slice_index xs h.at) values ∙ get-before old.values.items (v ∷ []) h.at (omega (arith, beside, less))) ∙ h.value;
+    })
+    | inr more ↦
+        let end : h.at ≡ length old.offsets.items = omega (arith, more, h.within, ap length offsets, length-append old.offsets.items (o ∷ [])) in
+        inr (
+          sym h.offset ∙ ap (λ xs. slice_index xs h.at) offsets ∙ get-end old.offsets.items o h.at (sym end),
+          sym h.value ∙ ap (λ xs. slice_index xs h.at) values ∙ get-end old.values.items v h.at (beside ∙ sym end),
+        )
+  ]
+
+pub each_push : (xs ys : List ℕ) (x : ℕ) (P : ℕ → Type 0) → ys ≡ xs ++ x ∷ [] → ((k : ℕ) → k < length xs → P (slice_index xs k)) → P x → (k : ℕ) → k < length ys → P (slice_index ys k)
+each_push xs ys x P is each last k low = elim (cases_lt k (length xs)) [
+  | inl less ↦ subst P (sym (ap (λ zs. slice_index zs k) is ∙ get-before xs (x ∷ []) k less)) (each k less)
+  | inr more ↦
+      let end : length xs ≡ k = omega (arith, more, low, ap length is, length-append xs (x ∷ [])) in
+      subst P (sym (ap (λ zs. slice_index zs k) is ∙ get-end xs x k end)) last
+]
+
+pub steps_more : {A : Type 0} (low high o v : ℕ) (old new : Steps A) → IsShapedSteps low high old → new.offsets.items ≡ old.offsets.items ++ o ∷ [] → new.values.items ≡ old.values.items ++ v ∷ [] → low ≤ o → o ≤ high → v < 64
+    → IsShapedSteps low high new
+steps_more low high o v old new shaped offsets values least most small = record {
+  beside = omega (arith, shaped.beside, ap length offsets, ap length values, length-append old.offsets.items (o ∷ []), length-append old.values.items (v ∷ []));
+  from = each_push old.offsets.items new.offsets.items o (λ d. low ≤ d) offsets shaped.from least;
+  to = each_push old.offsets.items new.offsets.items o (λ d. d ≤ high) offsets shaped.to most;
+  small = each_push old.values.items new.values.items v (λ x. x < 64) values shaped.small small;
+}
+
+-- ---- a plan with one more step
+
+module _ {A : Type 0} (c : Code) (old new : Plan A) (o v : ℕ) where
+  pub adds_near : new.far ≡ old.far → length old.near.values.items ≡ length old.near.offsets.items
+      → new.near.offsets.items ≡ old.near.offsets.items ++ o ∷ [] → new.near.values.items ≡ old.near.values.items ++ v ∷ [] → AddsSteps c old new (λ d x. (d ≡ o) × (x ≡ v))
+  adds_near far beside offsets values = record {
+    keeps = λ d x h. elim h [ inl f ↦ inl (subst (λ s. IsFarStep c s d x) (sym far) f) | inr n ↦ inr (step_kept old.near new.near o v beside offsets values d x n) ];
+    has = λ d x is. inr (subst (λ e. HasStepIn new.near e x) (sym is.0) (subst (λ y. HasStepIn new.near o y) (sym is.1) (step_has old.near new.near o v beside offsets values)));
+    only = λ d x h. elim h [
+      | inl f ↦ inl (inl (subst (λ s. IsFarStep c s d x) far f))
+      | inr n ↦ elim (step_only old.near new.near o v beside offsets values d x n) [ inl was ↦ inl (inr was) | inr is ↦ inr is ]
+    ];
+  }
+
+  -- one far step stands for all moves that leave the heap
+  pub adds_far : new.near ≡ old.near → length old.far.values.items ≡ length old.far.offsets.items
+      → new.far.offsets.items ≡ old.far.offsets.items ++ o ∷ [] → new.far.values.items ≡ old.far.values.items ++ v ∷ [] → AddsSteps c old new (IsPairStep c o v (len c + 1))
+  adds_far near beside offsets values = record {
+    keeps = λ d x h. elim h [
+      | inl f ↦ inl (record { removed = f.removed; heap = f.heap; few = f.few; allowed = f.allowed; step = step_kept old.far new.far o v beside offsets values f.heap x f.step; offset = f.offset })
+      | inr n ↦ inr (subst (λ s. HasStepIn s d x) (sym near) n)
+    ];
+    has = λ d x is. inl (record {
+      removed = is.removed;
+      heap = o;
+      few = omega (arith, is.few);
+      allowed = is.allowed;
+      step = subst (λ y. HasStepIn new.far o y) (sym is.is) (step_has old.far new.far o v beside offsets values);
+      offset = is.offset;
+    });
+    only = λ d x h. elim h [
+      | inl f ↦ elim (step_only old.far new.far o v beside offsets values f.heap x f.step) [
+        | inl was ↦ inl (inl (record { removed = f.removed; heap = f.heap; few = f.few; allowed = f.allowed; step = was; offset = f.offset }))
+        | inr is ↦ inr (record { removed = f.removed; few = omega (arith, f.few); allowed = f.allowed; offset = omega (arith, f.offset, is.0); is = is.1 })
+      ]
+      | inr n ↦ inl (inr (subst (λ s. HasStepIn s d x) near n))
+    ];
+  }
+
+pub adds_none : {A : Type 0} (c : Code) (p : Plan A) (P : ℕ → ℕ → Type 0) → ((d x : ℕ) → P d x → ⊥) → AddsSteps c p p P
+adds_none c p P none = record { keeps = λ d x h. h; has = λ d x is. absurd (none d x is); only = λ d x h. inl h }
+
+pub adds_same : {A : Type 0} (c : Code) (a b : Plan A) (P R : ℕ → ℕ → Type 0) → AddsSteps c a b P → ((d x : ℕ) → R d x → P d x) → ((d x : ℕ) → P d x → R d x) → AddsSteps c a b R
+adds_same c a b P R adds back forth = record {
+  keeps = adds.keeps;
+  has = λ d x is. adds.has d x (back d x is);
+  only = λ d x h. elim (adds.only d x h) [ inl was ↦ inl was | inr is ↦ inr (forth d x is) ];
+}
+
+pub adds_more : {A : Type 0} (code : Code) (a b c : Plan A) (P Q R : ℕ → ℕ → Type 0) → AddsSteps code a b P → AddsSteps code b c Q → ((d x : ℕ) → R d x → P d x ⊎ Q d x) → ((d x : ℕ) → P d x ⊎ Q d x → R d x)
+    → AddsSteps code a c R
+adds_more code a b c P Q R first second back forth = record {
+  keeps = λ d x h. second.keeps d x (first.keeps d x h);
+  has = λ d x is. elim (back d x is) [ inl p ↦ second.keeps d x (first.has d x p) | inr q ↦ second.has d x q ];
+  only = λ d x h. elim (second.only d x h) [
+    | inl was ↦ elim (first.only d x was) [ inl old ↦ inl old | inr p ↦ inr (forth d x (inl p)) ]
+    | inr q ↦ inr (forth d x (inr q))
+  ];
+}
+
+-- ---- one more number of beans
+
+pub end_back : (c : Code) (first r d x : ℕ) → IsEndStep c first (r + 1) d x → IsEndStep c first r d x ⊎ ((d ≡ r) × (x ≡ first))
+end_back c first r d x s = elim (cases_eq d r) [
+  | inl e ↦ inr (e, s.value)
+  | inr ne ↦ inl (record { some = s.some; few = omega (arith, s.few, ne); allowed = s.allowed; value = s.value })
+]
+
+pub end_forth : (c : Code) (first r d x : ℕ) → 1 ≤ r → IsTrue (allows c r 1) → IsEndStep c first r d x ⊎ ((d ≡ r) × (x ≡ first)) → IsEndStep c first (r + 1) d x
+end_forth c first r d x some allowed s = elim s [
+  | inl was ↦ record { some = was.some; few = omega (arith, was.few); allowed = was.allowed; value = was.value }
+  | inr is ↦ record { some = omega (arith, some, is.0); few = omega (arith, is.0); allowed = subst (λ k. IsTrue (allows c k 1)) (sym is.0) allowed; value = is.1 }
+]
+
+pub end_skip : (c : Code) (first r d x : ℕ) → (IsTrue (allows c r 1) → ⊥) → IsEndStep c first (r + 1) d x → IsEndStep c first r d x
+end_skip c first r d x none s = elim (end_back c first r d x s) [ inl was ↦ was | inr is ↦ absurd (none (subst (λ k. IsTrue (allows c k 1)) is.0 s.allowed)) ]
+
+pub end_later : (c : Code) (first r d x : ℕ) → IsEndStep c first r d x → IsEndStep c first (r + 1) d x
+end_later c first r d x was = record { some = was.some; few = omega (arith, was.few); allowed = was.allowed; value = was.value }
+
+pub pair_back : (c : Code) (heap value r d x : ℕ) → IsPairStep c heap value (r + 1) d x → IsPairStep c heap value r d x ⊎ ((d ≡ r + heap) × (x ≡ value))
+pair_back c heap value r d x s = elim (cases_eq s.removed r) [
+  | inl e ↦ inr (omega (arith, e, s.offset), s.is)
+  | inr ne ↦ inl (record { removed = s.removed; few = omega (arith, s.few, ne); allowed = s.allowed; offset = s.offset; is = s.is })
+]
+
+pub pair_later : (c : Code) (heap value r d x : ℕ) → IsPairStep c heap value r d x → IsPairStep c heap value (r + 1) d x
+pair_later c heap value r d x was = record { removed = was.removed; few = omega (arith, was.few); allowed = was.allowed; offset = was.offset; is = was.is }
+
+pub pair_forth : (c : Code) (heap value r d x : ℕ) → IsTrue (allows c r 2) → IsPairStep c heap value r d x ⊎ ((d ≡ r + heap) × (x ≡ value)) → IsPairStep c heap value (r + 1) d x
+pair_forth c heap value r d x allowed s = elim s [
+  | inl was ↦ pair_later c heap value r d x was
+  | inr is ↦ record { removed = r; few = omega arith; allowed = allowed; offset = is.0; is = is.1 }
+]
+
+pub pair_skip : (c : Code) (heap value r d x : ℕ) → (IsTrue (allows c r 2) → ⊥) → IsPairStep c heap value (r + 1) d x → IsPairStep c heap value r d x
+pair_skip c heap value r d x none s = elim (cases_eq s.removed r) [
+  | inl e ↦ absurd (none (subst (λ k. IsTrue (allows c k 2)) e s.allowed))
+  | inr ne ↦ record { removed = s.removed; few = omega (arith, s.few, ne); allowed = s.allowed; offset = s.offset; is = s.is }
+]
+
+-- ---- one more heap
+
+pub heap_back : (c : Code) (heaps : List SmallHeap) (i : ℕ) (h : SmallHeap) (d x : ℕ) → ((e : SmallHeap) → slice_index_or heaps i e ≡ h) → IsHeapStep c heaps (i + 1) d x
+    → IsHeapStep c heaps i d x ⊎ IsPairStep c h.heap h.value (len c + 1) d x
+heap_back c heaps i h d x here s = elim (cases_eq s.at i) [
+  | inl e ↦ inr (subst (λ (k : SmallHeap). IsPairStep c k.heap k.value (len c + 1) d x) (sym s.is ∙ ap (λ k. slice_index_or heaps k s.heap) e ∙ here s.heap) s.pair)
+  | inr ne ↦ inl (record { heap = s.heap; at = s.at; within = omega (arith, s.within, ne); is = s.is; pair = s.pair })
+]
+
+pub heap_forth : (c : Code) (heaps : List SmallHeap) (i : ℕ) (h : SmallHeap) (d x : ℕ) → ((e : SmallHeap) → slice_index_or heaps i e ≡ h)
+    → IsHeapStep c heaps i d x ⊎ IsPairStep c h.heap h.value (len c + 1) d x → IsHeapStep c heaps (i + 1) d x
+heap_forth c heaps i h d x here s = elim s [
+  | inl was ↦ record { heap = was.heap; at = was.at; within = omega (arith, was.within); is = was.is; pair = was.pair }
+  | inr is ↦ record { heap = h; at = i; within = omega arith; is = here h; pair = is }
+]
+
+-- ---- what holds on success
+
+pub on_both : {X Y : Type 0} (r : Result X Y) (P Q R : Type 0) → OnOk r P → OnOk r Q → (P → Q → R) → OnOk r R
+on_both (Ok x) P Q R p q f = f p q
+on_both (Err e) P Q R p q f = tt
+
+-- ---- an empty plan
+
+pub shaped_none : {A : Type 0} (p : Plan A) → p.far.offsets.items ≡ [] → p.far.values.items ≡ [] → p.near.offsets.items ≡ [] → p.near.values.items ≡ [] → (reach width : ℕ) → IsShapedPlan reach width p
+shaped_none p fo fv noffs nvals reach width = record {
+  far = record {
+    beside = ap length fv ∙ sym (ap length fo);
+    from = λ k low. absurd (omega (arith, low, ap length fo));
+    to = λ k low. absurd (omega (arith, low, ap length fo));
+    small = λ k low. absurd (omega (arith, low, ap length fv));
+  };
+  near = record {
+    beside = ap length nvals ∙ sym (ap length noffs);
+    from = λ k low. absurd (omega (arith, low, ap length noffs));
+    to = λ k low. absurd (omega (arith, low, ap length noffs));
+    small = λ k low. absurd (omega (arith, low, ap length nvals));
+  };
+}
+
+pub has_none : {A : Type 0} (c : Code) (p : Plan A) (d x : ℕ) → p.far.offsets.items ≡ [] → p.near.offsets.items ≡ [] → HasStep c p d x → ⊥
+has_none c p d x far near h = elim h [ inl f ↦ omega (arith, f.step.within, ap length far) | inr n ↦ omega (arith, n.within, ap length near) ]
+
+-- ---- from places to elements
+
+pub at_each : (xs : List ℕ) (P : ℕ → Type 0) → ((i : ℕ) → i < length xs → P (slice_index xs i)) → (x : ℕ) → Contains xs x → P x
+at_each xs P each x is = subst P (get_or_default xs is.0 0 x is.1 ∙ is.2) (each is.0 is.1)
+
+pub add_has : (small heaps : List ℕ) (list : List SmallHeap) → ((i : ℕ) → i < length heaps → 1 ≤ slice_index heaps i → HasHeap list (slice_index heaps i) (slice_index small (slice_index heaps i)))
+    → (h : ℕ) → Contains heaps h → 1 ≤ h → HasHeap list h (slice_index small h)
+add_has small heaps list each h is = at_each heaps (λ x. 1 ≤ x → HasHeap list x (slice_index small x)) each h is

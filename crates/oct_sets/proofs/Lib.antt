@@ -1,0 +1,4 @@
+mod Growing
+mod Kept
+mod Near
+mod Words

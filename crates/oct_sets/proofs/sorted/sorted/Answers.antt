@@ -1,0 +1,16 @@
+use Rattle.std.proofs.Common.{arith}
+use Rattle.std.proofs.lemmas.List.Sorted.{Contains-permutation, IsPermutation-sym}
+use Rattle.std.specs.List.{Contains}
+use Rattle.oct_sets.proofs.sorted.sorted.Goals as goal
+
+pub returns-clause-each : goal.returns-clause-each
+returns-clause-each g c h has =
+    let list = c.add-2.new.list.items in
+    let was : Contains list h = Contains-permutation c.sort_unstable.new.self.items list h (IsPermutation-sym list c.sort_unstable.new.self.items c.sort_unstable.ensures.permutation) has in
+    c.in_ok-add-2.ensures.each (c.in_ok-add.ensures.each (λ k none. absurd (omega (arith, none.1, c.new-list.ensures.len)))) h was
+
+pub returns-clause-has : goal.returns-clause-has
+returns-clause-has g c h is some =
+    let first = c.in_ok-add.ensures.has h is some in
+    let kept = c.in_ok-add-2.ensures.keeps first.small first.in_list in
+    record { small = first.small; in_list = Contains-permutation c.add-2.new.list.items c.sort_unstable.new.self.items first.small c.sort_unstable.ensures.permutation kept; heap = first.heap; value = first.value }

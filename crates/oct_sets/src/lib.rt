@@ -1,0 +1,32 @@
+//! The next nim-values of a game in which no large heap is rare, by sets of the values of their options.
+//!
+//! Where no heap above some size is rare under a mask, the options that leave a small heap mostly settle the next nim-value
+//! (`oct_mex::settled_value`). Each of them is one of a few steps: so many beans less, and the value of the small heap
+//! that is left besides. So the set of the values of these options is a union: for each step the value that far before,
+//! turned by the value of the small heap. With values as words in which one bit is set, the unions of 64 heaps at a time
+//! are those of slices of such words.
+//!
+//!     let mut sets = Sets::new(alloc, &code, &small, &rare_heaps, &last, count)?;
+//!     let value = sets.settle(mask, &last);                    // the value of the heap `count`, or none
+//!     sets.push(value);                                        // on to the next heap
+//!
+//! - A `Plan` has the steps, near ones and far ones. Which small heaps it goes by, besides the rare ones, is chosen from a
+//!   sample: this changes no value, but how many heaps are settled.
+//! - `Sets` has the words of the last heaps and the unions by far steps for a block of 64 heaps. `settle` adds those by near
+//!   steps, and gives the least number that is not in the set where a value like it is common.
+#![tactic(auto)]
+
+mod pairs;
+mod plan;
+mod sets;
+mod settled;
+mod sorted;
+mod steps;
+#[cfg(test)]
+mod tests;
+mod witnesses;
+
+pub use plan::{BLOCK, Plan};
+pub use sets::{SMALL, Sets};
+pub use sorted::SmallHeap;
+pub use steps::Steps;

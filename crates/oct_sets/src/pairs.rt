@@ -1,0 +1,72 @@
+//! The values of what moves that leave two heaps leave of one.
+
+ghost use Rattle.std.specs.Prelude.{◌≡◌, ◌+◌, ◌-◌, ◌*◌, ◌^◌, ◌<◌, ◌≤◌, ◌↔◌, ℕ, IfOk, length, slice_index, vec_len, vec_capacity};
+ghost use Rattle.bitsets.specs.Sets.{Has};
+ghost use Rattle.oct_code.specs.Code as octal;
+ghost use Rattle.oct_sets.specs.Plans.{AreSplits, IsOneBefore};
+
+use bitsets::one;
+use oct_code::Code;
+use std::alloc::{AllocError, Allocator};
+
+/// How many beans a move may remove that leaves two heaps.
+pub(crate) fn splits_of<A: Allocator>(alloc: A, code: &Code) -> Result<Vec<usize, A>, AllocError>
+    ensures few { IfOk result (λ splits. (k : ℕ) → k < length splits.items → slice_index splits.items k ≤ octal.len code.now) }
+    ensures splits { IfOk result (λ splits. AreSplits code.now splits.items) }
+{
+    let mut splits = Vec::new(alloc);
+    for removed in 0..code.len() + 1 {
+        if code.allows(removed, 2) {
+            splits.push(removed)?;
+        }
+    }
+    Ok(splits)
+}
+
+/// For each place of a list of values from `first` on, the set of the values that stand before it by these numbers.
+pub(crate) fn pairs_of<A: Allocator + Copy>(
+    alloc: A,
+    splits: &[usize],
+    values: &[u16],
+    first: usize,
+) -> Result<Vec<u64, A>, AllocError>
+    requires few { length values.now < 2 ^ 62 }
+    requires first { first ≤ length values.now }
+    requires splits { (k : ℕ) → k < length splits.now → slice_index splits.now k ≤ first }
+    requires low { (i : ℕ) → i < length values.now → slice_index values.now i < 64 }
+    ensures len { IfOk result (λ pairs. vec_len pairs ≡ length values.now - first) }
+    ensures room { IfOk result (λ pairs. vec_len pairs < vec_capacity pairs) }
+    ensures pairs { IfOk result (λ pairs. (i v : ℕ) → first + i < length values.now → Has (slice_index pairs.items i) v ↔ IsOneBefore splits.now values.now (first + i) (length splits.now) v) }
+{
+    let mut pairs = Vec::with_capacity(alloc, 2 * values.len() + 1)?;
+    for place in first..values.len() {
+        pairs.push(split_set(splits, values, place))?;
+    }
+    Ok(pairs)
+}
+
+/// The set of the values that stand before a place by these numbers.
+pub(crate) fn split_set(splits: &[usize], values: &[u16], place: usize) -> u64
+    requires within { place < length values.now }
+    requires splits { (k : ℕ) → k < length splits.now → slice_index splits.now k ≤ place }
+    requires low { (i : ℕ) → i < length values.now → slice_index values.now i < 64 }
+    ensures set { (v : ℕ) → Has result v ↔ IsOneBefore splits.now values.now place (length splits.now) v }
+{
+    let mut set = 0;
+    for removed in splits {
+        set |= one(usize::from(values[place - *removed]));
+    }
+    set
+}
+
+/// Keeps the last words, so many. Takes no memory.
+pub(crate) fn keep_last<A: Allocator>(words: &mut Vec<u64, A>, count: usize)
+    requires { count ≤ vec_len words.old }
+    ensures len { vec_len words.new ≡ count }
+    ensures room { vec_capacity words.new ≡ vec_capacity words.old }
+    ensures last { (i : ℕ) → i < count → slice_index words.new.items i ≡ slice_index words.old.items (vec_len words.old - count + i) }
+{
+    let len = words.len();
+    words.copy_within(len - count..len, 0);
+    words.truncate(count);
+}

@@ -1,0 +1,106 @@
+//! The steps by which the sets of heaps are made.
+
+ghost use Rattle.std.specs.Prelude.{◌≡◌, ◌+◌, ◌-◌, ◌^◌, ◌<◌, ◌≤◌, ◌⊎◌, ◌↔◌, ℕ, OnOk, IfOk, length};
+ghost use Rattle.std.specs.List.{Contains};
+ghost use Rattle.oct_code.specs.Code.{len};
+ghost use Rattle.oct_sets.specs.Plans.{AddsSteps, HasStep, IsEndStep, IsHeapStep, IsPairStep, IsShapedPlan, IsWithin};
+ghost use Rattle.oct_sets.specs.declared.sorted.SmallHeap.{SmallHeap};
+
+use crate::sorted::SmallHeap;
+use crate::steps::Steps;
+use oct_code::Code;
+use std::alloc::{AllocError, Allocator};
+
+/// The sets of so many heaps are made at a time.
+pub const BLOCK: usize = 64;
+
+/// Steps to the options by which heaps are settled.
+#[derive(Drop)]
+pub struct Plan<A: Allocator> {
+    /// Those that leave a small heap as large as a block or larger: the offset is the heap alone, and the step stands for all
+    /// moves that leave it. They serve a whole block at a time.
+    pub far: Steps<A>,
+    /// The others, heap after heap.
+    pub near: Steps<A>,
+}
+
+impl<A: Allocator + Copy> Plan<A> {
+    /// The steps to the options that leave one heap, beside one of 0 beans and its value, and to those that leave one of the
+    /// heaps of a list.
+    pub(crate) fn of(
+        alloc: A,
+        code: &Code,
+        none: u16,
+        heaps: &[SmallHeap],
+    ) -> Result<Plan<A>, AllocError>
+        requires none { none < 64 }
+        requires each { (h : SmallHeap) → Contains heaps.now h → IsWithin (2 ^ 32 - 1) h }
+        ensures shaped { (reach : ℕ) → ((h : SmallHeap) → Contains heaps.now h → IsWithin reach h) → IfOk result (IsShapedPlan reach (reach + len code.now)) }
+        ensures steps { IfOk result (λ plan. (d x : ℕ) → HasStep code.now plan d x ↔ (IsEndStep code.now none (len code.now + 1) d x ⊎ IsHeapStep code.now heaps.now (length heaps.now) d x)) }
+    {
+        let mut plan = Plan {
+            far: Steps::new(alloc),
+            near: Steps::new(alloc),
+        };
+        plan.add_ends(code, none as usize)?;
+        plan.add_heaps(code, heaps)?;
+        Ok(plan)
+    }
+
+    // Adds the steps to the options that leave one heap, beside one of 0 beans and this value.
+    fn add_ends(&mut self, code: &Code, value: usize) -> Result<(), AllocError>
+        requires small { value < 64 }
+        ensures shaped { (reach width : ℕ) → IsShapedPlan reach width self.old → len code.now ≤ width → OnOk result (IsShapedPlan reach width self.new) }
+        ensures adds { (reach width : ℕ) → IsShapedPlan reach width self.old → len code.now ≤ width → OnOk result (AddsSteps code.now self.old self.new (IsEndStep code.now value (len code.now + 1))) }
+    {
+        for removed in 1..code.len() + 1 {
+            if code.allows(removed, 1) {
+                self.near.push(removed, value)?;
+            }
+        }
+        Ok(())
+    }
+
+    // Adds the steps to the options that leave one of the heaps of a list.
+    fn add_heaps(&mut self, code: &Code, heaps: &[SmallHeap]) -> Result<(), AllocError>
+        requires each { (h : SmallHeap) → Contains heaps.now h → IsWithin (2 ^ 32 - 1) h }
+        ensures shaped { (reach : ℕ) → IsShapedPlan reach (reach + len code.now) self.old → ((h : SmallHeap) → Contains heaps.now h → IsWithin reach h) → OnOk result (IsShapedPlan reach (reach + len code.now) self.new) }
+        ensures adds { (reach : ℕ) → IsShapedPlan reach (reach + len code.now) self.old → ((h : SmallHeap) → Contains heaps.now h → IsWithin reach h) → OnOk result (AddsSteps code.now self.old self.new (IsHeapStep code.now heaps.now (length heaps.now))) }
+    {
+        for heap in heaps {
+            self.add_heap(code, heap.heap as usize, heap.value as usize)?;
+        }
+        Ok(())
+    }
+
+    // Adds the steps to the options that leave a heap of this size and value: one far step for all of them, or near ones.
+    fn add_heap(&mut self, code: &Code, heap: usize, value: usize) -> Result<(), AllocError>
+        requires some { 1 ≤ heap }
+        requires limited { heap < 2 ^ 32 }
+        requires small { value < 64 }
+        ensures shaped { (reach : ℕ) → IsShapedPlan reach (reach + len code.now) self.old → heap ≤ reach → OnOk result (IsShapedPlan reach (reach + len code.now) self.new) }
+        ensures adds { (reach : ℕ) → IsShapedPlan reach (reach + len code.now) self.old → heap ≤ reach → OnOk result (AddsSteps code.now self.old self.new (IsPairStep code.now heap value (len code.now + 1))) }
+    {
+        if heap < BLOCK {
+            self.add_near(code, heap, value)
+        } else {
+            self.far.push(heap, value)
+        }
+    }
+
+    // Adds the near steps to the options that leave a heap of this size and value.
+    fn add_near(&mut self, code: &Code, heap: usize, value: usize) -> Result<(), AllocError>
+        requires some { 1 ≤ heap }
+        requires limited { heap < 2 ^ 32 }
+        requires small { value < 64 }
+        ensures shaped { (reach : ℕ) → IsShapedPlan reach (reach + len code.now) self.old → heap ≤ reach → OnOk result (IsShapedPlan reach (reach + len code.now) self.new) }
+        ensures adds { (reach : ℕ) → IsShapedPlan reach (reach + len code.now) self.old → heap ≤ reach → OnOk result (AddsSteps code.now self.old self.new (IsPairStep code.now heap value (len code.now + 1))) }
+    {
+        for removed in 0..code.len() + 1 {
+            if code.allows(removed, 2) {
+                self.near.push(removed + heap, value)?;
+            }
+        }
+        Ok(())
+    }
+}

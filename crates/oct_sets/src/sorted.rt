@@ -1,0 +1,67 @@
+//! The small heaps that a plan goes by, those of one nim-value side by side, and each value beside one that differs little.
+
+ghost use Rattle.std.specs.Prelude.{◌≡◌, ◌<◌, ◌≤◌, ℕ, IfOk, OnOk, length, slice_index};
+ghost use Rattle.std.specs.List.{Contains};
+ghost use Rattle.oct_sets.specs.Plans.{HasHeap, IsAmong};
+ghost use Rattle.oct_sets.specs.declared.sorted.SmallHeap.{SmallHeap};
+
+use std::alloc::{AllocError, Allocator};
+
+/// A small heap and its nim-value. They are ordered by the place of the value in Gray's code, in which each number differs from the
+/// one before in one bit: so sets are turned by one bit from value to value, where all values are there.
+#[derive(Clone, Copy, PartialEq, Eq, PartialOrd, Ord)]
+pub struct SmallHeap {
+    pub place: u16,
+    pub value: u16,
+    pub heap: u32,
+}
+
+/// The heaps of two lists, from 1 on, by their values.
+pub(crate) fn sorted<A: Allocator + Copy>(
+    alloc: A,
+    small: &[u16],
+    rare: &[u32],
+    others: &[u32],
+) -> Result<Vec<SmallHeap, A>, AllocError>
+    requires rare { (h : ℕ) → Contains rare.now h → h < length small.now }
+    requires others { (h : ℕ) → Contains others.now h → h < length small.now }
+    ensures each { IfOk result (λ list. (h : SmallHeap) → Contains list.items h → IsAmong small.now h) }
+    ensures has { IfOk result (λ list. (h : ℕ) → Contains rare.now h → 1 ≤ h → HasHeap list.items h (slice_index small.now h)) }
+{
+    let mut list = Vec::new(alloc);
+    add(&mut list, small, rare)?;
+    add(&mut list, small, others)?;
+    list.sort_unstable();
+    Ok(list)
+}
+
+// Adds the heaps of a list, from 1 on.
+fn add<A: Allocator>(
+    list: &mut Vec<SmallHeap, A>,
+    small: &[u16],
+    heaps: &[u32],
+) -> Result<(), AllocError>
+    requires within { (h : ℕ) → Contains heaps.now h → h < length small.now }
+    ensures each { ((h : SmallHeap) → Contains list.old.items h → IsAmong small.now h) → OnOk result ((h : SmallHeap) → Contains list.new.items h → IsAmong small.now h) }
+    ensures keeps { OnOk result ((h : SmallHeap) → Contains list.old.items h → Contains list.new.items h) }
+    ensures has { OnOk result ((h : ℕ) → Contains heaps.now h → 1 ≤ h → HasHeap list.new.items h (slice_index small.now h)) }
+{
+    for heap in heaps {
+        if *heap > 0 {
+            let value = small[*heap as usize];
+            list.push(SmallHeap {
+                place: place_of(value),
+                value,
+                heap: *heap,
+            })?;
+        }
+    }
+    Ok(())
+}
+
+// The place of a number below 64 in Gray's code.
+fn place_of(value: u16) -> u16 {
+    let two = value ^ (value >> 1);
+    let four = two ^ (two >> 2);
+    four ^ (four >> 4)
+}

@@ -1,0 +1,79 @@
+//! How many heaps of a game are left by a plan and its witnesses.
+
+use crate::witnesses::{MOST, witnesses};
+use bitsets::{least, one};
+use oct_code::Code;
+use oct_mex::Values;
+use std::alloc::Global;
+use std::process::Abort;
+
+const CODE: &str = "0.454";
+
+// No heap at all, and the rare heaps of the game.
+const RARE: &[u32] = &[
+    0, 1, 4, 5, 13, 14, 22, 31, 40, 44, 50, 53, 72, 102, 103, 115, 124,
+];
+
+// So many heaps are known where the witnesses are chosen.
+const KNOWN: usize = 20_000;
+
+// So many further heaps are then looked at.
+const FURTHER: usize = 1_000;
+
+// So many of them are left at most: three in a hundred.
+const MOST_LEFT: usize = 30;
+
+// The first values of the game.
+fn values_of(rt: &(impl Abort + AllocGlobal), code: Code) -> Vec<u16, Global> {
+    let mut values = Values::new(rt.alloc(), code);
+    values
+        .extend_to(KNOWN + FURTHER)
+        .ok()
+        .expect(rt, "the values");
+    let mut cells = Vec::new(rt.alloc());
+    for value in values.as_slice() {
+        let cell = u16::try_from(*value).ok().expect(rt, "a small value");
+        cells.push(cell).ok().expect(rt, "memory");
+    }
+    cells
+}
+
+// The set of the value of an option with a small heap beside, or of none.
+fn option_of(values: &[u16], heap: usize, removed: usize, beside: usize) -> Option<u64> {
+    let rest = heap.checked_sub(removed)?.checked_sub(beside)?;
+    let value = usize::from(*values.get(rest)? ^ *values.get(beside)?);
+    if value < 64 { Some(one(value)) } else { None }
+}
+
+// Whether all numbers below the value of a heap are values of options with these heaps beside.
+fn is_settled(code: &Code, values: &[u16], heap: usize, small: &[u32]) -> bool {
+    let mut met = 0;
+    for removed in 0..code.len() + 1 {
+        for beside in small {
+            let left = if *beside == 0 { 1 } else { 2 };
+            if code.allows(removed, left) {
+                met |= option_of(values, heap, removed, *beside as usize).unwrap_or(0);
+            }
+        }
+    }
+    values.get(heap).map(|value| usize::from(*value)) == Some(least(met))
+}
+
+#[test]
+fn few_heaps_are_left(rt: HostRuntime) {
+    let code = Code::parse(CODE.as_bytes()).ok().expect(&rt, CODE);
+    let values = values_of(&rt, code);
+    let known = values.get(..KNOWN).expect(&rt, "the values");
+    let mut heaps = witnesses(rt.alloc(), &code, known, known, &RARE[1..])
+        .ok()
+        .expect(&rt, "memory");
+    assert!(&rt; heaps.len() <= MOST, "{} witnesses", heaps.len());
+    heaps.extend_from_slice(RARE).ok().expect(&rt, "memory");
+    let mut left = 0_usize;
+    for heap in KNOWN..KNOWN + FURTHER {
+        if !is_settled(&code, &values, heap, &heaps) {
+            left = left.saturating_add(1);
+        }
+    }
+    assert!(&rt; left <= MOST_LEFT, "{left} heaps are left");
+}
