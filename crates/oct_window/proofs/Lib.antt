@@ -3,5 +3,6 @@ pub mod Compared
 pub mod Held
 pub mod Marking
 pub mod RowReads
+mod Sets
 pub mod Shown
 pub mod Watching

@@ -1,14 +1,16 @@
 //! The least heap from which on a period holds.
 
-ghost use Rattle.std.specs.Prelude.{◌≡◌, ℕ, ◌+◌, ◌<◌, ◌≤◌, true, false, length, max, vec_len};
+ghost use Rattle.std.specs.Prelude.{◌≡◌, ℕ, ◌+◌, ◌<◌, ◌≤◌, true, false, IfSome, length, max, vec_len};
 ghost use Rattle.oct_code.specs.Code as octal;
 ghost use Rattle.oct_mex.specs.Row.{IsRow};
+ghost use Rattle.oct_window.specs.BySets.{AreRight, AreSetsOf};
 ghost use Rattle.oct_window.specs.Comparisons.{IsCompared, IsInStep, IsPaired, IsRight};
 ghost use Rattle.oct_window.specs.Windows.{IsBegun, IsShaped};
 
 use crate::reader::Reader;
 use crate::window::{FARTHEST, MARKS, Window};
 use oct_mex::Row;
+use oct_sets::Sets;
 use std::alloc::Allocator;
 
 /// Finds the least heap, from 1 on, from which on a period holds. Two readers of the nim-values go on from heap 0, the
@@ -66,8 +68,9 @@ impl<A: Allocator + Copy> Comparison<A> {
     }
 
     /// Moves the second reader on to the heap `end`, and says whether its window tells the values before it: else the reader
-    /// stays at the first that it does not tell. Heaps can be compared once it is at the period. Takes no memory.
-    pub fn go_ahead(&mut self, row: &Row<u16, A>, end: usize, marks: &mut [bool]) -> bool
+    /// stays at the first that it does not tell. Heaps can be compared once it is at the period. Memory is taken for sets, as far as
+    /// there is some, and given back.
+    pub fn go_ahead(&mut self, alloc: A, row: &Row<u16, A>, end: usize, marks: &mut [bool]) -> bool
         requires paired { IsPaired (vec_len row.now.values) self.old }
         requires limited { end ≤ FARTHEST }
         requires marks { MARKS ≤ length marks.old }
@@ -80,12 +83,13 @@ impl<A: Allocator + Copy> Comparison<A> {
         ensures marks { length marks.new ≡ length marks.old }
         ensures compared { (c : octal.Code) → IsCompared c self.old → IsCompared c self.new }
     {
-        self.second.go_to(row, end, marks)
+        self.second.go_to(alloc, row, end, marks)
     }
 
     /// Compares on until each heap below `end` is compared, and says whether the windows tell the values that this takes:
-    /// else it stays at the first heap for which they do not, and cannot go on. Takes no memory.
-    pub fn compare(&mut self, row: &Row<u16, A>, end: usize, marks: &mut [bool]) -> bool
+    /// else it stays at the first heap for which they do not, and cannot go on. Memory is taken for sets, as far as there is some,
+    /// and given back.
+    pub fn compare(&mut self, alloc: A, row: &Row<u16, A>, end: usize, marks: &mut [bool]) -> bool
         requires paired { IsPaired (vec_len row.now.values) self.old }
         requires ahead { self.old.second.heap ≡ self.old.first.heap + self.old.period }
         requires limited { end + self.old.period ≤ FARTHEST }
@@ -100,36 +104,50 @@ impl<A: Allocator + Copy> Comparison<A> {
         ensures marks { length marks.new ≡ length marks.old }
         ensures compared { (c : octal.Code) → IsRow (λ x. x) c row.now → IsCompared c self.old → IsCompared c self.new }
     {
+        let mut sets = self.first.window.sets(alloc);
+        let mut later = self.second.window.sets(alloc);
         for _ in self.first.heap..end {
-            if !self.compare_next(row, marks) {
+            if !self.compare_next(row, &mut sets, &mut later, marks) {
                 return false;
             }
         }
         true
     }
 
-    // Compares the next heap, if the windows tell its value and the one a period later.
-    fn compare_next(&mut self, row: &Row<u16, A>, marks: &mut [bool]) -> bool
+    // Compares the next heap, if the windows tell its value and the one a period later, by the sets of each where there are some.
+    fn compare_next(
+        &mut self,
+        row: &Row<u16, A>,
+        sets: &mut Option<Sets<A>>,
+        later: &mut Option<Sets<A>>,
+        marks: &mut [bool],
+    ) -> bool
         requires paired { IsPaired (vec_len row.now.values) self.old }
+        requires of { IfSome sets.old (AreSetsOf self.old.first.window) }
+        requires of_later { IfSome later.old (AreSetsOf self.old.second.window) }
         requires ahead { self.old.second.heap ≡ self.old.first.heap + self.old.period }
         requires limited { self.old.second.heap < FARTHEST }
         requires marks { MARKS ≤ length marks.old }
         ensures paired { IsPaired (vec_len row.now.values) self.new }
+        ensures of { IfSome sets.new (AreSetsOf self.new.first.window) }
+        ensures of_later { IfSome later.new (AreSetsOf self.new.second.window) }
         ensures by_row { self.old.second.heap < vec_len row.now.values → result ≡ true }
         ensures ahead { result ≡ true → self.new.second.heap ≡ self.new.first.heap + self.new.period }
         ensures heap { result ≡ true → self.new.first.heap ≡ self.old.first.heap + 1 }
         ensures short { result ≡ false → self.new.first.heap ≡ self.old.first.heap }
         ensures period { self.new.period ≡ self.old.period }
         ensures marks { length marks.new ≡ length marks.old }
-        ensures compared { (c : octal.Code) → IsRow (λ x. x) c row.now → IsCompared c self.old → IsCompared c self.new }
+        ensures compared { (c : octal.Code) → IsRow (λ x. x) c row.now → IsCompared c self.old → IfSome sets.old (AreRight self.old.first.window) → IfSome later.old (AreRight self.old.second.window) → IsCompared c self.new }
+        ensures right { (c : octal.Code) → IsCompared c self.old → IfSome sets.old (AreRight self.old.first.window) → IfSome sets.new (AreRight self.new.first.window) }
+        ensures right_later { (c : octal.Code) → IsCompared c self.old → IfSome later.old (AreRight self.old.second.window) → IfSome later.new (AreRight self.new.second.window) }
     {
-        let Some(later) = self.second.next(row, marks) else {
+        let Some(again) = self.second.next(row, later, marks) else {
             return false;
         };
-        let Some(value) = self.first.next(row, marks) else {
+        let Some(value) = self.first.next(row, sets, marks) else {
             return false;
         };
-        if value != later {
+        if value != again {
             self.start = self.first.heap;
         }
         true

@@ -20,6 +20,7 @@
 //! (`IsKnown`, ..), which stands in them as a premise.
 #![tactic(auto)]
 
+mod by_sets;
 mod comparison;
 mod ends;
 mod first;

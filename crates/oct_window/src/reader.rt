@@ -4,11 +4,13 @@ ghost use Rattle.std.specs.Prelude.{◌≡◌, ◌+◌, ◌<◌, ◌≤◌, true
 ghost use Rattle.oct_code.specs.Code as octal;
 ghost use Rattle.oct_mex.specs.NimValues.{nim_value};
 ghost use Rattle.oct_mex.specs.Row.{IsRow};
+ghost use Rattle.oct_window.specs.BySets.{AreRight, AreSetsOf};
 ghost use Rattle.oct_window.specs.Comparisons.{IsInStep, IsRight};
 ghost use Rattle.oct_window.specs.Windows.{IsKnown, IsShaped};
 
 use crate::window::{FARTHEST, MARKS, Window};
 use oct_mex::Row;
+use oct_sets::Sets;
 use std::alloc::Allocator;
 
 /// Reads the nim-values from heap 0 on: those of a row, and then those that a window tells.
@@ -31,24 +33,33 @@ impl<A: Allocator + Copy> Reader<A> {
         Reader { window, heap: 0 }
     }
 
-    /// The value of the next heap, if the row has it or the window tells it: else the reader stays there. Takes no memory.
-    pub(crate) fn next(&mut self, row: &Row<u16, A>, marks: &mut [bool]) -> Option<u16>
+    /// The value of the next heap, if the row has it or the window tells it, by sets where there are some: else the reader stays
+    /// there. Takes no memory.
+    pub(crate) fn next(
+        &mut self,
+        row: &Row<u16, A>,
+        sets: &mut Option<Sets<A>>,
+        marks: &mut [bool],
+    ) -> Option<u16>
         requires step { IsInStep (vec_len row.now.values) self.old }
+        requires of { IfSome sets.old (AreSetsOf self.old.window) }
         requires limited { self.old.heap < FARTHEST }
         requires marks { MARKS ≤ length marks.old }
         ensures step { IsInStep (vec_len row.now.values) self.new }
+        ensures of { IfSome sets.new (AreSetsOf self.new.window) }
         ensures by_row { self.old.heap < vec_len row.now.values → IsSome result }
         ensures heap { MatchOption result (self.new.heap ≡ self.old.heap) (λ value. self.new.heap ≡ self.old.heap + 1) }
         ensures marks { length marks.new ≡ length marks.old }
-        ensures right { (c : octal.Code) → IsRight c self.old → IsRight c self.new }
-        ensures value { (c : octal.Code) → IsRow (λ x. x) c row.now → IsRight c self.old → IfSome result (λ value. value ≡ nim_value c self.old.heap) }
+        ensures right { (c : octal.Code) → IsRight c self.old → IfSome sets.old (AreRight self.old.window) → IsRight c self.new }
+        ensures sets { (c : octal.Code) → IsRight c self.old → IfSome sets.old (AreRight self.old.window) → IfSome sets.new (AreRight self.new.window) }
+        ensures value { (c : octal.Code) → IsRow (λ x. x) c row.now → IsRight c self.old → IfSome sets.old (AreRight self.old.window) → IfSome result (λ value. value ≡ nim_value c self.old.heap) }
     {
         if self.heap < row.values.len() {
             let value = row.values[self.heap];
             self.heap += 1;
             return Some(value);
         }
-        if !self.window.push_next(marks) {
+        if !self.window.push_by(sets, marks) {
             return None;
         }
         self.heap += 1;
@@ -56,8 +67,14 @@ impl<A: Allocator + Copy> Reader<A> {
     }
 
     /// Reads on to the heap `end`, and says whether the values before it are known: else it stays at the first that is not.
-    /// Takes no memory.
-    pub(crate) fn go_to(&mut self, row: &Row<u16, A>, end: usize, marks: &mut [bool]) -> bool
+    /// By sets, as far as there is memory for them, which is given back.
+    pub(crate) fn go_to(
+        &mut self,
+        alloc: A,
+        row: &Row<u16, A>,
+        end: usize,
+        marks: &mut [bool],
+    ) -> bool
         requires step { IsInStep (vec_len row.now.values) self.old }
         requires limited { end ≤ FARTHEST }
         requires marks { MARKS ≤ length marks.old }
@@ -69,8 +86,9 @@ impl<A: Allocator + Copy> Reader<A> {
         ensures marks { length marks.new ≡ length marks.old }
         ensures right { (c : octal.Code) → IsRight c self.old → IsRight c self.new }
     {
+        let mut sets = self.window.sets(alloc);
         for _ in self.heap..end {
-            if self.next(row, marks).is_none() {
+            if self.next(row, &mut sets, marks).is_none() {
                 return false;
             }
         }

@@ -21,7 +21,7 @@ use oct_mex::{Row, SeenPeriod};
 use std::alloc::{AllocError, Allocator};
 
 // So many values are computed at most in a step.
-const PART: usize = 65_536;
+const PART: usize = 1_048_576;
 
 impl<A: Allocator + Copy> Place<A> {
     /// Goes on by some values, at most to the heap `count`, by the first values and a table of marks. Memory is taken where
@@ -46,7 +46,7 @@ impl<A: Allocator + Copy> Place<A> {
         let Place { code, stage, .. } = self;
         match stage {
             Stage::Watching(watch) => watch_on(alloc, code, watch, row, count, marks),
-            Stage::Comparing(seen) => Ok(compare_on(code, seen, row, count, marks)),
+            Stage::Comparing(seen) => Ok(compare_on(alloc, code, seen, row, count, marks)),
         }
     }
 }
@@ -122,6 +122,7 @@ fn compare_behind<A: Allocator + Copy>(
 
 // Compares on.
 fn compare_on<A: Allocator + Copy>(
+    alloc: A,
     code: Code,
     seen: Seen<A>,
     row: &Row<u16, A>,
@@ -139,7 +140,7 @@ fn compare_on<A: Allocator + Copy>(
     ensures marks { length marks.new ≡ length marks.old }
 {
     let mut seen = seen;
-    if !seen.go_on(row, marks) {
+    if !seen.go_on(alloc, row, marks) {
         return Stepped::Lost(seen.values);
     }
     if seen.comparison.heap() < seen.start {
@@ -168,7 +169,7 @@ fn place_of<A: Allocator + Copy>(code: Code, row: &Row<u16, A>, stage: Stage<A>)
 impl<A: Allocator + Copy> Seen<A> {
     // Reads the values of some heaps, and says whether the windows tell them: those that are a period ahead, and then those
     // of heaps that are compared.
-    fn go_on(&mut self, row: &Row<u16, A>, marks: &mut [bool]) -> bool
+    fn go_on(&mut self, alloc: A, row: &Row<u16, A>, marks: &mut [bool]) -> bool
         requires comparing { IsComparing (vec_len row.now.values) self.old }
         requires limited { self.old.values ≤ FARTHEST }
         requires marks { MARKS ≤ length marks.old }
@@ -183,10 +184,10 @@ impl<A: Allocator + Copy> Seen<A> {
         let comparison = &mut self.comparison;
         if comparison.ahead() < comparison.period {
             let end = comparison.period.min(comparison.ahead() + PART);
-            comparison.go_ahead(row, end, marks)
+            comparison.go_ahead(alloc, row, end, marks)
         } else {
             let end = self.start.min(comparison.heap() + PART);
-            comparison.compare(row, end, marks)
+            comparison.compare(alloc, row, end, marks)
         }
     }
 }

@@ -1,6 +1,7 @@
 //! A window that is watched until its values come again.
 
-ghost use Rattle.std.specs.Prelude.{◌≡◌, ◌+◌, ◌*◌, ◌<◌, ◌≤◌, ℕ, length, max, IfOk, OnErr, OnOk};
+ghost use Rattle.std.specs.Prelude.{◌≡◌, ◌+◌, ◌*◌, ◌<◌, ◌≤◌, ℕ, length, max, IfOk, IfSome, OnErr, OnOk};
+ghost use Rattle.oct_window.specs.BySets.{AreRight, AreSetsOf};
 ghost use Rattle.oct_window.specs.Watched.{count_after, IsMarkAt, IsStepped, IsWatchable, IsWatched, mark_after, seen_of};
 ghost use Rattle.oct_window.specs.declared.watch.Step.TheVariants.{Again, On};
 ghost use Rattle.oct_mex.specs.Windows.{window as width};
@@ -8,6 +9,7 @@ ghost use Rattle.oct_window.specs.Windows.{IsKnown, IsSameGame, IsShaped};
 
 use crate::window::{FARTHEST, MARKS, Window};
 use oct_mex::SeenPeriod;
+use oct_sets::Sets;
 use std::alloc::{AllocError, Allocator};
 
 /// A window, and the values that it had as last ones before the heap `at`. They are marked anew where it has gone as far
@@ -74,12 +76,39 @@ impl<A: Allocator + Copy> Watch<A> {
         ensures err { OnErr result (self.new ≡ self.old) }
         ensures stepped { IsWatched self.old → IfOk result (IsStepped self.new) }
     {
-        self.mark_if_due(alloc)?;
-        Ok(self.push_next(marks))
+        self.step_by(alloc, &mut None, marks)
     }
 
-    /// Steps on until the window is at the heap `end`, the marked values come again, or the window is lost. Where memory is
-    /// refused, some steps may have been made.
+    // A step by sets, where there are some, or else by a table of marks.
+    fn step_by(
+        &mut self,
+        alloc: A,
+        sets: &mut Option<Sets<A>>,
+        marks: &mut [bool],
+    ) -> Result<Step, AllocError>
+        requires watchable { IsWatchable self.old }
+        requires of { IfSome sets.old (AreSetsOf self.old.window) }
+        requires limited { self.old.window.count < FARTHEST }
+        requires marks { MARKS ≤ length marks.old }
+        ensures watchable { IsWatchable self.new }
+        ensures of { IfSome sets.new (AreSetsOf self.new.window) }
+        ensures same { IsSameGame self.old.window self.new.window }
+        ensures count { self.old.window.count ≤ self.new.window.count }
+        ensures next { IfOk result (λ step. self.new.window.count ≡ count_after step self.old.window.count) }
+        ensures mark { OnOk result (self.new.at ≡ mark_after self.old.at self.old.window.count) }
+        ensures behind { IfOk result (λ step. step ≡ On → self.new.at < self.new.window.count) }
+        ensures marks { length marks.new ≡ length marks.old }
+        ensures err { OnErr result (self.new ≡ self.old) }
+        ensures right { IsWatched self.old → IfSome sets.old (AreRight self.old.window) → IfSome sets.new (AreRight self.new.window) }
+        ensures stepped { IsWatched self.old → IfSome sets.old (AreRight self.old.window) → IfOk result (IsStepped self.new) }
+    {
+        self.mark_if_due(alloc)?;
+        Ok(self.push_next(sets, marks))
+    }
+
+    /// Steps on until the window is at the heap `end`, the marked values come again, or the window is lost: by sets, as far as
+    /// there is memory for them, which is given back. Where it is refused for values that are marked anew, some steps may have
+    /// been made.
     pub fn go_to(&mut self, alloc: A, end: usize, marks: &mut [bool]) -> Result<Step, AllocError>
         requires watchable { IsWatchable self.old }
         requires limited { end ≤ FARTHEST }
@@ -96,8 +125,9 @@ impl<A: Allocator + Copy> Watch<A> {
         ensures marks { length marks.new ≡ length marks.old }
         ensures stepped { IsWatched self.old → IfOk result (IsStepped self.new) }
     {
+        let mut sets = self.window.sets(alloc);
         while self.window.count < end {
-            let step = self.step(alloc, marks)?;
+            let step = self.step_by(alloc, &mut sets, marks)?;
             if !matches!(step, Step::On) {
                 return Ok(step);
             }
@@ -123,20 +153,23 @@ impl<A: Allocator + Copy> Watch<A> {
     }
 
     // Adds the next value, and says whether the marked values come again with it.
-    fn push_next(&mut self, marks: &mut [bool]) -> Step
+    fn push_next(&mut self, sets: &mut Option<Sets<A>>, marks: &mut [bool]) -> Step
         requires watchable { IsWatchable self.old }
+        requires of { IfSome sets.old (AreSetsOf self.old.window) }
         requires fresh { self.old.window.count < 2 * self.old.at }
         requires limited { self.old.window.count < FARTHEST }
         requires marks { MARKS ≤ length marks.old }
         ensures watchable { IsWatchable self.new }
+        ensures of { IfSome sets.new (AreSetsOf self.new.window) }
         ensures same { IsSameGame self.old.window self.new.window }
         ensures next { self.new.window.count ≡ count_after result self.old.window.count }
         ensures mark { self.new.at ≡ self.old.at }
         ensures behind { result ≡ On → self.new.at < self.new.window.count }
         ensures marks { length marks.new ≡ length marks.old }
-        ensures stepped { IsWatched self.old → IsStepped self.new result }
+        ensures right { IsWatched self.old → IfSome sets.old (AreRight self.old.window) → IfSome sets.new (AreRight self.new.window) }
+        ensures stepped { IsWatched self.old → IfSome sets.old (AreRight self.old.window) → IsStepped self.new result }
     {
-        if !self.window.push_next(marks) {
+        if !self.window.push_by(sets, marks) {
             return Step::Lost;
         }
         if self.window.ends_with(&self.mark) {

@@ -136,7 +136,7 @@ impl<A: Allocator + Copy> Window<A> {
     }
 
     // Makes room for a value where there is none: those between the small heaps and the last ones are forgotten.
-    fn make_room(&mut self)
+    pub(crate) fn make_room(&mut self)
         requires { IsShaped self.old }
         ensures shaped { IsShaped self.new }
         ensures room { vec_len self.new.held < vec_capacity self.new.held }
@@ -165,7 +165,7 @@ impl<A: Allocator + Copy> Window<A> {
     }
 
     // Adds the next value, for which there is room.
-    fn push(&mut self, cell: u16)
+    pub(crate) fn push(&mut self, cell: u16)
         requires shaped { IsShaped self.old }
         requires limited { self.old.count < FARTHEST }
         requires room { vec_len self.old.held < vec_capacity self.old.held }

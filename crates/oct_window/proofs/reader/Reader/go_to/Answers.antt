@@ -3,7 +3,7 @@ use Rattle.std.proofs.lemmas.Grind.{common_steps}
 use Rattle.oct_window.proofs.reader.Reader.go_to.Goals as goal
 
 pub returns-then-is_none-clause-right : goal.returns-then-is_none-clause-right
-returns-then-is_none-clause-right g c code right = c.next.ensures.right code (c.loop.invariant.right code right)
+returns-then-is_none-clause-right g c code right = c.next.ensures.right code (c.loop.invariant.right code right) (c.loop.invariant.sets code right)
 
 pub loop-preserved : goal.loop-preserved
 loop-preserved g c = record {
@@ -11,5 +11,7 @@ loop-preserved g c = record {
   heap = grind (arith, common_steps);
   more = omega arith;
   most = omega arith;
-  right = λ code right. c.next.ensures.right code (c.loop.invariant.right code right);
+  of = c.next.ensures.of;
+  right = λ code right. c.next.ensures.right code (c.loop.invariant.right code right) (c.loop.invariant.sets code right);
+  sets = λ code right. c.next.ensures.sets code (c.loop.invariant.right code right) (c.loop.invariant.sets code right);
 }

@@ -1,4 +1,5 @@
-use Rattle.std.proofs.Common.{◌≡◌, ℕ, ◌-◌, ◌<◌, ◌≤◌, length, max}
+use Rattle.std.proofs.Common.{◌≡◌, ℕ, ◌-◌, ◌<◌, ◌≤◌, length, max, IfSome}
+use Rattle.oct_window.specs.BySets.{AreRight, AreSetsOf}
 use Rattle.oct_window.specs.Watched.{IsMarkAt, IsWatchable, IsWatched}
 use Rattle.oct_window.specs.Windows.{IsSameGame}
 use Rattle.oct_window.proofs.watch.Watch.go_to.Given as goal
@@ -6,6 +7,8 @@ use Rattle.oct_window.proofs.watch.Watch.go_to.Given as goal
 abbrev pub invariant-loop-self : goal.invariant-loop-self
 invariant-loop-self g l = record {
   watchable : IsWatchable l.self;
+  of : IfSome l.sets (AreSetsOf l.self.window);
+  right : IsWatched l.fn.self → IfSome l.sets (AreRight l.self.window);
   same : IsSameGame l.fn.self.window l.self.window;
   most : l.self.window.count ≤ max l.end l.fn.self.window.count;
   marks : length l.marks ≡ length l.fn.marks;
