@@ -1,5 +1,5 @@
 -- What a further search says of the period of a note.
-use Rattle.std.specs.Prelude.{◌≡◌, ℕ, ◌+◌, ◌*◌, ◌==◌, ◌≤◌, nat_le, Bool, true, false, ◌&&◌, ◌++◌, codes, Option, Some, None, if◌then◌else◌}
+use Rattle.std.specs.Prelude.{◌≡◌, ℕ, ◌+◌, ◌*◌, ◌==◌, ◌≤◌, nat_le, Bool, true, false, ◌&&◌, List, ◌++◌, codes, Option, Some, None, if◌then◌else◌}
 use Rattle.oct_code.specs.Code.{Code, len}
 use Rattle.oct_code.specs.CodeText.{code_text}
 use Rattle.oct_mex.specs.declared.period.SeenPeriod.{SeenPeriod}
@@ -11,6 +11,8 @@ use Rattle.oct_search.specs.declared.search.TheConstants.{MOST}
 use Rattle.oct_text.specs.Words.{Text, dot_text, labelled}
 use Rattle.oct_window.specs.Seeking.{IsPast}
 use Rattle.oct_said.specs.Lines.{period_text}
+use Rattle.oct_proved.specs.Periods.{with_period}
+use Rattle.oct_proved.specs.declared.periods.ProvedPeriod.{ProvedPeriod}
 use Rattle.oct_said.specs.declared.noting.PeriodNote.{PeriodNote}
 
 -- how many nim-values show the period by themselves
@@ -64,6 +66,15 @@ IsSaidBy note (Some said) is_so line = IsRecheckedBy note.code said (needed note
 
 abbrev pub IsRechecked : PeriodNote → Bool → Text → Type 0
 IsRechecked note is_so line = IsSaidBy note note.said is_so line
+
+-- the periods that are proved, with that of the note where it is so
+abbrev pub with_said : List ProvedPeriod → Code → Bool → Option SeenPeriod → List ProvedPeriod
+with_said proved c is_so None = proved
+with_said proved c true (Some said) = with_period proved c said
+with_said proved c false (Some said) = proved
+
+abbrev pub with_rechecked : List ProvedPeriod → PeriodNote → Bool → List ProvedPeriod
+with_rechecked proved note is_so = with_said proved note.code is_so note.said
 
 -- ---- faults
 

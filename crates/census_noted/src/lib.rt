@@ -9,7 +9,8 @@
 //!
 //! - `note_period` issues the note of a period, if no live note says the same.
 //! - `period_notes` gives the live notes of such names, and `recheck` searches the game of one again, and tells how far it is.
-//! - `laws` says that what a search says is so holds for every heap.
+//! - `recheck_into` does so too, and adds the period to those that are proved where it is so.
+//! - `laws` says that what a search says is so holds for every heap, and is the least period of its game.
 #![tactic(auto)]
 
 pub mod laws;
@@ -18,4 +19,4 @@ mod rechecking;
 mod searching;
 
 pub use noting::{note_period, period_notes};
-pub use rechecking::{Rechecked, recheck};
+pub use rechecking::{Rechecked, recheck, recheck_into};

@@ -1,12 +1,14 @@
 //! Searches again for the periods that notes say.
 
-ghost use Rattle.std.specs.Prelude.{◌≡◌, ◌≤◌, ◌++◌, IfOk, IfErr, OnOk};
-ghost use Rattle.census_noted.specs.Rechecking.{IsRecheckFault, IsRechecked, IsSearchFault, IsSearchedFor, end_words, far_line, is_same, needed, silent_line, told_line};
+ghost use Rattle.std.specs.Prelude.{◌≡◌, ◌≤◌, ◌++◌, IfOk, IfErr, OnErr, OnOk};
+ghost use Rattle.census_noted.specs.Rechecking.{IsRecheckFault, IsRechecked, IsSearchFault, IsSearchedFor, end_words, far_line, is_same, needed, silent_line, told_line, with_rechecked};
 
+use crate::laws::what_is_so_is_least;
 use crate::searching::search_told;
 use oct_code::Code;
 use oct_mex::SeenPeriod;
 use oct_ops::Dot;
+use oct_proved::ProvedPeriods;
 use oct_said::{PeriodNote, append_period};
 use oct_search::{MOST, Search, SearchError};
 use oct_text::{append_labelled, append_labelled_dot, append_text};
@@ -50,6 +52,29 @@ pub fn recheck<A: Allocator + Copy, P: Progress>(
             is_so: false,
         }),
     }
+}
+
+/// Searches again as `recheck` does, and where the period that the note says is so, adds it to those that are proved: then it is the
+/// least period of the game. The error is that of `recheck`; then nothing is added.
+pub fn recheck_into<A: Allocator + Copy, B: Allocator, P: Progress>(
+    alloc: A,
+    proved: &mut ProvedPeriods<B>,
+    note: &PeriodNote,
+    progress: &mut P,
+) -> Result<Rechecked<A>, SearchError>
+    ensures ok { IfOk result (λ done. IsRechecked note.now done.is_so done.line.items) }
+    ensures added { IfOk result (λ done. proved.new ≡ with_rechecked proved.old note.now done.is_so) }
+    ensures kept { OnErr result (proved.new ≡ proved.old) }
+    ensures err { IfErr result (IsRecheckFault note.now) }
+{
+    let done = recheck(alloc, note, progress)?;
+    what_is_so_is_least();
+    if let Some(said) = note.said
+        && done.is_so
+    {
+        proved.add(note.code, said)?;
+    }
+    Ok(done)
 }
 
 // How many nim-values show the period by themselves, if a search computes so many.

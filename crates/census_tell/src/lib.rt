@@ -23,6 +23,7 @@ pub use database::sql_script;
 pub use moving::move_text;
 pub use oct_overview::{Condition, Listing};
 pub use oct_pages::{GameProgress, Unwatched};
+pub use oct_proved::ProvedPeriods;
 pub use oct_views::Beside;
 pub use overview::{games, list_games, show_only, stream_only};
 pub use plotting::plot_heaps;

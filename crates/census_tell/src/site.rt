@@ -19,6 +19,7 @@ use oct_json::write_game_json;
 use oct_overview::{LeastPeriod, with_least};
 use oct_pages::{GameSheet, game_of};
 use oct_plot::write_plot;
+use oct_proved::ProvedPeriods;
 use oct_record::Record;
 use oct_sheet::{Remarks, Summary};
 use oct_views::{Beside, write_game_html, write_index, write_style};
@@ -46,21 +47,23 @@ pub trait Folder {
 }
 
 /// Puts the files of the site of a state into the folder, as `specs/Site` says which: each once, the index last. Where the page
-/// that computes stands beside them, each game has a link to it; its files are not among these. The games are built one after
+/// that computes stands beside them, each game has a link to it; its files are not among these. The periods that searches proved are
+/// shown as proved by this program, in the HTML of their games and in the index, and no others are. The games are built one after
 /// another, and each is let go before the next. The fault is that of the state, before any file is put there; else it is that of
 /// the folder, or `OutOfMemory`.
 pub fn write_site<S: Folder>(
     alloc: Global,
     state: &[u8],
     beside: Beside,
+    proved: &ProvedPeriods<Global>,
     folder: &mut S,
 ) -> Result<(), Fault>
-    ensures ok { OnOk result (IsSite S.puts beside state.now folder.old folder.new) }
-    ensures err { IfErr result (IsSiteFault S.refuses beside state.now) }
-    ensures unread { IfErr (site_of beside state.now) (λ e. folder.new ≡ folder.old) }
+    ensures ok { OnOk result (IsSite S.puts beside proved.now state.now folder.old folder.new) }
+    ensures err { IfErr result (IsSiteFault S.refuses beside proved.now state.now) }
+    ensures unread { IfErr (site_of beside proved.now state.now) (λ e. folder.new ≡ folder.old) }
 {
     let held = load(alloc, state)?;
-    put_site(alloc, &held, beside, folder)
+    put_site(alloc, &held, beside, proved, folder)
 }
 
 // Puts all files of the site there.
@@ -68,17 +71,18 @@ fn put_site<S: Folder>(
     alloc: Global,
     held: &Record<Global>,
     beside: Beside,
+    proved: &ProvedPeriods<Global>,
     folder: &mut S,
 ) -> Result<(), Fault>
-    ensures ok { OnOk result (Filled S.puts folder.old (site beside (sheet (listed held.now.ops))) folder.new) }
+    ensures ok { OnOk result (Filled S.puts folder.old (site beside proved.now (sheet (listed held.now.ops))) folder.new) }
     ensures err { IfErr result (IsPutFault S.refuses) }
 {
     folder.put(b"census-site", b"census site 1\n")?;
     put_style(alloc, folder)?;
     let remarks = Remarks::of_record(held)?;
     let mut rows = Vec::new(alloc);
-    put_games(alloc, held, beside, &remarks, &mut rows, folder)?;
-    put_index(alloc, held, &rows, folder)
+    put_games(alloc, held, beside, proved, &remarks, &mut rows, folder)?;
+    put_index(alloc, held, proved, &rows, folder)
 }
 
 // Puts the style sheet there.
@@ -96,12 +100,13 @@ fn put_games<S: Folder>(
     alloc: Global,
     held: &Record<Global>,
     beside: Beside,
+    proved: &ProvedPeriods<Global>,
     remarks: &Remarks<'_, Global>,
     rows: &mut Vec<Summary>,
     folder: &mut S,
 ) -> Result<(), Fault>
     ensures rows { OnOk result (rows.new.items ≡ rows.old.items ++ map (shown_summary remarks.now) (sheet (listed held.now.ops)).games) }
-    ensures put { OnOk result (Filled S.puts folder.old (flat_map (shown_files beside remarks.now) (sheet (listed held.now.ops)).games) folder.new) }
+    ensures put { OnOk result (Filled S.puts folder.old (flat_map (shown_files beside proved.now remarks.now) (sheet (listed held.now.ops)).games) folder.new) }
     ensures err { IfErr result (IsPutFault S.refuses) }
 {
     let games = held.games();
@@ -109,7 +114,9 @@ fn put_games<S: Folder>(
     let mut done = 0;
     for (code, ops) in games.iter() {
         folder.tell(*code, done, all);
-        put_game(alloc, held, *code, ops, beside, remarks, rows, folder)?;
+        put_game(
+            alloc, held, *code, ops, beside, proved, remarks, rows, folder,
+        )?;
         done = done.saturating_add(1);
     }
     Ok(())
@@ -122,13 +129,14 @@ fn put_game<S: Folder>(
     code: Code,
     ops: &OpSet<Global>,
     beside: Beside,
+    proved: &ProvedPeriods<Global>,
     remarks: &Remarks<'_, Global>,
     rows: &mut Vec<Summary>,
     folder: &mut S,
 ) -> Result<(), Fault>
     requires { ops.now ≡ summary.of_game held.now.ops code }
     ensures rows { OnOk result (rows.new.items ≡ rows.old.items ++ shown_summary remarks.now (game_sheet (listed held.now.ops) code) ∷ []) }
-    ensures put { OnOk result (Filled S.puts folder.old (shown_files beside remarks.now (game_sheet (listed held.now.ops) code)) folder.new) }
+    ensures put { OnOk result (Filled S.puts folder.old (shown_files beside proved.now remarks.now (game_sheet (listed held.now.ops) code)) folder.new) }
     ensures err { IfErr result (IsPutFault S.refuses) }
 {
     let game = game_of(held, code)?;
@@ -137,7 +145,7 @@ fn put_game<S: Folder>(
     let least = LeastPeriod::of(&sheet, &found);
     let shown = with_least(sheet, &found);
     Summary::add(rows, &shown, remarks)?;
-    put_sheet(alloc, &shown, &least, beside, remarks, folder)
+    put_sheet(alloc, &shown, &least, beside, proved, remarks, folder)
 }
 
 // Puts the files of a game with this least period there.
@@ -146,17 +154,18 @@ fn put_sheet<S: Folder>(
     game: &GameSheet<'_, Global>,
     least: &Option<LeastPeriod>,
     beside: Beside,
+    proved: &ProvedPeriods<Global>,
     remarks: &Remarks<'_, Global>,
     folder: &mut S,
 ) -> Result<(), Fault>
     requires { least.now ≡ period_of (game_content game.now) }
-    ensures ok { OnOk result (Filled S.puts folder.old (files_of beside remarks.now (game_content game.now)) folder.new) }
+    ensures ok { OnOk result (Filled S.puts folder.old (files_of beside proved.now remarks.now (game_content game.now)) folder.new) }
     ensures err { IfErr result (IsPutFault S.refuses) }
 {
     put_picture(alloc, game, folder)?;
     put_bfile(alloc, game, folder)?;
     put_json(alloc, game, remarks, least, folder)?;
-    put_html(alloc, game, beside, remarks, folder)
+    put_html(alloc, game, beside, proved, remarks, folder)
 }
 
 // Puts the picture of a game there.
@@ -210,14 +219,15 @@ fn put_html<S: Folder>(
     alloc: Global,
     game: &GameSheet<'_, Global>,
     beside: Beside,
+    proved: &ProvedPeriods<Global>,
     remarks: &Remarks<'_, Global>,
     folder: &mut S,
 ) -> Result<(), Fault>
-    ensures ok { OnOk result (S.puts folder.old (html_of beside remarks.now (game_content game.now)).name (html_of beside remarks.now (game_content game.now)).bytes folder.new) }
+    ensures ok { OnOk result (S.puts folder.old (html_of beside proved.now remarks.now (game_content game.now)).name (html_of beside proved.now remarks.now (game_content game.now)).bytes folder.new) }
     ensures err { IfErr result (IsPutFault S.refuses) }
 {
     let mut bytes = Vec::new(alloc);
-    write_game_html(beside, remarks, game, &mut bytes)?;
+    write_game_html(beside, proved, remarks, game, &mut bytes)?;
     put_named(alloc, &game.code, b".html", &bytes, folder)
 }
 
@@ -242,13 +252,14 @@ fn put_named<S: Folder>(
 fn put_index<S: Folder>(
     alloc: Global,
     held: &Record<Global>,
+    proved: &ProvedPeriods<Global>,
     rows: &[Summary],
     folder: &mut S,
 ) -> Result<(), Fault>
-    ensures ok { OnOk result (S.puts folder.old (codes "index.html") (index_by rows.now (sheet (listed held.now.ops))) folder.new) }
+    ensures ok { OnOk result (S.puts folder.old (codes "index.html") (index_by proved.now rows.now (sheet (listed held.now.ops))) folder.new) }
     ensures err { IfErr result (IsPutFault S.refuses) }
 {
     let mut bytes = Vec::new(alloc);
-    write_index(held, rows, &mut bytes)?;
+    write_index(held, proved, rows, &mut bytes)?;
     folder.put(b"index.html", &bytes)
 }

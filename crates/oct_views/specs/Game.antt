@@ -7,6 +7,7 @@ use Rattle.oct_code.specs.CodeText.{code_text}
 use Rattle.oct_ops.specs.Body.{Operation}
 use Rattle.oct_ops.specs.Operation.{Dot, Period}
 use Rattle.oct_text.specs.Words.{Text, dot_text}
+use Rattle.oct_mex.specs.declared.period.SeenPeriod.{SeenPeriod}
 use Rattle.oct_pages.specs.declared.statuses.BlockRow.{BlockRow}
 use Rattle.oct_pages.specs.declared.statuses.PeriodRow.{PeriodRow}
 use Rattle.oct_period.specs.declared.status.PeriodStatus.{PeriodStatus}
@@ -172,11 +173,21 @@ refuted_head c = concat (codes "<div id=\"refuted-" ∷ code_text c ∷ codes "\
 abbrev pub refuted_part : List Operation → GameSheet → Text
 refuted_part notes g = concat (refuted_head g.code ∷ refutations_tables notes g.blocks ∷ broken_tables notes g.values g.periods ∷ codes "</div>\n" ∷ [])
 
+-- the period that a search of this program proved
+abbrev pub found_paragraph : SeenPeriod → Text
+found_paragraph seen = concat (
+    codes "<p>Proved by this program: from heap " ∷ decimal seen.start ∷ codes " on the nim-values repeat with period " ∷ decimal seen.period ∷ codes ", for ever.</p>\n" ∷ [])
+
+-- in place of what the known values prove, where there is one
+abbrev pub told_or_found : Option SeenPeriod → GameSheet → Text
+told_or_found None g = told g.periods g.values g.proved
+told_or_found (Some seen) g = found_paragraph seen
+
 -- what is proved of all heaps, and what somebody says of them
-abbrev pub told_and_said : List Operation → GameSheet → Text
-told_and_said notes g = concat (told g.periods g.values g.proved ∷ said_paragraphs notes g.code ∷ [])
+abbrev pub told_and_said : Option SeenPeriod → List Operation → GameSheet → Text
+told_and_said found notes g = concat (told_or_found found g ∷ said_paragraphs notes g.code ∷ [])
 
 -- with what these notes say: the names of authors, what is withdrawn, and long periods
-abbrev pub game_tables : List Operation → Shown → GameSheet → Text
-game_tables notes how g = concat (
-    told_and_said notes g ∷ values_tables how g.values g.proved ∷ refuted_part notes g ∷ blocks_table notes g.blocks ∷ periods_table notes g.values g.periods ∷ [])
+abbrev pub game_tables : Option SeenPeriod → List Operation → Shown → GameSheet → Text
+game_tables found notes how g = concat (
+    told_and_said found notes g ∷ values_tables how g.values g.proved ∷ refuted_part notes g ∷ blocks_table notes g.blocks ∷ periods_table notes g.values g.periods ∷ [])

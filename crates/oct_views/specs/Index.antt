@@ -15,6 +15,7 @@ use Rattle.oct_views.specs.Columns.{cell, columns_of, heads}
 use Rattle.oct_views.specs.Game.{name_of_author, said_in_row}
 use Rattle.oct_sheet.specs.Names.{Called}
 use Rattle.oct_sheet.specs.Summary.{by_period, is_refuted}
+use Rattle.oct_proved.specs.declared.periods.ProvedPeriod.{ProvedPeriod}
 use Rattle.oct_tables.specs.Tables.{table}
 use Rattle.oct_views.specs.declared.columns.Column.{Column}
 use Rattle.oct_views.specs.declared.index.Links.{Links}
@@ -118,6 +119,16 @@ periods_table way rows = table (codes "Games by period") (codes "period" ∷ cod
 abbrev pub games_part : Links → List Operation → List Summary → Text
 games_part way notes rows = concat (
     totals rows ∷ refuted_table way standing.Stands rows ∷ refuted_table way standing.Withdrawn rows ∷ games_table way notes rows ∷ codes "</div>\n<div id=\"periods\">\n" ∷ periods_table way rows ∷ [])
+
+-- ---- periods that searches of this program proved
+
+abbrev pub proved_row : ProvedPeriod → Text
+proved_row p = concat (
+    codes "<tr><th scope=\"row\">" ∷ decimal p.seen.period ∷ codes "</th><td>" ∷ decimal p.seen.start ∷ codes "</td><td>" ∷ code_text p.code ∷ codes "</td></tr>\n" ∷ [])
+
+-- those, and no others
+abbrev pub proved_table : List ProvedPeriod → Text
+proved_table proved = table (codes "Periods proved by this program") (codes "period" ∷ codes "start" ∷ codes "code" ∷ []) (flat_map proved_row proved)
 
 -- ---- notes, forks, authors
 

@@ -8,7 +8,9 @@ use Rattle.oct_ops.specs.Body.{Operation}
 use Rattle.oct_ops.specs.Operation.{Period}
 use Rattle.oct_text.specs.Words.{Text}
 use Rattle.oct_views.specs.Game.{game_tables}
-use Rattle.oct_views.specs.Index.{authors_table, forks_table, games_part, notes_table}
+use Rattle.oct_views.specs.Index.{authors_table, forks_table, games_part, notes_table, proved_table}
+use Rattle.oct_proved.specs.Periods.{period_in}
+use Rattle.oct_proved.specs.declared.periods.ProvedPeriod.{ProvedPeriod}
 use Rattle.oct_plot.specs.Plot.{pictured, plot_with, title}
 use Rattle.oct_overview.specs.Line.{with_least}
 use Rattle.oct_sheet.specs.Names.{author_name}
@@ -68,7 +70,7 @@ abbrev pub figure : Shown → GameSheet → Text
 figure how g = concat (section_head g.code ∷ plot_with [] g.code (front_values how g.values g.proved) g.proved ∷ figure_end g.proved ∷ [])
 
 abbrev pub section : List Operation → Shown → GameSheet → Text
-section notes how g = concat (figure how g ∷ game_tables notes how g ∷ codes "<p><a href=\"#games\">All games</a></p>\n</section>\n" ∷ [])
+section notes how g = concat (figure how g ∷ game_tables None notes how g ∷ codes "<p><a href=\"#games\">All games</a></p>\n</section>\n" ∷ [])
 
 -- each game is shown with the least period that its known values prove, whether or not somebody claimed it
 abbrev pub shown_summary : List Operation → GameSheet → Summary
@@ -84,12 +86,12 @@ report how s = concat (
 
 -- ---- the files of a site
 
--- the table of all games
-abbrev pub index_by : List Summary → Sheet → Text
-index_by rows s = concat (games_head style_link ∷ games_part Files s.remarks rows ∷ records_part s ∷ html_end ∷ [])
+-- the table of all games, and the periods that searches of this program proved
+abbrev pub index_by : List ProvedPeriod → List Summary → Sheet → Text
+index_by proved rows s = concat (games_head style_link ∷ games_part Files s.remarks rows ∷ proved_table proved ∷ records_part s ∷ html_end ∷ [])
 
-abbrev pub index : Sheet → Text
-index s = index_by (map (shown_summary s.remarks) s.games) s
+abbrev pub index : List ProvedPeriod → Sheet → Text
+index proved s = index_by proved (map (shown_summary s.remarks) s.games) s
 
 -- the picture of a game, which is a file beside its HTML
 abbrev pub image_head : Code → Text → Text
@@ -115,9 +117,10 @@ abbrev pub page_link : Beside → Code → Text
 page_link Nothing c = []
 page_link Page c = concat (codes "<p><a href=\"compute.html?code=" ∷ code_text c ∷ codes "\">Compute it here</a>, in this browser</p>\n" ∷ [])
 
--- a game as a file of a site
-abbrev pub game_html : Beside → List Operation → GameSheet → Text
-game_html beside notes g = concat (game_head g.code (length g.values) ∷ page_link beside g.code ∷ image g.code g.values g.proved ∷ game_tables notes Brief g ∷ html_end ∷ [])
+-- a game as a file of a site, with its period where it is among those that searches of this program proved
+abbrev pub game_html : Beside → List ProvedPeriod → List Operation → GameSheet → Text
+game_html beside proved notes g = concat (
+    game_head g.code (length g.values) ∷ page_link beside g.code ∷ image g.code g.values g.proved ∷ game_tables (period_in proved g.code) notes Brief g ∷ html_end ∷ [])
 
 abbrev pub style_sheet : Text
 style_sheet = html_style ++ codes "\n"

@@ -4,13 +4,15 @@
 ghost use Rattle.std.specs.Prelude.{◌≡◌, ◌++◌, OnOk};
 ghost use Rattle.oct_ops.specs.Growth.{Extends};
 ghost use Rattle.oct_pages.specs.Contents.{game_content};
-ghost use Rattle.oct_views.specs.Game.{blocks_table, broken_table, broken_tables, game_tables, periods_table, refutations_table, refutations_tables, refuted_head, refuted_part, told, told_and_said, unclaimed};
+ghost use Rattle.oct_views.specs.Game.{blocks_table, broken_table, broken_tables, game_tables, periods_table, refutations_table, refutations_tables, refuted_head, refuted_part, told, told_and_said, told_or_found, unclaimed};
 
 use crate::blocks_tables::{append_block_rows, append_refuted_rows};
 use crate::periods_table::{append_broken_rows, append_period_rows};
+use crate::proved::append_found;
 use crate::said::append_said_paragraphs;
 use crate::standing::Standing;
 use oct_code::Code;
+use oct_mex::SeenPeriod;
 use oct_ops::Period;
 use oct_overview::claimed_in;
 use oct_pages::{BlockRow, GameSheet, PeriodRow};
@@ -22,17 +24,19 @@ use oct_text::{Shown, append_pieces};
 use std::alloc::{AllocError, Allocator};
 
 /// Appends what is proved of all heaps and what somebody says of them, the values, what is refuted, the blocks and the claims, with
-/// what these remarks say of them.
+/// what these remarks say of them. Where a search of this program proved a period, that is told in place of what the known values
+/// prove.
 pub(crate) fn append_game_tables<'n, A: Allocator + Copy, B: Allocator + Copy + 'n>(
     out: &mut Vec<u8, A>,
+    found: Option<SeenPeriod>,
     remarks: &Remarks<'n, B>,
     how: Shown,
     game: &GameSheet<'_, B>,
 ) -> Result<(), AllocError>
-    ensures ok { OnOk result (out.new.items ≡ out.old.items ++ game_tables remarks.now how (game_content game.now)) }
+    ensures ok { OnOk result (out.new.items ≡ out.old.items ++ game_tables found remarks.now how (game_content game.now)) }
     ensures grown { Extends out.old.items out.new.items }
 {
-    append_told_and_said(out, remarks, game)?;
+    append_told_and_said(out, found, remarks, game)?;
     append_values_tables(out, how, game.values, &game.proved)?;
     append_refuted(out, remarks, game)?;
     append_blocks(out, remarks, &game.blocks)?;
@@ -80,17 +84,33 @@ fn append_claims<'n, A: Allocator + Copy, B: Allocator + Copy + 'n>(
 // Appends what is proved of all heaps, and what somebody says of them.
 fn append_told_and_said<'n, A: Allocator, B: Allocator + Copy + 'n>(
     out: &mut Vec<u8, A>,
+    found: Option<SeenPeriod>,
     remarks: &Remarks<'n, B>,
     game: &GameSheet<'_, B>,
 ) -> Result<(), AllocError>
-    ensures ok { OnOk result (out.new.items ≡ out.old.items ++ told_and_said remarks.now (game_content game.now)) }
+    ensures ok { OnOk result (out.new.items ≡ out.old.items ++ told_and_said found remarks.now (game_content game.now)) }
     ensures grown { Extends out.old.items out.new.items }
 {
-    append_told(out, game)?;
+    append_told_or_found(out, found, game)?;
     append_said_paragraphs(out, remarks, game.code)
 }
 
-// Appends what is proved of all heaps.
+// Appends the period that a search proved, or else what the known values prove of all heaps.
+fn append_told_or_found<A: Allocator, B: Allocator + Copy>(
+    out: &mut Vec<u8, A>,
+    found: Option<SeenPeriod>,
+    game: &GameSheet<'_, B>,
+) -> Result<(), AllocError>
+    ensures ok { OnOk result (out.new.items ≡ out.old.items ++ told_or_found found (game_content game.now)) }
+    ensures grown { Extends out.old.items out.new.items }
+{
+    match found {
+        Some(seen) => append_found(out, seen),
+        None => append_told(out, game),
+    }
+}
+
+// Appends what the known values prove of all heaps.
 fn append_told<A: Allocator, B: Allocator + Copy>(
     out: &mut Vec<u8, A>,
     game: &GameSheet<'_, B>,

@@ -4,12 +4,12 @@
 //! bytes:
 //!
 //!     write_report(&said, how, &mut text)?; // all that the record says
-//!     write_index(&said, &rows, &mut text)?; // the front of a site
+//!     write_index(&said, &proved, &rows, &mut text)?; // the front of a site
 //!
 //! - A *report* is one text, which shows all of a record, or of a part of it. `stream_report` writes it piece by piece, builds the
 //!   games one after another, and keeps only those that are dear; `write_report` appends it to a text.
 //! - A *site* is a folder with a file for each game. `write_game_html` writes that file, `write_index` an index of all games,
-//!   and `write_style` how they look.
+//!   and `write_style` how they look. Both show as proved by this program the periods that `oct_proved` holds, and no others.
 //! - `laws` says that a style loads nothing.
 //!
 //! What there is to show is a sheet (`oct_sheet`), and its tables and pictures are those of `oct_tables` and `oct_plot`.
@@ -23,6 +23,7 @@ mod index;
 mod kept;
 pub mod laws;
 mod periods_table;
+mod proved;
 mod records;
 mod report;
 mod said;

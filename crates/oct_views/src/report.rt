@@ -237,7 +237,7 @@ fn append_section<'n, A: Allocator + Copy, B: Allocator + Copy + 'n>(
     ensures grown { Extends out.old.items out.new.items }
 {
     append_figure(out, how, game)?;
-    append_game_tables(out, remarks, how, game)?;
+    append_game_tables(out, None, remarks, how, game)?;
     append_pieces(
         out,
         &[Text(b"<p><a href=\"#games\">All games</a></p>\n</section>\n")],

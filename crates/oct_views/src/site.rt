@@ -15,11 +15,13 @@ use crate::common::{
 };
 use crate::game_tables::append_game_tables;
 use crate::index::{Links, stream_games};
+use crate::proved::stream_proved;
 use crate::styles::HTML_STYLE;
 use oct_code::Code;
 use oct_ops::Period;
 use oct_pages::GameSheet;
 use oct_plot::{append_sentence, pictured, title_of};
+use oct_proved::ProvedPeriods;
 use oct_record::Record;
 use oct_sheet::{Remarks, Summary};
 use oct_text::Piece::{Code as CodeText, Number, Text};
@@ -38,36 +40,40 @@ pub enum Beside {
 
 /// Appends the HTML of a game, a file of a site beside `index.html`, `style.css`, and the game's picture, b-file and JSON,
 /// which have the code for their names: what is proved of all heaps, its values in short, its blocks and its claims, with
-/// what these remarks say: the names of authors, what is withdrawn, and long periods. The one error is that memory is refused, and then `out` stays as it is.
+/// what these remarks say: the names of authors, what is withdrawn, and long periods. Where the game is among those of which a
+/// search of this program proved a period, that period is shown as proved by this program, in place of what its values prove. The
+/// one error is that memory is refused, and then `out` stays as it is.
 pub fn write_game_html<'n, A: Allocator + Copy, B: Allocator + Copy + 'n>(
     beside: Beside,
+    proved: &ProvedPeriods<B>,
     remarks: &Remarks<'n, B>,
     game: &GameSheet<'_, B>,
     out: &mut Vec<u8, A>,
 ) -> Result<(), AllocError>
-    ensures ok { OnOk result (out.new.items ≡ out.old.items ++ game_html beside remarks.now (game_content game.now)) }
+    ensures ok { OnOk result (out.new.items ≡ out.old.items ++ game_html beside proved.now remarks.now (game_content game.now)) }
     ensures err { OnErr result (out.new.items ≡ out.old.items) }
 {
     let before = out.len();
-    let written = append_game_html(out, beside, remarks, game);
+    let written = append_game_html(out, beside, proved, remarks, game);
     if written.is_err() {
         out.truncate(before);
     }
     written
 }
 
-/// Appends the index of all games of these summaries, and of the notes, forks and authors of a record, with links to the
-/// HTML of the games. The one error is that memory is refused, and then `out` stays as it is.
+/// Appends the index of all games of these summaries, of the periods that searches of this program proved, and of the notes, forks
+/// and authors of a record, with links to the HTML of the games. The one error is that memory is refused, and then `out` stays as it is.
 pub fn write_index<A: Allocator + Copy>(
     said: &Record<A>,
+    proved: &ProvedPeriods<A>,
     rows: &[Summary],
     out: &mut Vec<u8, A>,
 ) -> Result<(), AllocError>
-    ensures ok { OnOk result (out.new.items ≡ out.old.items ++ index_by rows.now (sheet (listed said.now.ops))) }
+    ensures ok { OnOk result (out.new.items ≡ out.old.items ++ index_by proved.now rows.now (sheet (listed said.now.ops))) }
     ensures err { OnErr result (out.new.items ≡ out.old.items) }
 {
     let mut text = Vec::new(said.allocator());
-    match stream_index(said, rows, &mut text) {
+    match stream_index(said, proved, rows, &mut text) {
         Ok(()) => out.extend_from_slice(&text),
         Err(_) => Err(AllocError),
     }
@@ -90,16 +96,17 @@ pub fn write_style<A: Allocator>(out: &mut Vec<u8, A>) -> Result<(), AllocError>
 fn append_game_html<'n, A: Allocator + Copy, B: Allocator + Copy + 'n>(
     out: &mut Vec<u8, A>,
     beside: Beside,
+    proved: &ProvedPeriods<B>,
     remarks: &Remarks<'n, B>,
     game: &GameSheet<'_, B>,
 ) -> Result<(), AllocError>
-    ensures ok { OnOk result (out.new.items ≡ out.old.items ++ game_html beside remarks.now (game_content game.now)) }
+    ensures ok { OnOk result (out.new.items ≡ out.old.items ++ game_html beside proved.now remarks.now (game_content game.now)) }
     ensures grown { Extends out.old.items out.new.items }
 {
     append_game_head(out, &game.code, game.values.len())?;
     append_page_link(out, beside, &game.code)?;
     append_image(out, &game.code, game.values, &game.proved)?;
-    append_game_tables(out, remarks, Shown::Brief, game)?;
+    append_game_tables(out, proved.of(game.code), remarks, Shown::Brief, game)?;
     append_html_end(out)
 }
 
@@ -198,28 +205,31 @@ fn append_image_head<A: Allocator>(
 // Writes the index of all games.
 fn stream_index<A: Allocator + Copy, W: Write>(
     said: &Record<A>,
+    proved: &ProvedPeriods<A>,
     rows: &[Summary],
     out: &mut W,
 ) -> io::Result<()>
-    ensures { OnOk result (Appends (W.contents out.old) (W.contents out.new) (index_by rows.now (sheet (listed said.now.ops)))) }
+    ensures { OnOk result (Appends (W.contents out.old) (W.contents out.new) (index_by proved.now rows.now (sheet (listed said.now.ops)))) }
 {
     let mut piece = Vec::new(said.allocator());
-    stream_index_parts(said, rows, &mut piece, out)?;
+    stream_index_parts(said, proved, rows, &mut piece, out)?;
     out.write_all(&piece)
 }
 
 // Puts the index behind what stands in the piece, and writes the piece where it is large.
 fn stream_index_parts<A: Allocator + Copy, W: Write>(
     said: &Record<A>,
+    proved: &ProvedPeriods<A>,
     rows: &[Summary],
     piece: &mut Vec<u8, A>,
     out: &mut W,
 ) -> io::Result<()>
-    ensures { OnOk result (AppendsFront (W.contents out.old) (W.contents out.new) (piece.old.items ++ index_by rows.now (sheet (listed said.now.ops))) piece.new.items) }
+    ensures { OnOk result (AppendsFront (W.contents out.old) (W.contents out.new) (piece.old.items ++ index_by proved.now rows.now (sheet (listed said.now.ops))) piece.new.items) }
 {
     let remarks = Remarks::of_record(said)?;
     append_head(piece, STYLE_LINK)?;
     stream_games(Links::Files, &remarks, rows, piece, out)?;
+    stream_proved(proved, piece, out)?;
     stream_records(said, said, piece, out)?;
     append_html_end(piece)?;
     Ok(())

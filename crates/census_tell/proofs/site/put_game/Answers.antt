@@ -28,4 +28,4 @@ pub returns-clause-put : goal.returns-clause-put
 returns-clause-put g c =
     let is = c.in_ok-sheet.ensures ∙ sheet_by-is c.args.held.now.ops c.args.code c.in_ok-game.game c.args.ops.now c.in_ok-game.ensures c.requires in
     let shown = c.with_least-shown.ensures ∙ ap with_least is in
-    on_ok_weaker c.put_sheet.result (λ e. subst (λ s. Filled g.S.Folder.puts c.args.folder.now (files_of c.args.beside c.args.remarks.now s) c.put_sheet.new.folder) shown e) c.put_sheet.ensures.ok
+    on_ok_weaker c.put_sheet.result (λ e. subst (λ s. Filled g.S.Folder.puts c.args.folder.now (files_of c.args.beside c.args.proved.now c.args.remarks.now s) c.put_sheet.new.folder) shown e) c.put_sheet.ensures.ok

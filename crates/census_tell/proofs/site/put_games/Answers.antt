@@ -20,10 +20,10 @@ loop-code-init g c =
     let ordered = c.len-all.ensures.ordered in
     let all : c.into_iter-code-iterator.result ≡ games.entries = c.into_iter-code-iterator.ensures.into_iter_gives ∙ c.iter-code-items.ensures.rest in
     let row = λ (e : Code × Operations). shown_summary notes (game_sheet (listed ops) e.0) in
-    let files = λ (e : Code × Operations). shown_files c.args.beside notes (game_sheet (listed ops) e.0) in
+    let files = λ (e : Code × Operations). shown_files c.args.beside c.args.proved.now notes (game_sheet (listed ops) e.0) in
     record {
       rows = ap (λ t. c.args.rows.now.items ++ t) (ap (map row) all ∙ each_value ops games ordered c.games-games.ensures (shown_summary notes));
-      put = filling_begins g.S.Folder.puts c.args.folder.now _ _ (ap (flat_map files) all ∙ each_text ops games ordered c.games-games.ensures (shown_files c.args.beside notes));
+      put = filling_begins g.S.Folder.puts c.args.folder.now _ _ (ap (flat_map files) all ∙ each_text ops games ordered c.games-games.ensures (shown_files c.args.beside c.args.proved.now notes));
       held = subst (AreHeld ops) (sym all) (all_held ops games ordered c.games-games.ensures);
     }
 
@@ -32,9 +32,9 @@ loop-code-preserved g c =
     let ops = c.args.held.now.ops in
     let notes = c.args.remarks.now in
     let row = λ (e : Code × Operations). shown_summary notes (game_sheet (listed ops) e.0) in
-    let files = λ (e : Code × Operations). shown_files c.args.beside notes (game_sheet (listed ops) e.0) in
+    let files = λ (e : Code × Operations). shown_files c.args.beside c.args.proved.now notes (game_sheet (listed ops) e.0) in
     let here : Code × Operations = (c.in-Some.code.now, c.in-Some.ops.now) in
-    let all = flat_map (shown_files c.args.beside notes) (map (game_sheet (listed ops)) (games (listed ops))) in
+    let all = flat_map (shown_files c.args.beside c.args.proved.now notes) (map (game_sheet (listed ops)) (games (listed ops))) in
     let (mid, first, rest) = c.in_ok-put_game.ensures.put in
     record {
       rows = one_pushed row here c.next.new.self c.loop-code.rows.items c.put_game.new.rows.items _ c.in_ok-put_game.ensures.rows
@@ -48,7 +48,7 @@ pub returns-clause-put : goal.returns-clause-put
 returns-clause-put g c =
     let ops = c.args.held.now.ops in
     let notes = c.args.remarks.now in
-    let files = λ (e : Code × Operations). shown_files c.args.beside notes (game_sheet (listed ops) e.0) in
-    let all = flat_map (shown_files c.args.beside notes) (map (game_sheet (listed ops)) (games (listed ops))) in
+    let files = λ (e : Code × Operations). shown_files c.args.beside c.args.proved.now notes (game_sheet (listed ops) e.0) in
+    let all = flat_map (shown_files c.args.beside c.args.proved.now notes) (map (game_sheet (listed ops)) (games (listed ops))) in
     filling_ends g.S.Folder.puts c.args.folder.now c.loop-code.folder all
     (subst (λ es. Filling g.S.Folder.puts c.args.folder.now c.loop-code.folder (flat_map files es) all) c.in-None.ensures.steps.0 c.loop-code.invariant.put)

@@ -14,7 +14,7 @@ abbrev pub invariant-loop-code : goal.invariant-loop-code
 invariant-loop-code g l = record {
   rows : l.rows.items ++ map (λ (e : Code × Operations). shown_summary l.fn.remarks (game_sheet (listed l.fn.held.ops) e.0)) l.code-iterator
       ≡ l.fn.rows.items ++ map (shown_summary l.fn.remarks) (map (game_sheet (listed l.fn.held.ops)) (games (listed l.fn.held.ops)));
-  put : Filling g.S.Folder.puts l.fn.folder l.folder (flat_map (λ (e : Code × Operations). shown_files l.fn.beside l.fn.remarks (game_sheet (listed l.fn.held.ops) e.0)) l.code-iterator)
-      (flat_map (shown_files l.fn.beside l.fn.remarks) (map (game_sheet (listed l.fn.held.ops)) (games (listed l.fn.held.ops))));
+  put : Filling g.S.Folder.puts l.fn.folder l.folder (flat_map (λ (e : Code × Operations). shown_files l.fn.beside l.fn.proved l.fn.remarks (game_sheet (listed l.fn.held.ops) e.0)) l.code-iterator)
+      (flat_map (shown_files l.fn.beside l.fn.proved l.fn.remarks) (map (game_sheet (listed l.fn.held.ops)) (games (listed l.fn.held.ops))));
   held : AreHeld l.fn.held.ops l.code-iterator;
 }

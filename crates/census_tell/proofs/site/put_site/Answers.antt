@@ -1,4 +1,4 @@
-use Rattle.std.proofs.Common.{◌≡◌, ◌++◌, [], ◌∷◌, map, refl, ap, ◌∙◌, subst}
+use Rattle.std.proofs.Common.{◌++◌, [], ◌∷◌, map, refl, ◌∙◌, subst}
 use Rattle.std.proofs.lemmas.Result.{on_ok_weaker}
 use Rattle.std.specs.List.{flat_map}
 use Rattle.std.specs.Prelude.{codes}
@@ -22,9 +22,9 @@ returns-clause-ok g c =
       (
         c.put_style.new.folder,
         c.in_ok-put_style.ensures.ok,
-        filled_then puts c.put_style.new.folder c.put_games.new.folder c.put_index.new.folder (flat_map (shown_files c.args.beside all.remarks) all.games) (index_of all ∷ [])
-            (subst (λ notes. Filled puts c.put_style.new.folder (flat_map (shown_files c.args.beside notes) all.games) c.put_games.new.folder) c.in_ok-remarks.ensures c.in_ok-put_games.ensures.put)
-            (c.put_index.new.folder, subst (λ r. puts c.put_games.new.folder (codes "index.html") (index_by r all) c.put_index.new.folder) rows e, refl),
+        filled_then puts c.put_style.new.folder c.put_games.new.folder c.put_index.new.folder (flat_map (shown_files c.args.beside c.args.proved.now all.remarks) all.games) (index_of c.args.proved.now all ∷ [])
+            (subst (λ notes. Filled puts c.put_style.new.folder (flat_map (shown_files c.args.beside c.args.proved.now notes) all.games) c.put_games.new.folder) c.in_ok-remarks.ensures c.in_ok-put_games.ensures.put)
+            (c.put_index.new.folder, subst (λ r. puts c.put_games.new.folder (codes "index.html") (index_by c.args.proved.now r all) c.put_index.new.folder) rows e, refl),
       ),
     ))
     c.put_index.ensures.ok

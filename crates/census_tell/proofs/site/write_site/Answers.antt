@@ -13,7 +13,7 @@ returns-in_err-held-clause-unread g c = each_fault _ _ refl
 pub returns-clause-ok : goal.returns-clause-ok
 returns-clause-ok g c =
     on_ok_weaker c.put_site.result
-    (λ e. record { files = site c.args.beside (sheet (listed c.in_ok-held.held.ops)); are = then_with _ _ _ c.in_ok-held.ensures.ok; filled = e }) c.put_site.ensures.ok
+    (λ e. record { files = site c.args.beside c.args.proved.now (sheet (listed c.in_ok-held.held.ops)); are = then_with _ _ _ c.in_ok-held.ensures.ok; filled = e }) c.put_site.ensures.ok
 
 pub returns-clause-unread : goal.returns-clause-unread
 returns-clause-unread g c = no_fault _ _ _ (then_with _ _ _ c.in_ok-held.ensures.ok)

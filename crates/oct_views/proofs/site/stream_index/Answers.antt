@@ -11,7 +11,7 @@ use Rattle.oct_views.proofs.site.stream_index.Goals as goal
 pub returns : goal.returns
 returns g c =
     let contents = g.W.Write.contents in
-    let text = index_by c.args.rows.now (sheet (listed c.args.said.now.ops)) in
+    let text = index_by c.args.proved.now c.args.rows.now (sheet (listed c.args.said.now.ops)) in
     let mid = c.stream_index_parts.new.out in
     let piece = c.stream_index_parts.new.piece.items in
     let put = subst (λ front. AppendsFront (contents c.args.out.now) (contents mid) (front ++ text) piece) c.new-piece.ensures.items c.in_ok-stream_index_parts.ensures in
