@@ -8,7 +8,7 @@
 //!   of them, and gives a `Keeper` each `Place` that it comes to; `write_place` writes one, `read_search` reads it, and
 //!   `resume_in_windows` goes on from there.
 //! - `value_by_search` says which nim-value a position has, by a state or else by a search, and `move_by_search` names a winning
-//!   move. `plot_heaps` draws some heaps of a game of a state.
+//!   move of one. `plot_heaps` draws some heaps of a game of a state.
 //! - `check` compares a b-file with computed values, and `find_shift` says whether they are right at other heaps.
 //! - `stream_view` writes all that a state says, in a view, as it is made, and `stream_only` what it says of some games; a
 //!   `GameProgress` is told how far they are.
@@ -56,8 +56,8 @@ pub use census_state::{
     read_whole, rejoin, rejoined_text, unchanged, write_state,
 };
 pub use census_tell::{
-    Beside, Condition, Folder, GameProgress, Listing, Unwatched, list_games, plot_heaps,
-    sql_script, stream_only, stream_view, write_site,
+    Beside, Condition, Folder, GameProgress, Listing, ProvedPeriods, Unwatched, list_games,
+    plot_heaps, sql_script, stream_only, stream_view, write_site,
 };
 pub use command::{perform, perform_kept};
 pub use moving::move_by_search;

@@ -1,21 +1,16 @@
 -- What a search prints of a game: as lines, or as one line of JSON.
-use Rattle.std.specs.Prelude.{ℕ, nat_lt, List, [], ◌∷◌, ◌++◌, codes, Option, Some, None, if◌then◌else◌}
+use Rattle.std.specs.Prelude.{ℕ, List, [], ◌∷◌, ◌++◌, codes, Option, Some, None}
 use Rattle.std.specs.List.{flat_map}
 use Rattle.oct_code.specs.Code.{Code}
 use Rattle.oct_code.specs.CodeText.{code_text}
-use Rattle.oct_mex.specs.NimValues.{nim_value}
 use Rattle.oct_mex.specs.declared.period.SeenPeriod.{SeenPeriod}
 use Rattle.oct_ops.specs.Operation.{repeating}
 use Rattle.oct_text.specs.Words.{Text, labelled}
 use Rattle.oct_period.specs.Periods.{needs}
+use Rattle.oct_reach.specs.Reaching.{value_told}
 use Rattle.oct_text.specs.declared.form.Form.{Form}
 use Rattle.oct_text.specs.declared.form.Form.TheVariants.{Lines, Json}
 use Rattle.census_state.specs.PeriodTexts.{found_text, vain_line}
-
--- the nim-value of a heap, where a period is found, or where it is among those that were computed
-abbrev pub value_told : Code → Option SeenPeriod → ℕ → ℕ → Option ℕ
-value_told c (Some seen) values heap = Some (nim_value c heap)
-value_told c None values heap = if nat_lt heap values then Some (nim_value c heap) else None
 
 -- ---- lines
 

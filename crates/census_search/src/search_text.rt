@@ -6,11 +6,12 @@ ghost use Rattle.oct_search.specs.Found.{IsFound};
 ghost use Rattle.oct_ops.specs.Operation.{repeating};
 ghost use Rattle.oct_period.specs.Periods.{needs};
 ghost use Rattle.census_state.specs.PeriodTexts.{found_text};
-ghost use Rattle.census_search.specs.SearchTexts.{found_members, game_line, heap_line, heap_object, heaps_member, json_text, lines_text, period_line, period_members, period_words, search_text, value_member, value_text, value_told};
+ghost use Rattle.census_search.specs.SearchTexts.{found_members, game_line, heap_line, heap_object, heaps_member, json_text, lines_text, period_line, period_members, period_words, search_text, value_member, value_text};
 
 use census_state::append_vain_line;
 use oct_code::Code;
 use oct_mex::SeenPeriod;
+use oct_reach::heap_value;
 use oct_search::Search;
 use oct_text::{Form, append_labelled, append_text};
 use std::alloc::{AllocError, Global};
@@ -29,17 +30,6 @@ pub(crate) fn search_text(
     match form {
         Form::Lines => lines_text(alloc, game, found, heaps),
         Form::Json => json_text(alloc, game, found, heaps),
-    }
-}
-
-/// The nim-value of a heap, where a period is found, or where it is computed.
-pub(crate) fn value_told(game: &Search<Global>, found: Option<SeenPeriod>, heap: u64) -> Option<u16>
-    requires { IsFound game.now.code game.now.len found }
-    ensures { result ≡ value_told game.now.code found game.now.len heap }
-{
-    match found {
-        Some(seen) => Some(game.value_by(seen, heap)),
-        None => game.value(heap as usize),
     }
 }
 
@@ -70,7 +60,7 @@ fn lines_text(
             &mut text,
             game.code(),
             *heap,
-            value_told(game, found, *heap),
+            heap_value(game, found, *heap),
         )?;
     }
     Ok(text)
@@ -257,7 +247,7 @@ fn append_heap_object(
 {
     append_text(text, separator)?;
     append_labelled(text, b"{\"heap\":", heap)?;
-    append_value_member(text, value_told(game, found, heap))?;
+    append_value_member(text, heap_value(game, found, heap))?;
     append_text(text, b"}")
 }
 

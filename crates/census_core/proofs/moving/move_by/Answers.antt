@@ -1,25 +1,41 @@
-use Rattle.std.proofs.Common.{ap, subst, ◌∙◌}
-use Rattle.std.specs.Prelude.{IfOk}
+use Rattle.std.proofs.Common.{◌≡◌, ℕ, List, Option, Result, Ok, Err, refl, subst}
+use Rattle.std.specs.Prelude.{IfErr, IfOk}
+use Rattle.oct_code.specs.Code.{Code}
 use Rattle.oct_period.specs.Moving.{IsWinningAnswer}
-use Rattle.census_search.proofs.FirstGames.{move_first}
-use Rattle.census_search.specs.FirstGames.{first_move}
-use Rattle.census_core.specs.Moved.{known_or}
+use Rattle.oct_period.specs.declared.moving.Move.{Move}
+use Rattle.oct_period.specs.declared.unknown.Unknown.{Unknown}
+use Rattle.census_search.specs.Positions.{IsMoveReached}
+use Rattle.census_state.specs.declared.fault.Fault.{Fault}
+use Rattle.census_tell.specs.Moving.{move_of}
+use Rattle.census_core.specs.Moved.{IsMoveTold}
 use Rattle.census_core.proofs.moving.move_by.Goals as goal
 
-pub returns-in-Ok-clause-value : goal.returns-in-Ok-clause-value
-returns-in-Ok-clause-value c =
-    let other = first_move c.args.game.now.code c.args.count c.args.heaps.now in
-    ap (λ known. known_or known other) c.in-Ok.ensures.value
+abbrev Answer : Type 0
+Answer = Result (Option Move) Unknown
 
-pub returns-in_ok-searched-in-Err-clause-value : goal.returns-in_ok-searched-in-Err-clause-value
-returns-in_ok-searched-in-Err-clause-value c =
-    let game = c.in_ok-searched-in-Err.searched in
-    let heaps = c.args.heaps.now in
-    let count = c.args.count in
-    let other = first_move c.args.game.now.code count heaps in
-    c.winning_move-in-Err.ensures.value ∙ move_first c.code.result count game c.in_ok-searched-in-Err.ensures c.requires.some heaps ∙ ap (λ code. first_move code count heaps) c.code.ensures
-    ∙ ap (λ known. known_or known other) c.in-Err.ensures.value
+module _ (c : Code) (count : ℕ) (heaps : List ℕ) (given : Answer) where
+  -- the first answer is given
+  told_given : (found : Option Move) → Ok found ≡ given → IsWinningAnswer c heaps found → IsMoveTold c count heaps given (Ok found)
+  told_given found is play = record {
+    known = subst (λ (x : Answer). IfOk x (λ m. ◌≡◌ {A = Answer} (Ok found) (Ok m))) is refl;
+    reached = subst (λ (x : Answer). IfErr x (λ unknown. IsMoveReached c count heaps (Ok found))) is tt;
+    play = play;
+  }
 
-pub returns-in_ok-searched-in-Err-clause-play : goal.returns-in_ok-searched-in-Err-clause-play
-returns-in_ok-searched-in-Err-clause-play c =
-    subst (λ code. IfOk c.winning_move-in-Err.result (IsWinningAnswer code c.args.heaps.now)) (c.in_ok-searched-in-Err.ensures.code ∙ c.code.ensures) c.winning_move-in-Err.ensures.play
+  -- or a search gives it
+  told_reached : (d : Code) (answer : Result Answer Fault) (unknown : Unknown) → d ≡ c → Err unknown ≡ given → IfOk answer (IsMoveReached d count heaps) → IfOk answer (λ told. IfOk told (IsWinningAnswer d heaps))
+      → IfOk answer (IsMoveTold c count heaps given)
+  told_reached d (Ok told) unknown same is reached play = record {
+    known = subst (λ (x : Answer). IfOk x (λ m. ◌≡◌ {A = Answer} told (Ok m))) is tt;
+    reached = subst (λ (x : Answer). IfErr x (λ u. IsMoveReached c count heaps told)) is (subst (λ e. IsMoveReached e count heaps told) same reached);
+    play = subst (λ e. IfOk told (IsWinningAnswer e heaps)) same play;
+  }
+  told_reached d (Err fault) unknown same is reached play = tt
+
+pub returns-in-Ok-clause-ok : goal.returns-in-Ok-clause-ok
+returns-in-Ok-clause-ok g c =
+    told_given c.args.game.now.code c.args.count c.args.heaps.now (move_of c.args.game.now c.args.heaps.now) c.in-Ok.found c.in-Ok.ensures.value c.in-Ok.ensures.play
+
+pub returns-in-Err-clause-ok : goal.returns-in-Err-clause-ok
+returns-in-Err-clause-ok g c =
+    told_reached c.args.game.now.code c.args.count c.args.heaps.now (move_of c.args.game.now c.args.heaps.now) c.code.result c.reach_move.result c.in-Err.field-0 c.code.ensures c.in-Err.ensures.value c.reach_move.ensures.ok c.reach_move.ensures.play

@@ -7,7 +7,7 @@ use Rattle.census_search.specs.Positions.{IsReached}
 use Rattle.census_state.proofs.Stepping.{then_with}
 use Rattle.census_state.specs.Steps.{◌>>=◌, because}
 use Rattle.census_state.specs.declared.fault.Fault.TheVariants as fault
-use Rattle.census_tell.specs.Asking.{value_in, value_of}
+use Rattle.census_tell.specs.Asking.{value_of}
 use Rattle.census_core.proofs.reaching.value_by_search.Goals as goal
 use Rattle.census_core.proofs.reaching.value_by_search.Goals.{in-Ok, in-Err+in_ok-position-in-Err}
 

@@ -1,8 +1,8 @@
 use Rattle.std.proofs.Common.{◌≡◌, ap, subst, ◌∙◌, arith}
 use Rattle.oct_period.specs.Periods.{position_value_from}
+use Rattle.oct_reach.specs.Reaching.{value_told}
 use Rattle.oct_search.specs.Found.{IsFound}
 use Rattle.oct_search.specs.Known.{Known}
-use Rattle.census_search.specs.SearchTexts.{value_told}
 use Rattle.census_search.proofs.positions.reach.Goals as goal
 
 pub returns-clause-ok : goal.returns-clause-ok
@@ -18,5 +18,5 @@ returns-clause-ok g c =
       few = omega (arith, known.most, none);
       all = λ nothing. omega (arith, known.all nothing, none);
       period = subst (λ code. IsFound code game.len found) same known.found;
-      is = subst (λ code. c.position_told.result ≡ position_value_from (value_told code found game.len) 0 c.args.heaps.now) same c.position_told.ensures.value;
+      is = subst (λ code. c.position_value.result ≡ position_value_from (value_told code found game.len) 0 c.args.heaps.now) same c.position_value.ensures.value;
     }

@@ -1,11 +1,11 @@
 use Rattle.std.proofs.Common.{◌≡◌, bit_xor, drop}
 use Rattle.oct_mex.specs.NimValues.{position_value as nim_sum}
 use Rattle.oct_period.specs.Periods.{position_value_from, xor_onto}
-use Rattle.census_search.specs.SearchTexts.{value_told}
-use Rattle.census_search.proofs.positions.position_told.Given as goal
+use Rattle.oct_reach.specs.Reaching.{value_told}
+use Rattle.oct_reach.proofs.values.position_value.Given as goal
 
 abbrev pub invariant-loop-index : goal.invariant-loop-index
-invariant-loop-index l =
+invariant-loop-index g l =
     let value = value_told l.game.code l.found l.game.len in
     record {
       value : xor_onto l.total (position_value_from value l.index (drop l.index l.heaps)) ≡ position_value_from value 0 l.heaps;

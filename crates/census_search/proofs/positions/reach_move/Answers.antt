@@ -1,0 +1,28 @@
+use Rattle.std.proofs.Common.{◌≡◌, ap, refl, subst, ◌∙◌, arith}
+use Rattle.oct_period.specs.Moving.{winning_move_by}
+use Rattle.oct_period.specs.Periods.{position_value_from}
+use Rattle.oct_reach.specs.Reaching.{value_told}
+use Rattle.oct_search.specs.Found.{IsFound}
+use Rattle.oct_search.specs.Known.{Known}
+use Rattle.census_search.proofs.positions.reach_move.Goals as goal
+
+pub returns-clause-ok : goal.returns-clause-ok
+returns-clause-ok g c =
+    let known = c.in_ok-found.ensures in
+    let game = c.search_told.new.game in
+    let found = c.in_ok-found.found in
+    let heaps = c.args.heaps.now in
+    let none = ap (λ (k : Known). k.len) c.new-game.ensures in
+    let same = known.code ∙ ap (λ (k : Known). k.code) c.new-game.ensures in
+    record {
+      value = position_value_from (value_told c.args.code found game.len) 0 heaps;
+      reached = record {
+        found = found;
+        values = game.len;
+        few = omega (arith, known.most, none);
+        all = λ nothing. omega (arith, known.all nothing, none);
+        period = subst (λ code. IsFound code game.len found) same known.found;
+        is = refl;
+      };
+      is = subst (λ code. c.winning_move.result ≡ winning_move_by code heaps (position_value_from (value_told code found game.len) 0 heaps)) same c.winning_move.ensures.value;
+    }
