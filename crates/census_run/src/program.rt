@@ -251,25 +251,27 @@ where
             let mut progress = ProgressLine::new(rt, errors, audience);
             value::run(rt, asked, output, &mut progress)?;
         }
-        Task::Move(asked) => winning_move::run(rt, asked, output)?,
+        Task::Move(asked) => {
+            let mut progress = ProgressLine::new(rt, errors, audience);
+            winning_move::run(rt, asked, output, &mut progress)?;
+        }
         Task::Draw(asked) => plot::run(rt, asked, output)?,
         Task::Games(asked) => {
             let mut progress = ProgressLine::new(rt, errors, audience.beside_output());
             games::run(rt, asked, readers, output, &mut progress)?;
         }
         Task::Union { out, deltas } => {
-            let mut advice = Advice::new(errors, audience);
-            union::run(rt, *out, deltas, input, output, &mut advice)?;
-        }
-        Task::Site {
-            state,
-            folder,
-            page,
-        } => {
             let mut progress = ProgressLine::new(rt, errors, audience);
-            site::run(rt, state, folder, *page, &mut progress)?;
+            union::run(rt, *out, deltas, input, output, &mut progress)?;
         }
-        Task::Sqlite { state } => sqlite::run(rt, state, output)?,
+        Task::Site(asked) => {
+            let mut progress = ProgressLine::new(rt, errors, audience);
+            return site::run(rt, asked, &mut progress);
+        }
+        Task::Sqlite { state, out } => {
+            let mut advice = Advice::new(errors, audience);
+            sqlite::run(rt, state, *out, output, &mut advice)?;
+        }
         Task::Digest { files, form } => {
             let mut progress = ProgressLine::new(rt, errors, audience.beside_output());
             digest::run(rt, files, *form, output, &mut progress)?;

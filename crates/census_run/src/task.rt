@@ -8,6 +8,7 @@ use crate::commands::left::Left;
 use crate::commands::plot::Drawn;
 use crate::commands::recheck::Recheck;
 use crate::commands::search::Search;
+use crate::commands::site::Site;
 use crate::commands::value::Placed;
 use crate::commands::winning_move::Played;
 use crate::commands::{self, parts};
@@ -84,7 +85,7 @@ pub(crate) enum Task<'a> {
     Ask(Ask<'a>),
     /// The value of a position, by a state file or else by a search.
     Value(Placed<'a>),
-    /// A winning move of a position, by a state file or else by the first values of the game.
+    /// A winning move of a position, by a state file or else by a search.
     Move(Played<'a>),
     /// What a state file says, in a view.
     View(Viewed<'a>),
@@ -97,15 +98,12 @@ pub(crate) enum Task<'a> {
         out: Out<'a>,
         deltas: Vec<&'a str>,
     },
-    /// The site of a state file, in a folder, with the page that another folder has, where one is named.
-    Site {
-        state: &'a str,
-        folder: &'a str,
-        page: Option<&'a str>,
-    },
-    /// The script that makes a database of a state file.
+    /// The site of a state file, in a folder.
+    Site(Site<'a>),
+    /// The script that makes a database of a state file, and the file that it is written to, where one is named.
     Sqlite {
         state: &'a str,
+        out: Option<Out<'a>>,
     },
     /// The digest of each file.
     Digest {

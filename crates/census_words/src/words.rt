@@ -169,6 +169,13 @@ pub const OUT: Word = Word {
     times: Times::One,
 };
 
+/// The script that is written.
+pub const SCRIPT: Word = Word {
+    name: "FILE",
+    meaning: "The file of the script that is written; standard output where it is left out, or is -",
+    times: Times::OneOrNone,
+};
+
 /// The folder of a site.
 pub const DIR: Word = Word {
     name: "DIR",
@@ -181,6 +188,14 @@ pub const WEB: Choice = Choice {
     name: "web",
     takes: Takes::One("FOLDER"),
     meaning: "Puts the page that computes in the browser, which this folder has, beside the tables",
+    default: None,
+};
+
+/// Whether a site has the long periods that notes say searched again.
+pub const RECHECK: Choice = Choice {
+    name: "recheck",
+    takes: Takes::Nothing,
+    meaning: "Searches again for the long periods that notes say, and shows those that are so as proved",
     default: None,
 };
 

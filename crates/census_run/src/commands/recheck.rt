@@ -73,13 +73,7 @@ where
 {
     let alloc = rt.alloc();
     let bytes = read_state(rt, asked.state)?;
-    let notes = match notes_in(alloc, &bytes) {
-        Ok(notes) => notes,
-        Err(fault) => {
-            let state = Given::new(asked.state, &bytes);
-            return Err(of_games(alloc, fault, &Vec::new(alloc), state));
-        }
-    };
+    let notes = notes_of(alloc, asked.state, &bytes)?;
     let mut status = 0;
     for note in &notes {
         if asked.codes.is_empty() || asked.codes.contains(&note.code) {
@@ -93,6 +87,21 @@ where
         }
     }
     Ok(status)
+}
+
+/// The notes of periods in the bytes of a state file of this name.
+pub(crate) fn notes_of(
+    alloc: Global,
+    name: &str,
+    bytes: &[u8],
+) -> Result<Vec<PeriodNote>, Failure> {
+    match notes_in(alloc, bytes) {
+        Ok(notes) => Ok(notes),
+        Err(fault) => {
+            let state = Given::new(name, bytes);
+            Err(of_games(alloc, fault, &Vec::new(alloc), state))
+        }
+    }
 }
 
 // The notes of periods in a state.

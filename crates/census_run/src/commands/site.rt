@@ -1,25 +1,30 @@
 //! `census site`: all that is known, as a folder of pages.
 
+use crate::commands::recheck::notes_of;
 use crate::found::word;
 use crate::task::Task;
-use census_core::{Beside, Fault, Folder, GameProgress, write_site};
+use census_core::{Beside, Fault, Folder, GameProgress, Progress, ProvedPeriods, write_site};
 use census_diagnosis::{Given, of_state};
 use census_failure::Failure;
 use census_files::{PageFile, SiteFolder, read_page, read_state};
+use census_noted::{Rechecked, recheck_into};
 use census_progress::ProgressLine;
 use census_words::{Row, words};
 use clap::ArgMatches;
 use oct_code::Code;
+use oct_said::{PeriodNote, is_long};
+use std::alloc::Global;
 use std::fs::File;
 use std::io::Write;
 use std::rt::Files;
 use std::time::Clock;
+use written::write_out;
 
 /// Its row in the table.
 pub(crate) const ROW: Row = Row {
     name: "site",
     words: &[words::STATE, words::DIR],
-    options: &[words::WEB],
+    options: &[words::WEB, words::RECHECK],
     line: "All that is known, as a folder of pages for a web server",
     about: "Makes all that is known a site: a folder of pages that any web server shows as it is",
     after: "\
@@ -33,20 +38,39 @@ With --web the page that computes in the browser stands beside the tables, as co
 files more, and each game has a link to it; FOLDER is that of the page, `web` where census comes from.
 Another site without --web has neither.
 
-Exit status: 0 done, 1 Load (the file is no state), 2 command line, 3 file, 4 memory
+With --recheck each period above 65,536, or from such a heap on, that a live note says is searched for
+again before the site is written, as census recheck does it. Where it is so, the page of the game says
+that this program proved it, in place of what the known values prove, and so does a table of the index.
+Where it is not so, it stays as what somebody says, its line is told on standard error, and the site is
+written all the same.
+
+Exit status: 0 done, 1 with --recheck a note that is not so, or refused: Load (the file is no state),
+PastValue (with --recheck a value is above 65535); 2 command line, 3 file, 4 memory
 
 Examples:
   census site anna.state public
-  census site anna.state public --web web",
+  census site anna.state public --web web
+  census site anna.state public --recheck",
 };
+
+/// What is asked: the site of a state file, in a folder, with the page that another folder has, where one is named.
+#[derive(Drop)]
+pub(crate) struct Site<'a> {
+    state: &'a str,
+    folder: &'a str,
+    page: Option<&'a str>,
+    /// Whether the long periods that notes say are searched for again.
+    rechecks: bool,
+}
 
 /// What its words ask for.
 pub(crate) fn task<'a>(found: &ArgMatches<'a>) -> Result<Task<'a>, Failure> {
-    Ok(Task::Site {
+    Ok(Task::Site(Site {
         state: word(found, words::STATE)?,
         folder: word(found, words::DIR)?,
         page: found.get_str(words::WEB.name),
-    })
+        rechecks: found.get_flag(words::RECHECK.name),
+    }))
 }
 
 /// Makes the site of a state file in a folder, which is made where there is none, or replaces the site that stands there:
@@ -55,29 +79,83 @@ pub(crate) fn task<'a>(found: &ArgMatches<'a>) -> Result<Task<'a>, Failure> {
 /// fault is that of the state, `File` and `TooLong` of a file of that page, and `Occupied` where something stands there that
 /// is no folder, or a folder that has anything but a site; after these nothing is changed. It is `File` where the folder
 /// can't be written, with each file of it old or new.
+///
+/// Where that is asked for, the long periods that notes say are searched for before, and those that are so are shown as proved. The
+/// status is 1 where one of them is not so, and else 0.
 pub(crate) fn run<R, E>(
     rt: &R,
-    state: &str,
-    path: &str,
-    page: Option<&str>,
+    asked: &Site<'_>,
     progress: &mut ProgressLine<'_, R, E>,
-) -> Result<(), Failure>
+) -> Result<u8, Failure>
 where
     R: Files<File = File> + AllocGlobal + Clock + Clone + Drop,
     E: Write,
 {
-    let bytes = read_state(rt, state)?;
-    let page = match page {
+    let bytes = read_state(rt, asked.state)?;
+    let page = match asked.page {
         Some(folder) => read_page(rt, folder)?,
         None => Vec::new(rt.alloc()),
     };
-    let Err(failure) = filled(rt, &bytes, &page, path, progress) else {
-        return Ok(());
+    let mut proved = ProvedPeriods::new(rt.alloc());
+    let mut status = 0;
+    if asked.rechecks {
+        status = recheck_long(rt, asked.state, &bytes, &mut proved, progress)?;
+    }
+    let Err(failure) = filled(rt, &bytes, &page, &proved, asked.folder, progress) else {
+        return Ok(status);
     };
     match failure.fault {
-        Fault::Load(cause) => Err(of_state(rt.alloc(), cause, Given::new(state, &bytes))),
+        Fault::Load(cause) => Err(of_state(rt.alloc(), cause, Given::new(asked.state, &bytes))),
         _ => Err(failure),
     }
+}
+
+// Searches again for each long period that a note of the state says, adds those that are so to what is proved, and writes the line
+// of each that is not so on standard error. The status is 1 where one is not so, and else 0.
+fn recheck_long<R, E>(
+    rt: &R,
+    name: &str,
+    bytes: &[u8],
+    proved: &mut ProvedPeriods<Global>,
+    progress: &mut ProgressLine<'_, R, E>,
+) -> Result<u8, Failure>
+where
+    R: Files<File = File> + AllocGlobal + Clock + Clone + Drop,
+    E: Write,
+{
+    let alloc = rt.alloc();
+    let notes = notes_of(alloc, name, bytes)?;
+    let mut status = 0;
+    for note in &notes {
+        if says_long(note) {
+            let done = rechecked(alloc, proved, note, progress);
+            progress.clear();
+            let done = done?;
+            if !done.is_so {
+                let _ = write_out(progress.advice().errors(), &done.line);
+                status = 1;
+            }
+        }
+    }
+    Ok(status)
+}
+
+// Whether the note says a period that no claim can hold.
+fn says_long(note: &PeriodNote) -> bool {
+    match note.said {
+        Some(seen) => is_long(seen),
+        None => false,
+    }
+}
+
+// What a search says of a note, whose period is added where it is so.
+fn rechecked<P: Progress>(
+    alloc: Global,
+    proved: &mut ProvedPeriods<Global>,
+    note: &PeriodNote,
+    progress: &mut P,
+) -> Result<Rechecked<Global>, Fault> {
+    Ok(recheck_into(alloc, proved, note, progress)?)
 }
 
 // Makes the site of these bytes of a state in the folder.
@@ -85,6 +163,7 @@ fn filled<'a, R, E>(
     rt: &'a R,
     bytes: &[u8],
     page: &[PageFile],
+    proved: &ProvedPeriods<Global>,
     path: &'a str,
     progress: &'a mut ProgressLine<'_, R, E>,
 ) -> Result<(), Failure>
@@ -96,7 +175,7 @@ where
         folder: SiteFolder::open(rt, path)?,
         progress,
     };
-    let put = match write_site(rt.alloc(), bytes, beside(page), &mut site) {
+    let put = match write_site(rt.alloc(), bytes, beside(page), proved, &mut site) {
         Ok(()) => put_page(page, &mut site.folder),
         Err(fault) => Err(fault),
     };

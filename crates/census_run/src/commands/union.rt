@@ -5,8 +5,9 @@ use crate::printing::print_file;
 use crate::task::Task;
 use census_core::{Fault, Reply, unite};
 use census_diagnosis::{Given, of_delta};
-use census_failure::{Advice, Failure, INPUT_NAME};
+use census_failure::{Failure, INPUT_NAME};
 use census_files::{Out, Replaced, StateFile, is_standard, read_delta, read_standard};
+use census_progress::ProgressLine;
 use census_words::{Row, words};
 use clap::ArgMatches;
 use std::alloc::Global;
@@ -28,7 +29,8 @@ All files are read before OUT is written, and OUT is replaced as a whole, so it 
 Where OUT is -, the delta goes to standard output, and nothing else is printed. A file that is no
 delta is named by its place among them, counted from 1; then nothing is written. Where OUT has bytes
 and is none of them, or is the name of another file with .lock or .new behind it, nothing is written
-either: that is the fault Occupied, unless --replace is said.
+either: that is the fault Occupied, unless --replace is said. On a terminal a line on standard error says
+after a second which file is read.
 
 Exit status: 0 done, 1 refused: Union (a file is no delta), TooMany; 2 command line, 3 file, 4 memory
 
@@ -52,7 +54,7 @@ pub(crate) fn run<R, I, O, E>(
     deltas: &[&str],
     input: &mut I,
     output: &mut O,
-    advice: &mut Advice<'_, E>,
+    progress: &mut ProgressLine<'_, R, E>,
 ) -> Result<(), Failure>
 where
     R: Files<File = File> + AllocGlobal + Clock,
@@ -66,14 +68,14 @@ where
         Vec::new(rt.alloc())
     };
     if is_standard(out.path) {
-        let reply = united(rt, deltas, &piped)?;
+        let reply = united(rt, deltas, &piped, progress)?;
         return print_file(rt.alloc(), &reply, output);
     }
     let done = if out.is_stream(rt) {
-        union_streamed(rt, out, deltas, &piped)
+        union_streamed(rt, out, deltas, &piped, progress)
     } else {
-        let file = StateFile::wait_telling(rt, out.path, advice)?;
-        let done = union_held(rt, &file, out, deltas, &piped, advice);
+        let file = StateFile::wait_telling(rt, out.path, progress.advice())?;
+        let done = union_held(rt, &file, out, deltas, &piped, progress);
         file.release(rt);
         done
     };
@@ -81,11 +83,18 @@ where
 }
 
 // The same into a pipe or a device.
-fn union_streamed<R>(rt: &R, out: Out<'_>, deltas: &[&str], piped: &[u8]) -> Result<Reply, Failure>
+fn union_streamed<R, E>(
+    rt: &R,
+    out: Out<'_>,
+    deltas: &[&str],
+    piped: &[u8],
+    progress: &mut ProgressLine<'_, R, E>,
+) -> Result<Reply, Failure>
 where
-    R: Files<File = File> + AllocGlobal,
+    R: Files<File = File> + AllocGlobal + Clock,
+    E: Write,
 {
-    let reply = united(rt, deltas, piped)?;
+    let reply = united(rt, deltas, piped, progress)?;
     if let Some(bytes) = &reply.file {
         out.write_stream(rt, bytes)?;
     }
@@ -99,26 +108,50 @@ fn union_held<R, E>(
     out: Out<'_>,
     deltas: &[&str],
     piped: &[u8],
-    advice: &mut Advice<'_, E>,
+    progress: &mut ProgressLine<'_, R, E>,
 ) -> Result<Reply, Failure>
 where
-    R: Files<File = File> + AllocGlobal,
+    R: Files<File = File> + AllocGlobal + Clock,
     E: Write,
 {
-    let reply = united(rt, deltas, piped)?;
+    let reply = united(rt, deltas, piped, progress)?;
     if let Some(bytes) = &reply.file {
-        out.write_held(rt, file, Replaced::OneOf(deltas), bytes, advice)?;
+        let replaced = Replaced::OneOf(deltas);
+        out.write_held(rt, file, replaced, bytes, progress.advice())?;
     }
     Ok(reply)
 }
 
-// The union of delta files, of which `-` stands for these bytes.
-fn united<R>(rt: &R, deltas: &[&str], piped: &[u8]) -> Result<Reply, Failure>
+// The union of delta files, of which `-` stands for these bytes. The line says which of them is read, and goes when it is made.
+fn united<R, E>(
+    rt: &R,
+    deltas: &[&str],
+    piped: &[u8],
+    progress: &mut ProgressLine<'_, R, E>,
+) -> Result<Reply, Failure>
 where
-    R: Files + AllocGlobal,
+    R: Files + AllocGlobal + Clock,
+    E: Write,
+{
+    let done = read_and_united(rt, deltas, piped, progress);
+    progress.clear();
+    done
+}
+
+// The same, while the line stands.
+fn read_and_united<R, E>(
+    rt: &R,
+    deltas: &[&str],
+    piped: &[u8],
+    progress: &mut ProgressLine<'_, R, E>,
+) -> Result<Reply, Failure>
+where
+    R: Files + AllocGlobal + Clock,
+    E: Write,
 {
     let mut files = Vec::new(rt.alloc());
-    for path in deltas {
+    for (index, path) in deltas.iter().enumerate() {
+        progress.tell_file(index + 1, deltas.len());
         let bytes = if is_standard(path) {
             Vec::from_slice(rt.alloc(), piped)?
         } else {

@@ -3,33 +3,25 @@
 use crate::ask::asking;
 use crate::commands::value::listed;
 use crate::found::{bytes, form, word};
-use crate::numbers::{HEAPS, heaps, option_of};
+use crate::numbers::{heaps, searched};
 use crate::system::System;
 use crate::task::Task;
 use census_core::{Form, Request, move_by_search};
 use census_diagnosis::{Given, of_games};
 use census_failure::Failure;
 use census_files::read_state;
-use census_words::words::{Choice, Takes};
+use census_progress::ProgressLine;
 use census_words::{Row, words};
 use clap::ArgMatches;
 use std::alloc::Global;
 use std::io::Write;
 use written::write_out;
 
-// By how many values the game is searched.
-const SEARCHED: Choice = Choice {
-    name: "search",
-    takes: Takes::One("COUNT"),
-    meaning: "Where a heap is not known, searches the game by its first COUNT values, 1 to 65536",
-    default: None,
-};
-
 /// Its row in the table.
 pub(crate) const ROW: Row = Row {
     name: "move",
     words: &[words::STATE, words::CODE, words::HEAP],
-    options: &[SEARCHED, words::EACH_JSON],
+    options: &[words::SEARCHED, words::EACH_JSON],
     line: "A winning move of a position",
     about: "Names a winning move of a position, or says that there is none",
     after: "\
@@ -39,24 +31,24 @@ whatever the moves. Of several winning moves it is the first by place, then by t
 then by the smaller heap left. `none: the player to move loses` where there is none, and `unknown at
 I` where the heap at the place I has no known value. With --json it is
 {\"heap\":2,\"of\":9,\"remove\":1,\"leave\":[3,5]}, whose `heap` is null where there is none.
-With --search COUNT, of a game of which some heap is not known its first COUNT values are computed, as a
-state may have them: by a period that these prove, each heap has a value. The state stays as it is.
+With --search COUNT, a game of which some heap is not known is searched as by census search: by a period
+that COUNT values prove, also one that no claim can have, each heap has a value. The state stays as it is.
 
-Exit status: 0 done (also where there is no move), 1 refused: Load (the state), Code; 2 command
-line, 3 file, 4 memory
+Exit status: 0 done (also where there is no move), 1 refused: Load (the state), Code, PastValue (a value is
+above 65535); 2 command line, 3 file, 4 memory
 
 Examples:
   census move anna.state 0.77 5 9 1000000000
-  census move anna.state 0.07 5 9 1000000000 --search 1000",
+  census move anna.state 0.16 10000000000 7 --search 1000000",
 };
 
-/// A position of which a winning move is asked for, and by how many values of the game where the state does not give it.
+/// A position of which a winning move is asked for, and by how many values the game is searched where the state does not give it.
 #[derive(Drop)]
 pub(crate) struct Played<'a> {
     state: &'a str,
     code: Vec<u8>,
     heaps: Vec<u64>,
-    count: u32,
+    count: u64,
     form: Form,
 }
 
@@ -65,23 +57,29 @@ pub(crate) fn task<'a>(alloc: Global, found: &ArgMatches<'a>) -> Result<Task<'a>
     let heaps = heaps(alloc, found, words::HEAP.name)?;
     let code = bytes(alloc, found, words::CODE)?;
     let form = form(found);
-    if found.get_str(SEARCHED.name).is_some() {
+    if let Some(count) = searched(alloc, found)? {
         return Ok(Task::Move(Played {
             state: word(found, words::STATE)?,
             code,
             heaps,
-            count: option_of(alloc, found, SEARCHED, HEAPS)?,
+            count,
             form,
         }));
     }
     asking(found, None, Request::Move { heaps, code, form })
 }
 
-/// Prints the move by the state, or else by the first values of the game.
-pub(crate) fn run<R, O>(rt: &R, asked: &Played<'_>, output: &mut O) -> Result<(), Failure>
+/// Prints the move by the state, or else by a search.
+pub(crate) fn run<R, O, E>(
+    rt: &R,
+    asked: &Played<'_>,
+    output: &mut O,
+    progress: &mut ProgressLine<'_, R, E>,
+) -> Result<(), Failure>
 where
     R: System,
     O: Write,
+    E: Write,
 {
     let Played {
         state,
@@ -91,7 +89,9 @@ where
         form,
     } = asked;
     let bytes = read_state(rt, state)?;
-    match move_by_search(rt.alloc(), &bytes, code, heaps, *count, *form) {
+    let found = move_by_search(rt.alloc(), &bytes, code, heaps, *count, *form, progress);
+    progress.clear();
+    match found {
         Ok(text) => Ok(write_out(output, &text)?),
         Err(fault) => {
             let codes = listed(rt.alloc(), code)?;
