@@ -131,9 +131,35 @@ def moves_searched():
     same("the same as JSON", done("move", STATE, "0.16", "9", "2000", "--search", "2000", "--json"), '{"unknown":1}\n')
     same("a move that the state gives", done("move", STATE, "0.77", "7", "18", "--search", "1"), done("move", STATE, "0.77", "7", "18"))
     refused(2, "Number", "move", STATE, "0.77", "7", "--search", "0")
-    refused(2, "Number", "move", STATE, "0.77", "7", "--search", "65537")
+    refused(2, "Number", "move", STATE, "0.77", "7", "--search", "4294967297")
     refused(1, "Code Digit", "move", STATE, "0.x", "7", "--search", "9")
     refused(3, "File", "move", "missing.state", "0.77", "7", "--search", "9")
+
+
+def is_allowed(code, answer):
+    """Whether the digit of the beans that are removed allows so many heaps to be left."""
+    return answer["heap"] is None or int(code.replace(".", "")[answer["remove"]]) >> len(answer["leave"]) & 1 == 1
+
+
+def far_moves():
+    """Moves by a period that no claim can have: those of 0.16, by values of the program up to the end of the first one."""
+    start, period = 105351, 149459
+    values = [int(line.split()[1]) for line in done("search", "--bfile", str(start + period), "0.16").splitlines() if not line.startswith("#")]
+
+    def value(heap):
+        return value_of(heap, values, start, period)
+
+    for heaps in ([10**10], [10**10, 7], [LARGEST, 10**18 + 3, 5], [LARGEST] * 2, [10**12, 10**12 + start, 10**6 + 1]):
+        words = [STATE, "0.16", *map(str, heaps), "--search", "1000000"]
+        answer = done("move", *words)
+        need(is_right(answer, heaps, (1, 2), value) and is_allowed("0.16", as_object(answer)), f"0.16 {heaps}: {answer!r}")
+        same(f"0.16 {heaps} as JSON", json.loads(done("move", *words, "--json")), as_object(answer))
+    for heaps in ([70_000, 65_536], [start + period] * 3, [start + period + 9, start + 9], [3 * period, 2 * period + 1]):
+        line = first_move("0.16", heaps, value)
+        same(f"0.16 {heaps}", done("move", STATE, "0.16", *map(str, heaps), "--search", "600000"), line)
+    same("one value fewer proves no period", done("move", STATE, "0.16", "9", str(LARGEST), "--search", "509621"), "unknown at 1\n")
+    answer = done("move", STATE, "0.16", "9", str(LARGEST), "--search", "509622")
+    need(is_right(answer, [9, LARGEST], (1, 2), value), f"as many as prove it: {answer!r}")
 
 
 def searched():
@@ -159,6 +185,7 @@ def main():
         same(f"{command} --json of a heap that is not known", done(command, "--json", STATE, "0.77", "0", "9"), '{"unknown":1}\n')
     searched()
     moves_searched()
+    far_moves()
     print(f"{sum(map(play, GAMES))} positions, and each answer is right")
 
 

@@ -66,6 +66,35 @@ census recheck ben 0.77 | cmp - /dev/null
 census note ben period-0-77 '0.77 period 12 from 71' >/dev/null
 census recheck ben 0.77 | cmp - <(echo '0.77 period 12 from 71 is so')
 
+# A site with what is so as proved: the game's page and the index alone are other ones, and what is not so is told.
+census init carl 3 >/dev/null
+census search 1000000 0.16 --note carl >/dev/null
+census note carl period-0-77 '0.77 period 70000 from 71' >/dev/null
+census note carl period-0-77 '0.77 period 24 from 71' >/dev/null
+census extend carl 200 0.16 0.77 >/dev/null
+census site carl plain
+status=0
+census site carl checked --recheck >said 2>told || status=$?
+[ $status = 1 ]
+cmp said /dev/null
+cmp told <(echo '0.77 period 12 from 71, and not 70000 from 71')
+(diff -rq plain checked || true) | cmp - <(for page in 0.16 index; do echo "Files plain/$page.html and checked/$page.html differ"; done)
+proved='<p>Proved by this program: from heap 105351 on the nim-values repeat with period 149459, for ever.</p>'
+(diff plain/0.16.html checked/0.16.html || true) | sed 1d | cmp - <(printf '< <p>No period is proved.</p>\n---\n> %s\n' "$proved")
+grep -c 'said: period 149459 from 105351, by 3' checked/0.16.html | cmp - <(echo 1)
+grep -c 'said: period 70000 from 71, by 3' checked/0.77.html | cmp - <(echo 1)
+grep -cF '<tr><th scope="row">149459</th><td>105351</td><td>0.16</td></tr>' checked/index.html | cmp - <(echo 1)
+grep -cF '<caption>Periods proved by this program</caption>' checked/index.html | cmp - <(echo 1)
+census site carl again --recheck 2>/dev/null || true
+diff -r checked again
+census site carl checked 2>told
+cmp told /dev/null
+diff -r plain checked
+census unnote carl period-0-77 >/dev/null
+census site carl checked --recheck 2>told
+cmp told /dev/null
+grep -qxF "$proved" checked/0.16.html
+
 # What is refused: before anything is searched, what is no state.
 refused() {
   local due=$1 status=0
@@ -78,6 +107,8 @@ refused() {
 echo anna >none
 refused '1 Load Version' search 1000000 0.16 --note none
 refused '1 Load Version' recheck none
+refused '1 Load Version' site none unmade --recheck
+[ ! -e unmade ]
 refused '3 File' search 1000000 0.16 --note nowhere
 refused '3 File' recheck nowhere
 refused '1 Code Form' recheck anna 16

@@ -19,6 +19,10 @@ CODE = "0.16"
 COUNTS = [65_537, 100_000, 262_143, 262_144, 400_000, 411_602, 411_603]
 PERIOD = "0.16 period 149459 from 105351 needs 509622 values 411603"
 
+# Games whose windows are looked at behind so many values.
+GAMES = ["0.104", "0.106", "0.054", "0.454", "0.16", "0.56", "0.354", "0.64", "4.65"]
+FAR = 150_000
+
 # Numbers that do not fit together with the others: a stage, a head, how many values are listed, the heap of the mark, the reach,
 # the next heap, the bits of the mask, its parity and its turn.
 SCALARS = [(0, 2), (1, 1), (2, 2**32), (2, 100_000), (3, 0), (3, 100_000), (4, 0), (4, 32_767), (5, 65_536), (5, 2**61)]
@@ -102,6 +106,21 @@ def check_bytes():
     alike("the rare heaps ahead", rare_ahead, rare)
 
 
+def check_values():
+    """The values that a window has are those that a list has: also where it went on by sets, or where they are too large for that."""
+    for at, code in enumerate(GAMES):
+        file = f"{at}.search"
+        search(file, FAR, code)
+        scalars, _, _, held, _ = lists_of(read(file))
+        same(f"what is watched of {code}", (scalars[0], scalars[5]), (0, FAR))
+        rows = done("search", "--bfile", str(FAR), code, seconds=SECONDS).splitlines()
+        values = [int(row.split(" ")[1]) for row in rows]
+        reach = scalars[4]
+        last = reach + len(code.split(".")[1])
+        alike(f"the small heaps of {code}", held[: reach + 1], values[: reach + 1])
+        alike(f"the last values of {code}", held[-last:], values[-last:])
+
+
 def check_kills():
     """A search is killed three times, and another one waits for it."""
     os.mkdir("kills")
@@ -118,8 +137,8 @@ def check_kills():
         told = second.communicate(timeout=SECONDS)[0].decode()
         right = told.startswith(f"{LONG} no period seen in ") and told.endswith(" values" + SAVED)
         need(right, f"the second search says {told!r}")
-    whole = done("search", "2000000", LONG, "--window", seconds=SECONDS)
-    same("after the kills", search(file, 2_000_000, LONG).out, whole.replace("\n", SAVED))
+    whole = done("search", "4000000", LONG, "--window", seconds=SECONDS)
+    same("after the kills", search(file, 4_000_000, LONG).out, whole.replace("\n", SAVED))
     same("what is left", os.listdir("kills"), ["kills.search"])
 
 
@@ -193,6 +212,7 @@ def check_places():
 def main():
     check_counts()
     check_bytes()
+    check_values()
     check_kills()
     check_damage()
     check_places()

@@ -237,6 +237,33 @@ def are_answered():
             same(question, found.execute(question).fetchall(), answer)
 
 
+def is_written(state, script):
+    """The script in a file: in place of an earlier one, of a file without bytes, and of nothing else unless that is asked for."""
+    same("what is printed", done("sqlite", state, "all.sql"), "")
+    same("the file", lib.read("all.sql").decode(), script)
+    done("init", "small.state", "4")
+    done("sqlite", "small.state", "all.sql")
+    same("an earlier script is replaced", lib.read("all.sql").decode(), done("sqlite", "small.state"))
+    same("a second time", (done("sqlite", state, "all.sql"), lib.read("all.sql").decode()), ("", script))
+    write("none.sql", b"")
+    done("sqlite", state, "none.sql")
+    same("a file without bytes", lib.read("none.sql").decode(), script)
+    same("standard output", done("sqlite", state, "-"), script)
+    same("a stream", done("sqlite", state, "/dev/stdout"), script)
+    with contextlib.closing(sqlite3.connect("table.db")) as found:
+        found.executescript(script)
+    for other in ("table.db", "ben.delta"):
+        before = lib.read(other)
+        refused(3, "Occupied", "sqlite", state, other)
+        same(f"{other} stays", lib.read(other), before)
+    write("begun.sql", script[:9].encode())
+    refused(3, "Occupied", "sqlite", state, "begun.sql")
+    refused(3, "Occupied", "sqlite", state, "all.sql.new")
+    refused(3, "Same", "sqlite", state, state)
+    refused(3, "File", "sqlite", state, "missing/all.sql")
+    same("by force", (done("sqlite", state, "begun.sql", "--replace"), lib.read("begun.sql").decode()), ("", script))
+
+
 def is_refused():
     refused(1, "Load Version", "sqlite", "ben.delta")
     refused(3, "File", "sqlite", "not-there.state")
@@ -249,6 +276,7 @@ def main():
     is_read_by_program(state)
     are_same_bytes(state)
     is_replaced(state, script)
+    is_written(state, done("sqlite", state))
     of_nothing()
     are_answered()
     is_refused()

@@ -9,7 +9,7 @@ import re
 import subprocess
 import time
 
-from lib import PROGRAM, QUIET, done, expect, finish, folder, need, read_terminal, run, same, write
+from lib import PROGRAM, QUIET, done, expect, finish, folder, need, read, read_terminal, run, same, write
 
 COLORLESS = {name: value for name, value in QUIET.items() if name != "NO_COLOR"}
 RED, GREEN = "\x1b[31m", "\x1b[32m"
@@ -147,6 +147,22 @@ def rechecks():
         expect(re.fullmatch(r"0\.16 \d+ of \d+(, \d+ a second)?(, \d+ s left)?", line), f"a recheck says {line!r}")
 
 
+def files():
+    """Which file of several is next, where those before it took more than a second; the line goes in the end."""
+    done("delta", "c.state", "c.delta")
+    for words in (("digest",), ("union", "all.delta")):
+        master, slave = pty.openpty()
+        words = [*PROGRAM, *words, "/dev/stdin", "c.delta"]
+        with subprocess.Popen(words, env=QUIET, stdin=subprocess.PIPE, stdout=subprocess.PIPE, stderr=slave) as running:
+            os.close(slave)
+            time.sleep(1.3)
+            running.stdin.write(read("c.delta"))
+            running.stdin.close()
+            said = read_terminal(master)
+        expect(re.fullmatch(r"\rfile 2 of 2(, \d+ s left)?\x1b\[K\r\x1b\[K", said), f"{words[len(PROGRAM)]} says {said!r}")
+        same(f"the end of {words[len(PROGRAM)]}", running.returncode, 0)
+
+
 def main():
     with folder():
         table()
@@ -155,6 +171,7 @@ def main():
         searches()
         turns()
         rechecks()
+        files()
     finish("what stands on a terminal alone is right there, and nowhere else")
 
 

@@ -81,8 +81,13 @@ const FOUND: &str = "0.16 period 149459 from 105351 needs 509622 values 411603";
 const RESUMED: &str =
     "0.16 period 149459 from 105351 needs 509622 values 411603 from a saved search";
 
-// It comes to a place behind each 65,536 values, up to these; then a period ahead, 149,459; then before the marked window, 229,376.
-const PLACES: usize = 6 + 3 + 4;
+// It comes to a place where these values come again; then a period ahead, 149,459; then before the marked window, 229,376.
+const PLACES: usize = 3;
+
+// A search by fewer values ends at a place at which no period is seen.
+const FEWER: u64 = 300_000;
+
+const UNSEEN: &str = "0.16 no period seen in 300000 values";
 
 // The line is the one that is due, with a line feed.
 fn is_line(rt: &impl Abort, line: Result<Vec<u8>, Fault>, due: &str) {
@@ -116,6 +121,18 @@ fn a_search_goes_on_from_each_place(rt: HostRuntime) {
     is_line(&rt, line, FOUND);
     let kept = (album.texts.len(), album.lasts);
     check_equal(&rt, kept, (PLACES, 1), "places and last places");
+    for text in &album.texts {
+        goes_on(&rt, code, text);
+    }
+}
+
+#[test]
+fn a_search_goes_on_where_none_is_seen(rt: HostRuntime) {
+    let code = Code::parse(b"0.16").ok().expect(&rt, "a code");
+    let mut album = album_of_none(rt.alloc());
+    let line = search_in_windows(rt.alloc(), code, FEWER, Form::Lines, &mut album);
+    is_line(&rt, line, UNSEEN);
+    check_equal(&rt, album.texts.len(), 1, "places");
     for text in &album.texts {
         goes_on(&rt, code, text);
     }
