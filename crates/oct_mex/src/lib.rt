@@ -13,7 +13,6 @@
 //!   mask is found by a transform of the counts of the values: `mask`.
 //! - Where they don't settle it, other pairs are marked, and the few values that are still not marked are sought in
 //!   those that are left, both many pairs at a time: `next`, `marks`, `pairs`.
-//! - Where several moves leave the same total of two heaps, what is found of its pairs is kept for all: `totals`.
 //! - A `Cell` holds a nim-value in 8, 16 or 32 bits, and a `Row` the values of a game in cells. What is done with many
 //!   pairs at a time is in `cell`, once for each width; all other functions over cells are the same for each, with
 //!   clauses over the numbers in the cells.
@@ -35,7 +34,6 @@ mod period;
 mod rare;
 mod row;
 mod settled;
-mod totals;
 mod values;
 
 pub use cell::{Cell, LANES};

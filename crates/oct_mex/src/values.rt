@@ -7,10 +7,8 @@ ghost use Rattle.oct_mex.specs.NimValues.{nim_values, nim_value};
 ghost use Rattle.oct_mex.specs.Periods.{IsPeriodicFrom, NoneIsShown, NoneIsShownBefore};
 
 use crate::marks::table_len;
-use crate::mask::{Mask, NO_MASK};
 use crate::period::{SeenPeriod, find_period};
 use crate::row::Row;
-use crate::totals::{Table, follow_mask, room_for_tables};
 use oct_code::{Code, LIMIT};
 use std::alloc::{AllocError, Allocator};
 use std::marker::Model;
@@ -27,9 +25,6 @@ pub struct Values<A: Allocator + Copy> {
     room: usize,
     // A period with which the values go on, or 0 while none is seen.
     period: usize,
-    // What is known of the pairs of heaps under a mask, while no period is seen.
-    tables: Vec<Table<A>, A>,
-    mask: Mask,
 }
 
 impl<A: Allocator + Copy> Model for Values<A> {
@@ -55,8 +50,6 @@ impl<A: Allocator + Copy> Values<A> {
             marks: Vec::new(alloc),
             room: 0,
             period: 0,
-            tables: Vec::new(alloc),
-            mask: NO_MASK,
         }
     }
 
@@ -103,7 +96,6 @@ impl<A: Allocator + Copy> Values<A> {
         if self.room < count {
             self.row.room_to(count)?;
             self.marks.resize(table_len(&self.code, count), false)?;
-            room_for_tables(*self.marks.allocator(), &self.code, &mut self.tables, count)?;
             self.room = count;
         }
         Ok(())
@@ -139,11 +131,7 @@ impl<A: Allocator + Copy> Values<A> {
         if self.period > 0 {
             self.row.push_again(&self.code, self.period);
         } else {
-            follow_mask(&mut self.tables, self.mask, self.row.rare.mask);
-            self.mask = self.row.rare.mask;
-            let _ = self
-                .row
-                .push_next_by(&self.code, &mut self.tables, &mut self.marks);
+            let _ = self.row.push_next(&self.code, &mut self.marks);
         }
     }
 
@@ -178,16 +166,12 @@ impl<A: Allocator + Copy> Values<A> {
     pub fn copy(&self, alloc: A) -> Result<Values<A>, AllocError>
         ensures { IfOk result (λ copy. copy ≡ self.now) }
     {
-        let mut tables = Vec::new(alloc);
-        room_for_tables(alloc, &self.code, &mut tables, self.room)?;
         Ok(Values {
             code: self.code,
             row: self.row.copy(alloc, self.room)?,
             marks: Vec::from_slice(alloc, &self.marks)?,
             room: self.room,
             period: self.period,
-            tables,
-            mask: self.mask,
         })
     }
 }
