@@ -8,7 +8,7 @@
 //!
 //!     let mut sets = Sets::new(alloc, &code, &small, &rare_heaps, &last, count)?;
 //!     let value = sets.settle(mask, &last);                    // the value of the heap `count`, or none
-//!     sets.push(value);                                        // on to the next heap
+//!     sets.push(&last);                                        // on to the next heap
 //!
 //! - A `Plan` has the steps, near ones and far ones. Which small heaps it goes by, besides the rare ones, is chosen from a
 //!   sample: this changes no value, but how many heaps are settled.

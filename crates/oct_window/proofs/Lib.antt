@@ -5,4 +5,5 @@ pub mod Marking
 pub mod RowReads
 mod Sets
 pub mod Shown
+pub mod Trails
 pub mod Watching

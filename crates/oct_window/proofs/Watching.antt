@@ -35,7 +35,7 @@ even_of true turn h period ones is first second = omega (arith, odd (ones + (h +
 even_of false turn h period ones is first second = absurd (false≢true is)
 
 -- where the parity counts, two common heaps of one value are an even number of beans apart
-even_apart : (mask : Mask) (h period v : ℕ) → is_rare mask h v ≡ false → is_rare mask (h + period) v ≡ false → mask.parity ≡ true → period % 2 ≡ 0
+pub even_apart : (mask : Mask) (h period v : ℕ) → is_rare mask h v ≡ false → is_rare mask (h + period) v ≡ false → mask.parity ≡ true → period % 2 ≡ 0
 even_apart mask h period v first second is = even_of mask.parity mask.turn h period (count_ones (bit_and mask.bits v)) is first second
 
 -- the same of another window of the same game

@@ -4,5 +4,6 @@ pub mod Comparisons
 pub mod Places
 pub mod Repeats
 pub mod Seeking
+pub mod Trails
 pub mod Watched
 pub mod Windows

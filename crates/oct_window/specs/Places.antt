@@ -4,6 +4,7 @@ use Rattle.oct_code.specs.Code.{Code}
 use Rattle.oct_window.specs.Comparisons.{IsCompared, IsPaired}
 use Rattle.oct_window.specs.Repeats.{IsRepeat}
 use Rattle.oct_window.specs.Seeking.{IsSought, IsTold}
+use Rattle.oct_window.specs.Trails.{IsRightTrail, IsTrailOf}
 use Rattle.oct_window.specs.Watched.{IsMarkAt, IsWatchable, IsWatched}
 use Rattle.oct_window.specs.Windows.{reach_behind}
 use Rattle.oct_window.specs.declared.comparison.Comparison.{Comparison}
@@ -16,6 +17,7 @@ use Rattle.oct_window.specs.declared.place.Stepped.TheVariants.{On, Over, Lost}
 use Rattle.oct_window.specs.declared.seeking.TheConstants.{MOST_LISTED}
 use Rattle.oct_window.specs.declared.sought.Sought.{Sought}
 use Rattle.oct_window.specs.declared.sought.Sought.TheVariants.{Least, Unshown, Unseen}
+use Rattle.oct_window.specs.declared.trail.Trail.{Trail}
 use Rattle.oct_window.specs.declared.watch.Watch.{Watch}
 use Rattle.oct_window.specs.declared.window.TheConstants.{FARTHEST}
 
@@ -70,7 +72,16 @@ pub record IsKept {A : Type 0} (p : Place A) : Type 0 where
   pub within : IsWithin (farthest p.stage) p
   pub limited : farthest p.stage ≤ FARTHEST
 
+-- the windows are earlier ones of the one that is watched
+abbrev pub IsStagedTrail : {A : Type 0} → ℕ → Stage A → Trail A → Type 0
+IsStagedTrail listed (Watching w) t = IsTrailOf listed w.window t
+IsStagedTrail listed (Comparing s) t = Unit {0}
+
 -- ---- what is so of the game
+
+abbrev pub IsRightStagedTrail : {A : Type 0} → Stage A → Trail A → Type 0
+IsRightStagedTrail (Watching w) t = IsRightTrail w.window t
+IsRightStagedTrail (Comparing s) t = Unit {0}
 
 -- a watch that is right, in the game of the code, and began behind so many first values: so it has the reach and the mark of one that did
 pub record IsWatchedIn {A : Type 0} (c : Code) (listed : ℕ) (w : Watch A) : Type 0 where
@@ -123,3 +134,22 @@ abbrev pub IsRightStep : {A : Type 0} → Code → ℕ → Stepped A → Type 0
 IsRightStep c count (On new) = IsRightPlace new
 IsRightStep c count (Over sought new) = IsSought c count sought × IsRightPlace new
 IsRightStep c count (Lost heap) = Unit {0}
+
+-- ---- with the windows that a search has passed
+
+abbrev pub IsTrailAt : {A : Type 0} → Place A → Trail A → Type 0
+IsTrailAt p t = IsStagedTrail p.listed p.stage t
+
+abbrev pub IsRightTrailAt : {A : Type 0} → Place A → Trail A → Type 0
+IsRightTrailAt p t = IsRightStagedTrail p.stage t
+
+-- a step leaves the windows that go with its place
+abbrev pub IsTrailBehind : {A : Type 0} → Stepped A → Trail A → Type 0
+IsTrailBehind (On new) t = IsTrailAt new t
+IsTrailBehind (Over sought new) t = Unit {0}
+IsTrailBehind (Lost heap) t = Unit {0}
+
+abbrev pub IsRightTrailBehind : {A : Type 0} → Stepped A → Trail A → Type 0
+IsRightTrailBehind (On new) t = IsRightTrailAt new t
+IsRightTrailBehind (Over sought new) t = Unit {0}
+IsRightTrailBehind (Lost heap) t = Unit {0}

@@ -1,11 +1,13 @@
 //! The least heap from which on a period holds.
 
-ghost use Rattle.std.specs.Prelude.{◌≡◌, ℕ, ◌+◌, ◌<◌, ◌≤◌, true, false, IfSome, length, max, vec_len};
+ghost use Rattle.std.specs.Prelude.{◌≡◌, ◌≢◌, ℕ, ◌+◌, ◌-◌, ◌<◌, ◌≤◌, true, false, IfSome, MatchOption, length, max, slice_index, vec_len};
 ghost use Rattle.oct_code.specs.Code as octal;
 ghost use Rattle.oct_mex.specs.Row.{IsRow};
 ghost use Rattle.oct_window.specs.BySets.{AreRight, AreSetsOf};
 ghost use Rattle.oct_window.specs.Comparisons.{IsCompared, IsInStep, IsPaired, IsRight};
-ghost use Rattle.oct_window.specs.Windows.{IsBegun, IsShaped};
+ghost use Rattle.oct_mex.specs.Periods.{IsPeriodicWithin};
+ghost use Rattle.oct_mex.specs.Windows.{window as width};
+ghost use Rattle.oct_window.specs.Windows.{IsBegun, IsSameGame, IsShaped};
 
 use crate::reader::Reader;
 use crate::window::{FARTHEST, MARKS, Window};
@@ -44,6 +46,35 @@ impl<A: Allocator + Copy> Comparison<A> {
             period,
             start: 1,
         }
+    }
+
+    /// Behind the last values of two windows, those of the second one a period later; none where these are the same.
+    pub(crate) fn behind(
+        first: Reader<A>,
+        second: Reader<A>,
+        period: usize,
+    ) -> Option<Comparison<A>>
+        requires first { IsShaped first.window }
+        requires second { IsShaped second.window }
+        requires same { IsSameGame first.window second.window }
+        requires far { width first.window.code first.window.reach < first.heap }
+        ensures first { IfSome result (λ made. made.first ≡ first) }
+        ensures second { IfSome result (λ made. made.second ≡ second) }
+        ensures period { IfSome result (λ made. made.period ≡ period) }
+        ensures paired { (values : ℕ) → IsInStep values first → IsInStep values second → IfSome result (IsPaired values) }
+        ensures compared { (c : octal.Code) → IsRight c first → IsRight c second → first.window.count ≡ first.heap → second.window.count ≡ first.heap + period → MatchOption result (IsPeriodicWithin c (first.heap - width c first.window.reach) period first.heap) (IsCompared c) }
+    {
+        let last = first.window.last_values();
+        let Some(at) = last_difference(last, second.window.last_values()) else {
+            return None;
+        };
+        let start = first.heap - first.window.reach - first.window.code.len() + at + 1;
+        Some(Comparison {
+            first,
+            second,
+            period,
+            start,
+        })
     }
 
     /// How many heaps are compared.
@@ -152,4 +183,21 @@ impl<A: Allocator + Copy> Comparison<A> {
         }
         true
     }
+}
+
+// The last place at which two lists of one length differ, if they do.
+fn last_difference(left: &[u16], right: &[u16]) -> Option<usize>
+    requires { length left.now ≡ length right.now }
+    ensures same { MatchOption result ((i : ℕ) → i < length left.now → slice_index left.now i ≡ slice_index right.now i) (λ at. (i : ℕ) → at < i → i < length left.now → slice_index left.now i ≡ slice_index right.now i) }
+    ensures differ { IfSome result (λ at. slice_index left.now at ≢ slice_index right.now at) }
+    ensures within { IfSome result (λ at. at < length left.now) }
+{
+    let mut at = left.len();
+    while at > 0 {
+        at -= 1;
+        if left[at] != right[at] {
+            return Some(at);
+        }
+    }
+    None
 }

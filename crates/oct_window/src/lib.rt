@@ -12,6 +12,7 @@
 //!   search comes to, and `resume` takes the search up again at one.
 //! - A `Watch` marks the last values of a `Window`, anew only where it has gone as far again. Where they come again, all that
 //!   follow do (`oct_mex::laws::settled_runs_hold`), and no shorter period holds.
+//! - A `Trail` has windows that a search has passed. By them it is known where about the period begins.
 //! - A `Comparison` of two windows, one a period ahead of the other, finds the least heap from which on the period holds.
 //! - `Progress` is told how far a search is.
 //! - `laws` says what holds of periods.
@@ -32,6 +33,7 @@ mod reader;
 mod seeking;
 mod sought;
 mod stepping;
+mod trail;
 mod watch;
 mod window;
 
@@ -43,5 +45,6 @@ pub use progress::Progress;
 pub use reader::Reader;
 pub use seeking::{MOST_LISTED, SeekError, resume, seek};
 pub use sought::Sought;
+pub use trail::Trail;
 pub use watch::{Step, Watch};
 pub use window::{FARTHEST, MARKS, Window};

@@ -1,12 +1,12 @@
 //! The nim-values of a game, one after another.
 
-ghost use Rattle.std.specs.Prelude.{◌≡◌, ◌+◌, ◌<◌, ◌≤◌, true, false, IfSome, IsSome, MatchOption, length, max, vec_len};
+ghost use Rattle.std.specs.Prelude.{◌≡◌, ℕ, ◌+◌, ◌<◌, ◌≤◌, true, false, IfSome, IsSome, MatchOption, length, max, vec_len};
 ghost use Rattle.oct_code.specs.Code as octal;
 ghost use Rattle.oct_mex.specs.NimValues.{nim_value};
 ghost use Rattle.oct_mex.specs.Row.{IsRow};
 ghost use Rattle.oct_window.specs.BySets.{AreRight, AreSetsOf};
 ghost use Rattle.oct_window.specs.Comparisons.{IsInStep, IsRight};
-ghost use Rattle.oct_window.specs.Windows.{IsKnown, IsShaped};
+ghost use Rattle.oct_window.specs.Windows.{IsKnown, IsSameGame, IsShaped};
 
 use crate::window::{FARTHEST, MARKS, Window};
 use oct_mex::Row;
@@ -33,6 +33,17 @@ impl<A: Allocator + Copy> Reader<A> {
         Reader { window, heap: 0 }
     }
 
+    /// At the heap whose value the window tells next.
+    pub(crate) fn behind(window: Window<A>) -> Reader<A>
+        requires { IsShaped window }
+        ensures step { (values : ℕ) → values ≤ window.count → IsInStep values result }
+        ensures heap { result.heap ≡ window.count }
+        ensures window { result.window ≡ window }
+    {
+        let heap = window.count;
+        Reader { window, heap }
+    }
+
     /// The value of the next heap, if the row has it or the window tells it, by sets where there are some: else the reader stays
     /// there. Takes no memory.
     pub(crate) fn next(
@@ -46,6 +57,7 @@ impl<A: Allocator + Copy> Reader<A> {
         requires limited { self.old.heap < FARTHEST }
         requires marks { MARKS ≤ length marks.old }
         ensures step { IsInStep (vec_len row.now.values) self.new }
+        ensures same { IsSameGame self.old.window self.new.window }
         ensures of { IfSome sets.new (AreSetsOf self.new.window) }
         ensures by_row { self.old.heap < vec_len row.now.values → IsSome result }
         ensures heap { MatchOption result (self.new.heap ≡ self.old.heap) (λ value. self.new.heap ≡ self.old.heap + 1) }
@@ -79,6 +91,7 @@ impl<A: Allocator + Copy> Reader<A> {
         requires limited { end ≤ FARTHEST }
         requires marks { MARKS ≤ length marks.old }
         ensures step { IsInStep (vec_len row.now.values) self.new }
+        ensures same { IsSameGame self.old.window self.new.window }
         ensures by_row { end ≤ vec_len row.now.values → result ≡ true }
         ensures heap { result ≡ true → self.new.heap ≡ max end self.old.heap }
         ensures short { result ≡ false → self.new.heap < end }

@@ -17,6 +17,7 @@ use crate::keeper::{Keeper, Unkept};
 use crate::laws::shown_periods_are_least;
 use crate::place::{Place, Stage, Stepped};
 use crate::sought::Sought;
+use crate::trail::Trail;
 use crate::watch::Watch;
 use crate::window::{FARTHEST, MARKS, Window};
 use oct_code::Code;
@@ -256,9 +257,10 @@ fn follow<A: Allocator + Copy, K: Keeper<A>>(
     ensures marks { length marks.new ≡ length marks.old }
 {
     let mut place = place;
+    let mut trail = Trail::new(alloc);
     loop {
         tell(&place, count, keeper);
-        match place.step(alloc, row, count, marks)? {
+        match place.step(alloc, row, count, &mut trail, marks)? {
             Stepped::Lost(heap) => return Ok(Tried::Lost(heap)),
             Stepped::Over(sought, last) => {
                 keeper.keep(&last, true)?;

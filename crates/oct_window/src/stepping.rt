@@ -4,8 +4,9 @@ ghost use Rattle.std.specs.Prelude.{◌≡◌, ◌<◌, ◌≤◌, true, length,
 ghost use Rattle.oct_code.specs.Code as octal;
 ghost use Rattle.oct_mex.specs.Row.{IsRow};
 ghost use Rattle.oct_window.specs.Comparisons.{IsCompared};
-ghost use Rattle.oct_window.specs.Places.{IsComparing, IsPlaced, IsRightPlace, IsRightStep, IsSeen, IsStep, IsWatchedIn, IsWatching, IsWithin, left};
+ghost use Rattle.oct_window.specs.Places.{IsComparing, IsPlaced, IsRightPlace, IsRightStep, IsRightTrailAt, IsRightTrailBehind, IsSeen, IsStep, IsTrailAt, IsTrailBehind, IsWatchedIn, IsWatching, IsWithin, left};
 ghost use Rattle.oct_window.specs.Repeats.{IsRepeat};
+ghost use Rattle.oct_window.specs.Trails.{IsRightTrail, IsTrailOf};
 ghost use Rattle.oct_window.specs.declared.place.Stage.TheVariants.{Comparing, Watching};
 ghost use Rattle.oct_window.specs.Watched.{IsWatchable, seen_of};
 
@@ -14,6 +15,7 @@ use crate::laws::least_starts_are_least;
 use crate::place::{Place, Seen, Stage, Stepped};
 use crate::seeking::MOST_LISTED;
 use crate::sought::Sought;
+use crate::trail::{Narrowed, Trail};
 use crate::watch::{Step, Watch};
 use crate::window::{FARTHEST, MARKS, Window};
 use oct_code::Code;
@@ -23,14 +25,18 @@ use std::alloc::{AllocError, Allocator};
 // So many values are computed at most in a step.
 const PART: usize = 1_048_576;
 
+// And at most one for so many that were computed before, so that few are compared behind the window that is kept after a step.
+const SHARE: usize = 8;
+
 impl<A: Allocator + Copy> Place<A> {
-    /// Goes on by some values, at most to the heap `count`, by the first values and a table of marks. Memory is taken where
-    /// values are marked anew, and where they have come again.
+    /// Goes on by some values, at most to the heap `count`, by the first values, the windows that the search has passed, and a
+    /// table of marks. Memory is taken where values are marked anew, and where they have come again.
     pub fn step(
         self,
         alloc: A,
         row: &Row<u16, A>,
         count: usize,
+        trail: &mut Trail<A>,
         marks: &mut [bool],
     ) -> Result<Stepped<A>, AllocError>
         requires row { IsRow (λ x. x) self.code row.now }
@@ -38,14 +44,20 @@ impl<A: Allocator + Copy> Place<A> {
         requires placed { IsPlaced self }
         requires within { IsWithin count self }
         requires limited { count ≤ FARTHEST }
+        requires trail { IsTrailAt self trail.old }
         requires marks { MARKS ≤ length marks.old }
         ensures step { IfOk result (IsStep count self) }
-        ensures right { IsRightPlace self → IfOk result (IsRightStep self.code count) }
+        ensures right { IsRightPlace self → IsRightTrailAt self trail.old → IfOk result (IsRightStep self.code count) }
+        ensures trail { IfOk result (λ stepped. IsTrailBehind stepped trail.new) }
+        ensures right_trail { IsRightPlace self → IsRightTrailAt self trail.old → IfOk result (λ stepped. IsRightTrailBehind stepped trail.new) }
         ensures marks { length marks.new ≡ length marks.old }
     {
         let Place { code, stage, .. } = self;
         match stage {
-            Stage::Watching(watch) => watch_on(alloc, code, watch, row, count, marks),
+            Stage::Watching(mut watch) => {
+                watch.leave(alloc, trail);
+                watch_on(alloc, code, watch, row, count, trail, marks)
+            }
             Stage::Comparing(seen) => Ok(compare_on(alloc, code, seen, row, count, marks)),
         }
     }
@@ -58,10 +70,12 @@ fn watch_on<A: Allocator + Copy>(
     watch: Watch<A>,
     row: &Row<u16, A>,
     count: usize,
+    trail: &Trail<A>,
     marks: &mut [bool],
 ) -> Result<Stepped<A>, AllocError>
     requires row { IsRow (λ x. x) code row.now }
     requires few { vec_len row.now.values < MOST_LISTED }
+    requires trail { IsTrailOf (vec_len row.now.values) watch.window trail.now }
     requires watching { IsWatching (vec_len row.now.values) watch }
     requires listed { vec_len row.now.values < count }
     requires marked { watch.at < count }
@@ -69,15 +83,17 @@ fn watch_on<A: Allocator + Copy>(
     requires limited { count ≤ FARTHEST }
     requires marks { MARKS ≤ length marks.old }
     ensures step { IfOk result (IsStep count (record { code = code; listed = vec_len row.now.values; stage = Watching watch })) }
-    ensures right { IsWatchedIn code (vec_len row.now.values) watch → IfOk result (IsRightStep code count) }
+    ensures right { IsWatchedIn code (vec_len row.now.values) watch → IsRightTrail watch.window trail.now → IfOk result (IsRightStep code count) }
+    ensures trail { IfOk result (λ stepped. IsTrailBehind stepped trail.now) }
+    ensures right_trail { IsWatchedIn code (vec_len row.now.values) watch → IsRightTrail watch.window trail.now → IfOk result (λ stepped. IsRightTrailBehind stepped trail.now) }
     ensures marks { length marks.new ≡ length marks.old }
 {
     let mut watch = watch;
-    let end = count.min(watch.window.count + PART);
+    let end = count.min(watch.window.count + PART.min(watch.window.count / SHARE + 1));
     let step = watch.go_to(alloc, end, marks)?;
     match step {
         Step::Lost => Ok(Stepped::Lost(watch.window.count)),
-        Step::Again => match compare_behind(alloc, code, &watch, row)? {
+        Step::Again => match compare_behind(alloc, code, &watch, row, trail, marks)? {
             Some(seen) => Ok(Stepped::On(place_of(code, row, Stage::Comparing(seen)))),
             None => Ok(Stepped::Lost(watch.window.count)),
         },
@@ -98,25 +114,39 @@ fn compare_behind<A: Allocator + Copy>(
     code: Code,
     watch: &Watch<A>,
     row: &Row<u16, A>,
+    trail: &Trail<A>,
+    marks: &mut [bool],
 ) -> Result<Option<Seen<A>>, AllocError>
     requires row { IsRow (λ x. x) code row.now }
     requires watchable { IsWatchable watch.now }
     requires behind { vec_len row.now.values < watch.now.window.count }
+    requires limited { watch.now.window.count ≤ FARTHEST }
+    requires trail { IsTrailOf (vec_len row.now.values) watch.now.window trail.now }
+    requires marks { MARKS ≤ length marks.old }
     ensures comparing { IfOk result (λ found. IfSome found (IsComparing (vec_len row.now.values))) }
     ensures values { IfOk result (λ found. IfSome found (λ seen. seen.values ≡ watch.now.window.count)) }
-    ensures seen { IsRepeat code (seen_of watch.now) → IfOk result (λ found. IfSome found (IsSeen code)) }
+    ensures seen { watch.now.window.code ≡ code → IsRepeat code (seen_of watch.now) → IsRightTrail watch.now.window trail.now → IfOk result (λ found. IfSome found (IsSeen code)) }
+    ensures marks { length marks.new ≡ length marks.old }
 {
+    let values = watch.window.count;
+    let Narrowed { start, comparison } = trail.narrow(alloc, watch, row, marks);
+    if let Some(comparison) = comparison {
+        return Ok(Some(Seen {
+            start: start.max(comparison.heap()),
+            values,
+            comparison,
+        }));
+    }
     let Some(first) = Window::of(alloc, code, row)? else {
         return Ok(None);
     };
     let Some(second) = Window::of(alloc, code, row)? else {
         return Ok(None);
     };
-    let seen = watch.seen();
     Ok(Some(Seen {
-        start: seen.start,
-        values: watch.window.count,
-        comparison: Comparison::new(first, second, seen.period),
+        start,
+        values,
+        comparison: Comparison::new(first, second, watch.seen().period),
     }))
 }
 

@@ -2,11 +2,13 @@
 
 ghost use Rattle.std.specs.Prelude.{◌≡◌, ◌+◌, ◌*◌, ◌<◌, ◌≤◌, ℕ, length, max, IfOk, IfSome, OnErr, OnOk};
 ghost use Rattle.oct_window.specs.BySets.{AreRight, AreSetsOf};
+ghost use Rattle.oct_window.specs.Trails.{AreSettled, IsRightTrail, IsTrailOf};
 ghost use Rattle.oct_window.specs.Watched.{count_after, IsMarkAt, IsStepped, IsWatchable, IsWatched, mark_after, seen_of};
 ghost use Rattle.oct_window.specs.declared.watch.Step.TheVariants.{Again, On};
 ghost use Rattle.oct_mex.specs.Windows.{window as width};
 ghost use Rattle.oct_window.specs.Windows.{IsKnown, IsSameGame, IsShaped};
 
+use crate::trail::Trail;
 use crate::window::{FARTHEST, MARKS, Window};
 use oct_mex::SeenPeriod;
 use oct_sets::Sets;
@@ -101,6 +103,7 @@ impl<A: Allocator + Copy> Watch<A> {
         ensures err { OnErr result (self.new ≡ self.old) }
         ensures right { IsWatched self.old → IfSome sets.old (AreRight self.old.window) → IfSome sets.new (AreRight self.new.window) }
         ensures stepped { IsWatched self.old → IfSome sets.old (AreRight self.old.window) → IfOk result (IsStepped self.new) }
+        ensures passed { IsWatched self.old → IfSome sets.old (AreRight self.old.window) → AreSettled self.old.window.count self.new.window }
     {
         self.mark_if_due(alloc)?;
         Ok(self.push_next(sets, marks))
@@ -124,6 +127,7 @@ impl<A: Allocator + Copy> Watch<A> {
         ensures marked { (first : ℕ) → IsMarkAt first self.old.at self.old.window.count → IfOk result (λ step. step ≡ On → IsMarkAt first self.new.at self.new.window.count) }
         ensures marks { length marks.new ≡ length marks.old }
         ensures stepped { IsWatched self.old → IfOk result (IsStepped self.new) }
+        ensures passed { IsWatched self.old → AreSettled self.old.window.count self.new.window }
     {
         let mut sets = self.window.sets(alloc);
         while self.window.count < end {
@@ -133,6 +137,20 @@ impl<A: Allocator + Copy> Watch<A> {
             }
         }
         Ok(Step::On)
+    }
+
+    /// Leaves a copy of its window on a trail, where one is due and there is memory for it.
+    pub(crate) fn leave(&mut self, alloc: A, trail: &mut Trail<A>)
+        requires { IsWatchable self.old }
+        ensures watchable { IsWatchable self.new }
+        ensures same { IsSameGame self.old.window self.new.window }
+        ensures count { self.new.window.count ≡ self.old.window.count }
+        ensures mark { self.new.at ≡ self.old.at }
+        ensures watched { IsWatched self.old → IsWatched self.new }
+        ensures of { (listed : ℕ) → listed ≤ self.old.window.count → IsTrailOf listed self.old.window trail.old → IsTrailOf listed self.new.window trail.new }
+        ensures right { IsWatched self.old → IsRightTrail self.old.window trail.old → IsRightTrail self.new.window trail.new }
+    {
+        trail.pass(alloc, &mut self.window);
     }
 
     // Marks the last values anew where the window has gone as far again.
@@ -168,6 +186,7 @@ impl<A: Allocator + Copy> Watch<A> {
         ensures marks { length marks.new ≡ length marks.old }
         ensures right { IsWatched self.old → IfSome sets.old (AreRight self.old.window) → IfSome sets.new (AreRight self.new.window) }
         ensures stepped { IsWatched self.old → IfSome sets.old (AreRight self.old.window) → IsStepped self.new result }
+        ensures passed { IsWatched self.old → IfSome sets.old (AreRight self.old.window) → AreSettled self.old.window.count self.new.window }
     {
         if !self.window.push_by(sets, marks) {
             return Step::Lost;

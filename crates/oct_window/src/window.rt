@@ -68,16 +68,43 @@ impl<A: Allocator + Copy> Window<A> {
         self.held[self.held.len() - 1]
     }
 
+    /// The same window in memory of `alloc`, with room for so many more values.
+    pub(crate) fn copy(&self, alloc: A, room: usize) -> Result<Window<A>, AllocError>
+        requires shaped { IsShaped self.now }
+        requires room { 1 ≤ room }
+        ensures shaped { IfOk result IsShaped }
+        ensures same { IfOk result (IsSameGame self.now) }
+        ensures count { IfOk result (λ copy. copy.count ≡ self.now.count) }
+        ensures known { IsKnown self.now → IfOk result IsKnown }
+    {
+        let mut held = Vec::from_slice(alloc, &self.held)?;
+        held.reserve_exact(room)?;
+        Ok(Window {
+            code: self.code,
+            rare: copy_of(alloc, &self.rare)?,
+            reach: self.reach,
+            held,
+            count: self.count,
+            used: self.used,
+        })
+    }
+
     /// The last values, as many as tell the next one.
+    pub(crate) fn last_values(&self) -> &[u16]
+        requires { IsShaped self.now }
+        ensures len { length result.now ≡ window self.now.code self.now.reach }
+        ensures values { IsKnown self.now → (i : ℕ) → i < window self.now.code self.now.reach → slice_index result.now i ≡ nim_value self.now.code (self.now.count - window self.now.code self.now.reach + i) }
+    {
+        &self.held[self.held.len() - self.reach - self.code.len()..]
+    }
+
+    /// A copy of the last values, as many as tell the next one.
     pub(crate) fn copy_last(&self, alloc: A) -> Result<Vec<u16, A>, AllocError>
         requires { IsShaped self.now }
         ensures len { IfOk result (λ last. vec_len last ≡ window self.now.code self.now.reach) }
         ensures values { IsKnown self.now → IfOk result (λ last. (i : ℕ) → i < window self.now.code self.now.reach → slice_index last.items i ≡ nim_value self.now.code (self.now.count - window self.now.code self.now.reach + i)) }
     {
-        Vec::from_slice(
-            alloc,
-            &self.held[self.held.len() - self.reach - self.code.len()..],
-        )
+        Vec::from_slice(alloc, self.last_values())
     }
 
     /// Whether the last values are these.
@@ -150,8 +177,8 @@ impl<A: Allocator + Copy> Window<A> {
         }
     }
 
-    // Forgets the values between those of the small heaps and the last ones.
-    fn forget(&mut self)
+    /// Forgets the values between those of the small heaps and the last ones.
+    pub(crate) fn forget(&mut self)
         requires { IsShaped self.old }
         ensures shaped { IsShaped self.new }
         ensures room { vec_len self.new.held < vec_capacity self.new.held }

@@ -1,18 +1,25 @@
-use Rattle.std.proofs.Common.{ap, subst₂, sym, vec_len, ◌∙◌}
-use Rattle.oct_mex.specs.declared.period.SeenPeriod.{SeenPeriod}
+use Rattle.std.proofs.Common.{subst, subst₂, sym, vec_len, IfSome, arith}
+use Rattle.oct_window.specs.Comparisons.{IsCompared}
 use Rattle.oct_window.specs.Repeats.{IsRepeat}
-use Rattle.oct_window.specs.Windows.{IsBegun}
+use Rattle.oct_window.specs.Trails.{IsBetween}
+use Rattle.oct_window.specs.Watched.{seen_of}
+use Rattle.oct_window.proofs.Trails.{repeats_later}
 use Rattle.oct_window.proofs.stepping.compare_behind.Goals as goal
 
-pub returns-clause-seen : goal.returns-clause-seen
-returns-clause-seen g c repeats =
+pub returns-in-Some-clause-seen : goal.returns-in-Some-clause-seen
+returns-in-Some-clause-seen g c same repeats trail =
     let code = c.args.code in
-    let values = vec_len c.args.row.now.values in
-    let first : IsBegun code values c.in-Some.first = rw c.in-Some.is at c.in_ok-first.ensures in
-    let second : IsBegun code values c.in-Some-2.second = rw c.in-Some-2.is at c.in_ok-second.ensures in
-    let seen = c.seen-seen.ensures in
+    let told = c.narrow-start.ensures in
+    let seen = seen_of c.args.watch.now in
+    let k = c.in-Some.comparison in
+    let start = c.narrow-start.result.start in
+    let here : IsRepeat c.args.watch.now.window.code seen = subst (λ d. IsRepeat d seen) (sym same) repeats in
+    let listed = vec_len c.args.row.now.values in
+    let between : IsBetween listed seen k = subst (λ o. IfSome o (IsBetween listed seen)) c.in-Some.is told.between in
+    let compared : IsCompared c.args.watch.now.window.code k = subst (λ o. IfSome o (IsCompared c.args.watch.now.window.code)) c.in-Some.is (told.compared here trail) in
+    let held : IsRepeat code (record { start = start; period = k.period }) =
+    subst₂ (λ d p. IsRepeat d (record { start = start; period = p })) same (sym between.period) (told.holds here trail) in
     record {
-      repeats = subst₂ (λ s p. IsRepeat code (record { start = s; period = p })) (sym (ap (λ (s : SeenPeriod). s.start) seen))
-          (sym (c.new.ensures.period ∙ ap (λ (s : SeenPeriod). s.period) seen)) repeats;
-      compared = c.new.ensures.compared code values first second;
+      repeats = repeats_later code k.period start c.max.result (omega (arith, c.max.ensures)) held;
+      compared = subst (λ d. IsCompared d k) same compared;
     }

@@ -1,4 +1,4 @@
-use Rattle.std.proofs.Common.{arith}
+use Rattle.std.proofs.Common.{◌∙◌, arith}
 use Rattle.std.proofs.lemmas.Grind.{common_steps}
 use Rattle.oct_window.proofs.reader.Reader.go_to.Goals as goal
 
@@ -8,6 +8,7 @@ returns-then-is_none-clause-right g c code right = c.next.ensures.right code (c.
 pub loop-preserved : goal.loop-preserved
 loop-preserved g c = record {
   step = c.next.ensures.step;
+  same = record { code = c.next.ensures.same.code ∙ c.loop.invariant.same.code; mask = c.next.ensures.same.mask ∙ c.loop.invariant.same.mask; reach = c.next.ensures.same.reach ∙ c.loop.invariant.same.reach };
   heap = grind (arith, common_steps);
   more = omega arith;
   most = omega arith;

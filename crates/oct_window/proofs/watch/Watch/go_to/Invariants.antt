@@ -1,5 +1,6 @@
 use Rattle.std.proofs.Common.{◌≡◌, ℕ, ◌-◌, ◌<◌, ◌≤◌, length, max, IfSome}
 use Rattle.oct_window.specs.BySets.{AreRight, AreSetsOf}
+use Rattle.oct_window.specs.Trails.{AreSettled}
 use Rattle.oct_window.specs.Watched.{IsMarkAt, IsWatchable, IsWatched}
 use Rattle.oct_window.specs.Windows.{IsSameGame}
 use Rattle.oct_window.proofs.watch.Watch.go_to.Given as goal
@@ -16,6 +17,7 @@ invariant-loop-self g l = record {
   behind : l.fn.self.window.count < l.self.window.count → l.self.at < l.self.window.count;
   marked : (first : ℕ) → IsMarkAt first l.fn.self.at l.fn.self.window.count → IsMarkAt first l.self.at l.self.window.count;
   still : l.self.window.count ≡ l.fn.self.window.count → l.self ≡ l.fn.self;
+  passed : IsWatched l.fn.self → AreSettled l.fn.self.window.count l.self.window;
   least : l.fn.self.window.count ≤ l.self.window.count;
 }
 

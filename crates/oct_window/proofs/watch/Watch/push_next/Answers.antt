@@ -1,7 +1,8 @@
-use Rattle.std.proofs.Common.{◌≡◌, ◌+◌, ◌-◌, ◌<◌, ℕ, List, if◌then◌else◌, slice_index, sym, subst, ◌∙◌}
+use Rattle.std.proofs.Common.{arith, ◌≡◌, ◌+◌, ◌-◌, ◌<◌, ℕ, List, if◌then◌else◌, slice_index, sym, subst, ◌∙◌}
 use Rattle.std.proofs.lemmas.Bool.{false≢true}
 use Rattle.oct_mex.specs.NimValues.{nim_value}
 use Rattle.oct_mex.specs.Windows.{window}
+use Rattle.oct_window.proofs.Trails.{one_settled}
 use Rattle.oct_window.proofs.Watching.{comes_again, goes_on}
 use Rattle.oct_window.proofs.watch.Watch.push_next.Goals as goal
 
@@ -36,3 +37,19 @@ returns-then-ends_with-clause-stepped g c watched right =
     ((c.ends_with.ensures known).0 c.if-ends_with.true) in
     comes_again v.code w.code v.rare.mask w.rare.mask v.reach w.reach old.at v.count w.count old.mark.items same.code same.mask same.reach next fits.behind fits.passed fits.shaped.near
     watched.marked (c.push_by.ensures.settled watched.known right yes) known.fit known.common again
+
+pub returns-then-ends_with-clause-passed : goal.returns-then-ends_with-clause-passed
+returns-then-ends_with-clause-passed g c watched right =
+    let v = c.args.self.now.window in
+    let w = c.push_by.new.self in
+    let yes = c.if-not-push_by.false in
+    let next : w.count ≡ v.count + 1 = subst (λ b. w.count ≡ (if b then v.count + 1 else v.count)) yes c.push_by.ensures.count in
+    one_settled v w c.push_by.ensures.same (omega arith) (c.push_by.ensures.settled watched.known right yes)
+
+pub returns-else-ends_with-clause-passed : goal.returns-else-ends_with-clause-passed
+returns-else-ends_with-clause-passed g c watched right =
+    let v = c.args.self.now.window in
+    let w = c.push_by.new.self in
+    let yes = c.if-not-push_by.false in
+    let next : w.count ≡ v.count + 1 = subst (λ b. w.count ≡ (if b then v.count + 1 else v.count)) yes c.push_by.ensures.count in
+    one_settled v w c.push_by.ensures.same (omega arith) (c.push_by.ensures.settled watched.known right yes)
