@@ -1,16 +1,17 @@
 //! Commands that ask a state, which stays as it is.
 
+use crate::commands::Task;
 use crate::found::{out, word};
 use crate::printing::print_file;
 use crate::system::System;
-use crate::task::Task;
+use crate::unknown::unknown_text;
 use census_core::{Fault, Request, number, perform};
 use census_diagnosis::{Given, of_request};
-use census_failure::{Advice, Failure, quoted, shown_bytes};
+use census_failure::{Advice, Failure};
 use census_files::{Out, is_same_file, is_standard, read_state};
 use census_words::words::{self, Word};
 use clap::ArgMatches;
-use std::alloc::{AllocError, Global};
+use std::alloc::Global;
 use std::io::Write;
 use written::write_out;
 
@@ -74,7 +75,7 @@ where
         out.write_delta(rt, bytes, advice)?;
     }
     write_out(output, &reply.text)?;
-    explain_unknown(rt.alloc(), state, request, &reply.text, advice);
+    explain_unknown(rt.alloc(), state, &bytes, request, &reply.text, advice);
     Ok(())
 }
 
@@ -82,10 +83,14 @@ where
 fn explain_unknown<E: Write>(
     alloc: Global,
     state: &str,
+    bytes: &[u8],
     request: &Request,
     text: &[u8],
     advice: &mut Advice<'_, E>,
 ) {
+    if !advice.is_wanted() {
+        return;
+    }
     let (code, heaps) = match request {
         Request::Value { code, heaps, .. } => (code, heaps),
         Request::Move { code, heaps, .. } => (code, heaps),
@@ -93,7 +98,7 @@ fn explain_unknown<E: Write>(
     };
     if let Some(place) = unknown_place(text) {
         if let Some(heap) = heaps.get(place) {
-            if let Ok(text) = unknown_text(alloc, state, code, *heap) {
+            if let Some(text) = unknown_text(alloc, state, bytes, code, *heap) {
                 advice.say(text.as_str());
             }
         }
@@ -105,14 +110,4 @@ fn unknown_place(text: &[u8]) -> Option<usize> {
     let digits = text.strip_prefix(b"unknown at ")?.trim_ascii_end();
     let place = number(str::from_utf8(digits).ok()?, u64::MAX)?;
     usize::try_from(place).ok()
-}
-
-fn unknown_text(alloc: Global, state: &str, code: &[u8], heap: u64) -> Result<String, AllocError> {
-    let state = quoted(alloc, state)?;
-    let code = shown_bytes(alloc, code)?;
-    format!(in alloc;
-        "heap {heap} is not known; census extend {state} COUNT {code} computes further values, and \
-         census find {state} {code} says which period they prove: one that is claimed by census period \
-         gives the values of all heaps"
-    )
 }

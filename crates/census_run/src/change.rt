@@ -1,9 +1,9 @@
 //! Commands that change a state.
 
+use crate::commands::Task;
 use crate::found::{is_quiet, word};
 use crate::printing::print_unless;
 use crate::system::System;
-use crate::task::Task;
 use crate::undone::{Undone, without_done};
 use census_core::{Fault, Reply, Request, new_forks, perform_kept};
 use census_diagnosis::{Given, of_games, of_request};
@@ -62,7 +62,7 @@ where
     O: Write,
     E: Write,
 {
-    let beside = Beside::of(rt.alloc(), change.read, input)?;
+    let beside = SecondInput::of(rt.alloc(), change.read, input)?;
     let done = perform_locked(rt, change, beside, output, progress);
     progress.clear();
     let done = done?;
@@ -131,6 +131,7 @@ fn is_judged(request: &Request) -> bool {
         | Request::Import
         | Request::Claim { .. }
         | Request::Period { .. }
+        | Request::Extend { .. }
         | Request::Survey { .. }
         | Request::Merge => true,
         _ => false,
@@ -139,24 +140,26 @@ fn is_judged(request: &Request) -> bool {
 
 // What a command reads beside the state.
 #[derive(Drop)]
-enum Beside<'a> {
+enum SecondInput<'a> {
     Nothing,
     File(&'a str),
     // What standard input gave. It is read before the state is locked, so that nobody waits for it.
     Stream(Vec<u8>),
 }
 
-impl<'a> Beside<'a> {
+impl<'a> SecondInput<'a> {
     // What stands for this word, where there is one.
     fn of<I: Read>(
         alloc: Global,
         read: Option<&'a str>,
         input: &mut I,
-    ) -> Result<Beside<'a>, Failure> {
+    ) -> Result<SecondInput<'a>, Failure> {
         match read {
-            None => Ok(Beside::Nothing),
-            Some(path) if is_standard(path) => Ok(Beside::Stream(read_standard(alloc, input)?)),
-            Some(path) => Ok(Beside::File(path)),
+            None => Ok(SecondInput::Nothing),
+            Some(path) if is_standard(path) => Ok(SecondInput::Stream(read_standard(
+                alloc, input,
+            )?)),
+            Some(path) => Ok(SecondInput::File(path)),
         }
     }
 
@@ -167,10 +170,10 @@ impl<'a> Beside<'a> {
         request: &Request,
     ) -> Result<(&'a str, Vec<u8>), Failure> {
         match (self, request) {
-            (Beside::Nothing, _) => Ok(("", Vec::new(rt.alloc()))),
-            (Beside::File(path), Request::Merge) => Ok((path, read_delta(rt, path)?)),
-            (Beside::File(path), _) => Ok((path, read_file(rt, path)?)),
-            (Beside::Stream(bytes), _) => Ok((INPUT_NAME, bytes)),
+            (SecondInput::Nothing, _) => Ok(("", Vec::new(rt.alloc()))),
+            (SecondInput::File(path), Request::Merge) => Ok((path, read_delta(rt, path)?)),
+            (SecondInput::File(path), _) => Ok((path, read_file(rt, path)?)),
+            (SecondInput::Stream(bytes), _) => Ok((INPUT_NAME, bytes)),
         }
     }
 }
@@ -179,7 +182,7 @@ impl<'a> Beside<'a> {
 fn perform_locked<R, O, E>(
     rt: &R,
     change: &Change<'_>,
-    beside: Beside<'_>,
+    beside: SecondInput<'_>,
     output: &mut O,
     progress: &mut ProgressLine<'_, R, E>,
 ) -> Result<Performed, Failure>
@@ -199,7 +202,7 @@ fn perform_held<R, O, E>(
     rt: &R,
     file: &StateFile,
     change: &Change<'_>,
-    beside: Beside<'_>,
+    beside: SecondInput<'_>,
     output: &mut O,
     progress: &mut ProgressLine<'_, R, E>,
 ) -> Result<Performed, Failure>

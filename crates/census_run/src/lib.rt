@@ -3,10 +3,12 @@
 //! A command line is read to a `Task`, and the task is done. Each command stands in one file of `commands`: its row, from which
 //! its help is made, what its words ask for, and what it does with that.
 //!
-//! - `task` has the tasks, and reads them; `found` and `numbers` read words, `lists` files of codes, `endpoint` the address of a
+//! - `commands` lists the commands, with the `Task` of each, and finds whoever reads it from the words, and whoever does it.
+//! - `task` reads the task of a command line; `found` and `numbers` read words, `lists` files of codes, `endpoint` the address of a
 //!   peer, and `drawing` draws the number of an author where none is given.
 //! - `change` and `ask` do what most commands are: a request that changes a state, or that leaves it as it is; `viewing` shows
-//!   what a state says as it is made. `undone` leaves out the games that are done. `printing` has
+//!   what a state says as it is made. `position` answers what is asked of a position, by a search where the state does not tell,
+//!   and `unknown` says of a heap that is not known what tells more. `undone` leaves out the games that are done. `printing` has
 //!   what several print.
 //! - `program` does a task: `run` that of any words, and `run_called` (`arguments`) that of the words that the program was
 //!   called with.
@@ -27,12 +29,14 @@ mod found;
 mod lists;
 mod noting;
 mod numbers;
+mod position;
 mod printing;
 mod program;
 mod readers;
 mod system;
 mod task;
 mod undone;
+mod unknown;
 mod viewing;
 
 pub use arguments::run_called;

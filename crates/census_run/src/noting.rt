@@ -83,7 +83,7 @@ where
 
 // A note that is issued, and the state with it.
 #[derive(Drop)]
-struct Noted {
+struct IssuedNote {
     dot: Dot,
     state: Vec<u8>,
 }
@@ -94,14 +94,14 @@ fn with_note(
     state: &[u8],
     code: Code,
     seen: SeenPeriod,
-) -> Result<Option<Noted>, Fault> {
+) -> Result<Option<IssuedNote>, Fault> {
     let mut said = Record::load(alloc, state)?;
     let Some(dot) = note_period(&mut said, code, seen)? else {
         return Ok(None);
     };
     let mut state = Vec::new(alloc);
     said.save(&mut state)?;
-    Ok(Some(Noted { dot, state }))
+    Ok(Some(IssuedNote { dot, state }))
 }
 
 fn issued_line(alloc: Global, dot: Dot) -> Result<Vec<u8>, AllocError> {

@@ -1,17 +1,12 @@
 //! The program over any three streams.
 
-use crate::commands::{
-    check, completion, diff, digest, explain, fold, games, hub, init, left, log, manual, parts,
-    plot, read, recheck, search, serve, site, sqlite, status, sync, union, value, winning_move,
-};
+use crate::commands::{chapters, done, hub};
 use crate::readers::Readers;
 use crate::system::System;
-use crate::task::{Task, read_task};
-use crate::{ask, change, viewing};
+use crate::task::read_task;
 use census_core::Fault;
 use census_failure::{Advice, Audience, Failure, INPUT_NAME, OUTPUT_NAME, escaped_lines};
 use census_files::Noted;
-use census_progress::ProgressLine;
 use census_words::words::EXPLAIN;
 use census_words::{command, first_screen};
 use clap::ArgMatches;
@@ -73,10 +68,10 @@ where
     E: Write,
 {
     let alloc = rt.alloc();
-    let Ok(screen) = first_screen(alloc, &parts()) else {
+    let Ok(screen) = first_screen(alloc, &chapters()) else {
         return refuse(errors, Fault::OutOfMemory);
     };
-    let Ok(command) = command(alloc, &parts(), &screen) else {
+    let Ok(command) = command(alloc, &chapters(), &screen) else {
         return refuse(errors, Fault::OutOfMemory);
     };
     match command.try_get_matches_from(words) {
@@ -190,108 +185,4 @@ where
 {
     let task = read_task(rt, matches, input)?;
     done(rt, &task, input, output, errors, readers)
-}
-
-// Does the task, and gives the exit status: 0, or 1 where a file was checked and is not right.
-fn done<R, I, O, E>(
-    rt: &R,
-    task: &Task<'_>,
-    input: &mut I,
-    output: &mut O,
-    errors: &mut E,
-    readers: Readers,
-) -> Result<u8, Failure>
-where
-    R: System,
-    I: Read,
-    O: Write,
-    E: Write,
-{
-    let audience = readers.audience;
-    match task {
-        Task::Fold => fold::run(rt.alloc(), input, output, errors)?,
-        Task::Read { files } => {
-            let mut progress = ProgressLine::new(rt, errors, audience.beside_output());
-            read::run(rt, files, output, &mut progress)?;
-        }
-        Task::View(viewed) => {
-            let mut progress = ProgressLine::new(rt, errors, audience.beside_output());
-            viewing::run(rt, viewed, output, &mut progress)?;
-        }
-        Task::Log { files, wanted } => log::run(rt, files, wanted, output)?,
-        Task::Diff(asked) => return diff::run(rt, asked, input, output),
-        Task::Left(asked) => left::run(rt, asked, input, output)?,
-        Task::Status { state, is_full } => status::run(rt, state, *is_full, output)?,
-        Task::Search(asked) => {
-            let mut progress = ProgressLine::new(rt, errors, audience);
-            search::run(rt, asked, output, &mut progress)?;
-        }
-        Task::Recheck(asked) => {
-            let mut progress = ProgressLine::new(rt, errors, audience);
-            return recheck::run(rt, asked, output, &mut progress);
-        }
-        Task::List { count, code } => {
-            let mut progress = ProgressLine::new(rt, errors, audience);
-            search::list(rt, *code, *count, output, &mut progress)?;
-        }
-        Task::Check { code, file } => {
-            let mut advice = Advice::new(errors, audience);
-            return check::run(rt, code, file, input, output, &mut advice);
-        }
-        Task::Manual => manual::run(rt.alloc(), output)?,
-        Task::Completion { shell } => completion::run(rt.alloc(), *shell, output)?,
-        Task::Explain { words } => explain::run(rt.alloc(), words, output)?,
-        Task::Init { state, id } => init::run(rt, state, *id, output)?,
-        Task::Change(change) => {
-            let mut progress = ProgressLine::new(rt, errors, audience);
-            change::run(rt, change, input, output, &mut progress)?;
-        }
-        Task::Ask(ask) => ask::run(rt, ask, output, &mut Advice::new(errors, audience))?,
-        Task::Value(asked) => {
-            let mut progress = ProgressLine::new(rt, errors, audience);
-            value::run(rt, asked, output, &mut progress)?;
-        }
-        Task::Move(asked) => {
-            let mut progress = ProgressLine::new(rt, errors, audience);
-            winning_move::run(rt, asked, output, &mut progress)?;
-        }
-        Task::Draw(asked) => plot::run(rt, asked, output)?,
-        Task::Games(asked) => {
-            let mut progress = ProgressLine::new(rt, errors, audience.beside_output());
-            games::run(rt, asked, readers, output, &mut progress)?;
-        }
-        Task::Union { out, deltas } => {
-            let mut progress = ProgressLine::new(rt, errors, audience);
-            union::run(rt, *out, deltas, input, output, &mut progress)?;
-        }
-        Task::Site(asked) => {
-            let mut progress = ProgressLine::new(rt, errors, audience);
-            return site::run(rt, asked, &mut progress);
-        }
-        Task::Sqlite { state, out } => {
-            let mut advice = Advice::new(errors, audience);
-            sqlite::run(rt, state, *out, output, &mut advice)?;
-        }
-        Task::Digest { files, form } => {
-            let mut progress = ProgressLine::new(rt, errors, audience.beside_output());
-            digest::run(rt, files, *form, output, &mut progress)?;
-        }
-        Task::Serve { meeting, is_quiet } => {
-            let mut advice = Advice::new(errors, audience);
-            serve::run(rt, *meeting, *is_quiet, input, output, &mut advice)?;
-        }
-        Task::Sync {
-            meeting,
-            role,
-            is_quiet,
-        } => {
-            let mut advice = Advice::new(errors, audience);
-            let role = *role;
-            sync::run(rt, *meeting, role, *is_quiet, input, output, &mut advice)?;
-        }
-        Task::Hub { endpoint, limits } => {
-            census_net::hub(rt, *endpoint, *limits, output, errors)?;
-        }
-    }
-    Ok(0)
 }

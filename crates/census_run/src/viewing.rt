@@ -1,8 +1,8 @@
 //! Commands that show what a state file says, written as it is made.
 
+use crate::commands::Task;
 use crate::found::word;
 use crate::lists::{is_listed, listed};
-use crate::task::Task;
 use census_core::{Fault, View, stream_only, stream_view};
 use census_diagnosis::{Given, of_games};
 use census_failure::Failure;

@@ -6,8 +6,9 @@ use oct_text::{Form, Shown, Told};
 /// One command over the bytes of a state file, and over those of one more file where it reads one. Texts are as they stand on the
 /// command line.
 ///
-/// The other commands are no requests: `fold` reads lines; `read`, `union` and `digest` read several files; `search` and `check` read
-/// no state; `site` writes a folder; `serve`, `sync` and `hub` have sessions; `explain`, `completion` and `manual` read nothing.
+/// The other commands have functions of their own: `fold` reads lines; `read`, `union`, `digest`, `diff` and `log` read several files;
+/// `search` and `check` read no state; `left`, `status`, `recheck`, `sqlite` and `site` ask a state for more than one text; `serve`,
+/// `sync` and `hub` have sessions; `explain`, `completion` and `manual` read nothing.
 #[derive(Drop)]
 pub enum Request {
     /// A new state of this author.

@@ -1,6 +1,6 @@
 //! The command line of the program, made from the table of the commands.
 
-use crate::table::{Part, Row};
+use crate::table::{Chapter, Row};
 use crate::words::{self, Choice, Takes, Times, Word};
 use clap::{Arg, ArgAction, Command};
 use std::alloc::{AllocError, Global};
@@ -8,18 +8,18 @@ use std::alloc::{AllocError, Global};
 /// The command line of a program with these commands, and with this first screen of its help.
 pub fn command<'a>(
     alloc: Global,
-    parts: &[Part],
+    chapters: &[Chapter],
     screen: &'a str,
 ) -> Result<Command<'a>, AllocError> {
     let mut command = Command::new(alloc, "census")
         .bin_name("census")?
-        .version("2.5.0")
+        .version("2.6.0")
         .override_help(screen)
         .no_binary_name(true)
         .subcommand_required(true)
         .arg(explain(alloc))?;
-    for part in parts {
-        for row in part.rows {
+    for chapter in chapters {
+        for row in chapter.rows {
             command = command.subcommand(command_of(alloc, row)?)?;
         }
     }

@@ -1,6 +1,6 @@
 //! How shells complete the words of a command line, made from the table of the commands.
 
-use crate::table::{Part, Row};
+use crate::table::{Chapter, Row};
 use crate::words::{self, Choice, Takes};
 use std::alloc::AllocError;
 
@@ -29,13 +29,13 @@ impl Shell {
 pub fn append_completions(
     text: &mut String,
     shell: Shell,
-    parts: &[Part],
+    chapters: &[Chapter],
     faults: &str,
 ) -> Result<(), AllocError> {
     match shell {
-        Shell::Bash => append_bash(text, parts, faults),
-        Shell::Zsh => append_zsh(text, parts, faults),
-        Shell::Fish => append_fish(text, parts, faults),
+        Shell::Bash => append_bash(text, chapters, faults),
+        Shell::Zsh => append_zsh(text, chapters, faults),
+        Shell::Fish => append_fish(text, chapters, faults),
     }
 }
 
@@ -84,18 +84,18 @@ complete -o default -F _census census
 // The options that stand with every command, and without one.
 const EVERYWHERE: &str = "--explain --help";
 
-fn append_bash(text: &mut String, parts: &[Part], faults: &str) -> Result<(), AllocError> {
+fn append_bash(text: &mut String, chapters: &[Chapter], faults: &str) -> Result<(), AllocError> {
     text.push_str(BASH_FRONT)?;
     text.push_str("  '') options='")?;
-    for part in parts {
-        for row in part.rows {
+    for chapter in chapters {
+        for row in chapter.rows {
             text.push_str(row.name)?;
             text.push_str(" ")?;
         }
     }
     append_all(text, &[EVERYWHERE, " --version' ;;\n"])?;
-    for part in parts {
-        for row in part.rows {
+    for chapter in chapters {
+        for row in chapter.rows {
             append_bash_row(text, row, faults)?;
         }
     }
@@ -151,18 +151,18 @@ else
 fi
 "#;
 
-fn append_zsh(text: &mut String, parts: &[Part], faults: &str) -> Result<(), AllocError> {
+fn append_zsh(text: &mut String, chapters: &[Chapter], faults: &str) -> Result<(), AllocError> {
     text.push_str(ZSH_FRONT)?;
-    for part in parts {
-        for row in part.rows {
+    for chapter in chapters {
+        for row in chapter.rows {
             append_all(text, &["    '", row.name, ":"])?;
             append_quoted(text, row.line, "'\\''")?;
             text.push_str("'\n")?;
         }
     }
     text.push_str(ZSH_MIDDLE)?;
-    for part in parts {
-        for row in part.rows {
+    for chapter in chapters {
+        for row in chapter.rows {
             append_zsh_row(text, row, faults)?;
         }
     }
@@ -212,10 +212,10 @@ complete -c census -l explain -d 'Says more on standard error'
 complete -c census -l help -d 'Prints help'
 "#;
 
-fn append_fish(text: &mut String, parts: &[Part], faults: &str) -> Result<(), AllocError> {
+fn append_fish(text: &mut String, chapters: &[Chapter], faults: &str) -> Result<(), AllocError> {
     text.push_str(FISH_FRONT)?;
-    for part in parts {
-        for row in part.rows {
+    for chapter in chapters {
+        for row in chapter.rows {
             append_fish_row(text, row, faults)?;
         }
     }

@@ -1,6 +1,6 @@
 //! The first screen of the help, made from the table of the commands.
 
-use crate::table::{Part, Row};
+use crate::table::{Chapter, Row};
 use crate::words::{Times, Word};
 use std::alloc::{AllocError, Global};
 
@@ -44,12 +44,12 @@ Exit status: 0 done, 1 refused, 2 command line, 3 file, stream or network, 4 mem
 const WIDTH: usize = 27;
 
 /// The help of a program with these commands, on one screen.
-pub fn first_screen(alloc: Global, parts: &[Part]) -> Result<String, AllocError> {
+pub fn first_screen(alloc: Global, chapters: &[Chapter]) -> Result<String, AllocError> {
     let mut screen = format!(in alloc; "{TITLE}{FRONT}")?;
-    for part in parts {
-        screen.push_str(part.title)?;
+    for chapter in chapters {
+        screen.push_str(chapter.title)?;
         screen.push_str(":\n")?;
-        for row in part.rows {
+        for row in chapter.rows {
             append_line(alloc, &mut screen, row)?;
         }
     }

@@ -3,7 +3,7 @@
 use crate::entry::Entry;
 use crate::help::{EXAMPLE, TITLE, words_text};
 use crate::manual_texts::{DESCRIPTION, FAULTS, FILES, SEE_ALSO};
-use crate::table::{Part, Row};
+use crate::table::{Chapter, Row};
 use crate::words::{self, Choice, Takes, Word};
 use std::alloc::{AllocError, Global};
 
@@ -14,11 +14,15 @@ const SYNOPSIS: &str = ".SH SYNOPSIS\n.B census\n.I COMMAND\n\\&..\n";
 
 /// The page of the manual: what the help says of each of these commands, and what it has no room for. Its list of faults has
 /// these entries, in their order.
-pub fn manual_page(alloc: Global, parts: &[Part], faults: &[Entry]) -> Result<String, AllocError> {
+pub fn manual_page(
+    alloc: Global,
+    chapters: &[Chapter],
+    faults: &[Entry],
+) -> Result<String, AllocError> {
     let mut page = String::new(alloc);
     append_front(&mut page)?;
-    for part in parts {
-        append_part(alloc, &mut page, part)?;
+    for chapter in chapters {
+        append_chapter(alloc, &mut page, chapter)?;
     }
     page.push_str(FILES)?;
     append_faults(alloc, &mut page, faults)?;
@@ -36,12 +40,12 @@ fn append_front(page: &mut String) -> Result<(), AllocError> {
     page.push_str(".SH COMMANDS\n")
 }
 
-// The commands of a part, under its title.
-fn append_part(alloc: Global, page: &mut String, part: &Part) -> Result<(), AllocError> {
+// The commands of a chapter, under its title.
+fn append_chapter(alloc: Global, page: &mut String, chapter: &Chapter) -> Result<(), AllocError> {
     page.push_str(".SS ")?;
-    page.push_str(part.title)?;
+    page.push_str(chapter.title)?;
     page.push_str("\n")?;
-    for row in part.rows {
+    for row in chapter.rows {
         append_command(alloc, page, row)?;
     }
     Ok(())

@@ -21,7 +21,7 @@ pub struct Row {
 
 /// Some commands, under the title that they have in the help.
 #[derive(Clone, Copy)]
-pub struct Part {
+pub struct Chapter {
     /// The title.
     pub title: &'static str,
     /// Their rows, in the order in which the help has them.
@@ -29,9 +29,9 @@ pub struct Part {
 }
 
 /// The first row of the command that is called so; none where no command is.
-pub fn row_named(parts: &[Part], name: &str) -> Option<Row> {
-    for part in parts {
-        for row in part.rows {
+pub fn row_named(chapters: &[Chapter], name: &str) -> Option<Row> {
+    for chapter in chapters {
+        for row in chapter.rows {
             if row.name == name {
                 return Some(*row);
             }

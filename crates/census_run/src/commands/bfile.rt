@@ -1,8 +1,8 @@
 //! `census bfile`: the known values of a game.
 
 use crate::ask::asking;
+use crate::commands::Task;
 use crate::found::bytes;
-use crate::task::Task;
 use census_core::Request;
 use census_failure::Failure;
 use census_words::{Row, words};

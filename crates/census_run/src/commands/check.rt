@@ -1,7 +1,7 @@
 //! `census check`: a b-file beside the values of a game.
 
+use crate::commands::Task;
 use crate::found::word;
-use crate::task::Task;
 use census_core::{Fault, Shift, check, find_shift};
 use census_diagnosis::{Given, of_bfile, of_code};
 use census_failure::{Advice, Failure, INPUT_NAME};

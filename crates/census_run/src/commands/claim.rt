@@ -1,8 +1,8 @@
 //! `census claim`: the values of a b-file.
 
 use crate::change::changing;
+use crate::commands::Task;
 use crate::found::bytes;
-use crate::task::Task;
 use census_core::Request;
 use census_failure::Failure;
 use census_words::{Row, words};

@@ -1,8 +1,7 @@
 //! `census completion`: how a shell completes words.
 
-use crate::commands::parts;
+use crate::commands::{Task, chapters};
 use crate::found::word;
-use crate::task::Task;
 use census_core::Fault;
 use census_failure::{Failure, fault_names, shown};
 use census_words::{Row, Shell, append_completions, words};
@@ -45,6 +44,6 @@ fn shell_text(alloc: Global, name: &str) -> Result<String, AllocError> {
 pub(crate) fn run<O: Write>(alloc: Global, shell: Shell, output: &mut O) -> Result<(), Failure> {
     let mut text = String::new(alloc);
     let faults = fault_names(alloc)?;
-    append_completions(&mut text, shell, &parts(), &faults)?;
+    append_completions(&mut text, shell, &chapters(), &faults)?;
     Ok(write_out(output, text.as_bytes())?)
 }

@@ -1,19 +1,27 @@
 //! `census compute`: the next values of a game.
 
 use crate::change::changing;
+use crate::commands::Task;
 use crate::found::bytes;
 use crate::numbers::{BLOCK, number_of};
-use crate::task::Task;
 use census_core::Request;
 use census_failure::Failure;
-use census_words::{Row, words};
+use census_words::Row;
+use census_words::words::{self, Times, Word};
 use clap::ArgMatches;
 use std::alloc::Global;
+
+// How many values are computed as one block.
+const COUNT: Word = Word {
+    name: "COUNT",
+    meaning: "How many values more than are known, 1 to 1024; fewer where heap 65535 comes first",
+    times: Times::One,
+};
 
 /// Its row in the table.
 pub(crate) const ROW: Row = Row {
     name: "compute",
-    words: &[words::STATE, words::CODE, words::COUNT],
+    words: &[words::STATE, words::CODE, COUNT],
     options: &[words::QUIET],
     line: "Computes the next values of a game, and issues them",
     about: "Computes the next values of a game and issues them, and prints author and number",
@@ -31,7 +39,7 @@ Example:
 /// What its words ask for.
 pub(crate) fn task<'a>(alloc: Global, found: &ArgMatches<'a>) -> Result<Task<'a>, Failure> {
     let request = Request::Compute {
-        count: number_of(alloc, found, words::COUNT, BLOCK)?,
+        count: number_of(alloc, found, COUNT, BLOCK)?,
         code: bytes(alloc, found, words::CODE)?,
     };
     changing(found, None, request)

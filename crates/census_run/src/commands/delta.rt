@@ -1,20 +1,36 @@
 //! `census delta`: all operations of a state, or those of some games, as a file.
 
 use crate::ask::asking;
+use crate::commands::Task;
 use crate::lists::{is_listed, listed};
-use crate::task::Task;
 use census_core::Request;
 use census_failure::Failure;
-use census_words::{Row, words};
+use census_words::Row;
+use census_words::words::{self, Choice, Takes, Times, Word};
 use clap::ArgMatches;
 use std::io::Read;
 use std::rt::Files;
 
+// The delta that is written.
+const OUT: Word = Word {
+    name: "OUT",
+    meaning: "The delta file that is written, or -; not the state file",
+    times: Times::One,
+};
+
+// The games whose operations alone are written.
+const OF_GAMES: Choice = Choice {
+    name: "only",
+    takes: Takes::Many("CODE"),
+    meaning: "Writes the blocks and claims of this game alone; may stand several times",
+    default: None,
+};
+
 /// Its row in the table.
 pub(crate) const ROW: Row = Row {
     name: "delta",
-    words: &[words::STATE, words::OUT],
-    options: &[words::OF_GAMES, words::LIST, words::PART, words::REPLACE],
+    words: &[words::STATE, OUT],
+    options: &[OF_GAMES, words::LIST, words::PART, words::REPLACE],
     line: "Writes all operations as a file",
     about: "Writes all operations as one delta file, and prints how many there are",
     after: "\
@@ -45,11 +61,11 @@ where
     R: Files + AllocGlobal,
     I: Read,
 {
-    let codes = listed(rt, found, words::OF_GAMES.name, input)?;
+    let codes = listed(rt, found, OF_GAMES.name, input)?;
     let request = if codes.is_empty() && !is_listed(found) {
         Request::Delta
     } else {
         Request::DeltaOf { codes }
     };
-    asking(found, Some(words::OUT), request)
+    asking(found, Some(OUT), request)
 }

@@ -2,25 +2,48 @@
 
 use super::check::read_input;
 use super::read::is_refused;
+use crate::commands::Task;
 use crate::found::word;
 use crate::lists::{is_listed, listed};
-use crate::task::Task;
 use census_core::{Fault, diff, diff_of_games};
 use census_diagnosis::{Given, of_either, of_games};
 use census_failure::Failure;
 use census_files::is_standard;
-use census_words::{Row, words};
+use census_words::Row;
+use census_words::words::{self, Choice, Takes, Times, Word};
 use clap::ArgMatches;
 use std::alloc::Global;
 use std::io::{Read, Write};
 use std::rt::Files;
 use written::write_out;
 
+// The first of two files that are compared.
+const ONE: Word = Word {
+    name: "FILE",
+    meaning: "A state or a delta, or -",
+    times: Times::One,
+};
+
+// The second.
+const OTHER: Word = Word {
+    name: "OTHER",
+    meaning: "Another one, or -",
+    times: Times::One,
+};
+
+// The games in which alone two files are compared.
+const IN_GAMES: Choice = Choice {
+    name: "only",
+    takes: Takes::Many("CODE"),
+    meaning: "Compares the blocks and claims of this game alone; may stand several times",
+    default: None,
+};
+
 /// Its row in the table.
 pub(crate) const ROW: Row = Row {
     name: "diff",
-    words: &[words::ONE, words::OTHER],
-    options: &[words::IN_GAMES, words::LIST, words::PART],
+    words: &[ONE, OTHER],
+    options: &[IN_GAMES, words::LIST, words::PART],
     line: "What one file has, a state or a delta, and another has not",
     about: "Lists the operations that one of two files has, each a state or a delta, and the other has not",
     after: "\
@@ -61,13 +84,13 @@ where
     R: Files + AllocGlobal,
     I: Read,
 {
-    let (one, other) = (word(found, words::ONE)?, word(found, words::OTHER)?);
+    let (one, other) = (word(found, ONE)?, word(found, OTHER)?);
     let list = found.get_str(words::LIST.name).unwrap_or("");
     if standard_inputs(one, other, list) > 1 {
         let text = String::from_str(rt.alloc(), "only one of the files can be -");
         return Err(Failure::from(Fault::Words).found(text));
     }
-    let codes = listed(rt, found, words::IN_GAMES.name, input)?;
+    let codes = listed(rt, found, IN_GAMES.name, input)?;
     let games = if codes.is_empty() && !is_listed(found) {
         None
     } else {

@@ -1,7 +1,7 @@
 //! `census digest`: names of what files hold.
 
+use crate::commands::Task;
 use crate::found::{form, repeated};
-use crate::task::Task;
 use census_core::{Fault, Form, digest};
 use census_diagnosis::{Given, of_either};
 use census_failure::{Failure, escaped};

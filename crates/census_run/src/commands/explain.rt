@@ -1,7 +1,7 @@
 //! `census explain`: what faults mean.
 
+use crate::commands::Task;
 use crate::found::repeated_or_none;
-use crate::task::Task;
 use census_core::Fault;
 use census_failure::{Failure, faults_text, shown};
 use census_words::{Row, words};

@@ -1,9 +1,9 @@
 //! `census extend`: values of games, up to as many as are wanted.
 
 use crate::change::changing;
+use crate::commands::Task;
 use crate::lists::listed;
 use crate::numbers::heap_count;
-use crate::task::Task;
 use census_core::Request;
 use census_failure::Failure;
 use census_words::{Row, words};

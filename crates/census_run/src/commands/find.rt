@@ -1,9 +1,9 @@
 //! `census find`: the period that known values prove.
 
 use crate::ask::asking;
+use crate::commands::Task;
 use crate::found::form;
 use crate::lists::listed;
-use crate::task::Task;
 use census_core::Request;
 use census_failure::Failure;
 use census_words::{Row, words};

@@ -1,18 +1,18 @@
 //! `census games`: a line for each game, or for each refutation, or a table.
 
+use crate::commands::Task;
 use crate::found::word;
 use crate::lists::{is_listed, listed};
 use crate::numbers::{FROM_1, option_of};
 use crate::readers::Readers;
-use crate::task::Task;
 use census_core::{Condition, Fault, Form, Listing, list_games};
 use census_diagnosis::{Given, of_games};
 use census_failure::{Failure, shown};
 use census_files::read_state;
 use census_progress::ProgressLine;
 use census_table::{Look, When};
-use census_words::words::Choice;
-use census_words::{Row, words};
+use census_words::Row;
+use census_words::words::{self, Choice, Takes, Times, Word};
 use clap::ArgMatches;
 use std::alloc::{AllocError, Global};
 use std::io::{Read, Write};
@@ -20,22 +20,93 @@ use std::rt::Files;
 use std::time::Clock;
 use written::write_out;
 
+// The codes of games; there may be none.
+const GAMES: Word = Word {
+    name: "CODE",
+    meaning: "Octal codes such as 0.77; all games where there is none, and no --codes",
+    times: Times::Any,
+};
+
+// Whether refutations are listed.
+const REFUTED: Choice = Choice {
+    name: "refuted",
+    takes: Takes::Nothing,
+    meaning: "Lists the refuted blocks and claims",
+    default: None,
+};
+
+// The length of the period of the games that alone are told of.
+const OF_PERIOD: Choice = Choice {
+    name: "period",
+    takes: Takes::One("P"),
+    meaning: "Leaves out the games whose least proved period is not P, 1 to 4294967295",
+    default: None,
+};
+
+// Whether the games alone are told of of which no period is proved.
+const NO_PERIOD: Choice = Choice {
+    name: "no-period",
+    takes: Takes::Nothing,
+    meaning: "Leaves out the games of which a period is proved",
+    default: None,
+};
+
+// Whether the games alone are told of whose period nobody claimed.
+const UNCLAIMED: Choice = Choice {
+    name: "unclaimed",
+    takes: Takes::Nothing,
+    meaning: "Leaves out the games whose least proved period is claimed, and those that have none",
+    default: None,
+};
+
+// How many heaps are not known of the games that alone are told of.
+const KNOWN_BELOW: Choice = Choice {
+    name: "known-below",
+    takes: Takes::One("N"),
+    meaning: "Leaves out the games of which N heaps or more are known, 1 to 4294967295",
+    default: None,
+};
+
+// Whether games are told of as comma-separated values.
+const AS_CSV: Choice = Choice {
+    name: "csv",
+    takes: Takes::Nothing,
+    meaning: "Prints comma-separated values for a spreadsheet, behind a line of the columns",
+    default: None,
+};
+
+// Whether games are told of as a table of LaTeX.
+const AS_LATEX: Choice = Choice {
+    name: "latex",
+    takes: Takes::Nothing,
+    meaning: "Prints codes, known heaps, periods and starts as a table of LaTeX",
+    default: None,
+};
+
+// When what is told of games has colours.
+const COLOR: Choice = Choice {
+    name: "color",
+    takes: Takes::One("WHEN"),
+    meaning: "Shows refuted counts red and periods green: always, never, or auto, on a terminal alone",
+    default: Some("auto"),
+};
+
 /// Its row in the table.
 pub(crate) const ROW: Row = Row {
     name: "games",
-    words: &[words::STATE, words::GAMES],
+    words: &[words::STATE, GAMES],
     options: &[
         words::LIST,
         words::PART,
-        words::OF_PERIOD,
-        words::NO_PERIOD,
-        words::UNCLAIMED,
-        words::KNOWN_BELOW,
-        words::REFUTED,
+        OF_PERIOD,
+        NO_PERIOD,
+        UNCLAIMED,
+        KNOWN_BELOW,
+        REFUTED,
         words::EACH_JSON,
-        words::AS_CSV,
-        words::AS_LATEX,
-        words::COLOR,
+        AS_CSV,
+        AS_LATEX,
+        COLOR,
     ],
     line: "A line for each game, or for each refuted claim",
     about: "Says of each game how much is known, which period is proved, and what became of its claims",
@@ -89,7 +160,7 @@ where
 {
     let listing = listing(rt.alloc(), found)?;
     let mut which = conditions(rt.alloc(), found)?;
-    let codes = listed(rt, found, words::GAMES.name, input)?;
+    let codes = listed(rt, found, GAMES.name, input)?;
     // No code stands for all games. A list of none is of no game, and no game has fewer than 0 known heaps.
     if codes.is_empty() && is_listed(found) {
         add(&mut which, Condition::KnownBelow(0))?;
@@ -105,7 +176,7 @@ where
 
 // When colours are shown.
 fn colored(alloc: Global, found: &ArgMatches<'_>) -> Result<When, Failure> {
-    match found.get_str(words::COLOR.name) {
+    match found.get_str(COLOR.name) {
         Some("always") => Ok(When::Always),
         Some("never") => Ok(When::Never),
         Some("auto") | None => Ok(When::Auto),
@@ -120,10 +191,10 @@ fn color_text(alloc: Global, word: &str) -> Result<String, AllocError> {
 
 // What is listed.
 fn listing(alloc: Global, found: &ArgMatches<'_>) -> Result<Listing, Failure> {
-    let is_refuted = found.get_flag(words::REFUTED.name);
+    let is_refuted = found.get_flag(REFUTED.name);
     let is_json = found.get_flag(words::EACH_JSON.name);
-    let is_csv = found.get_flag(words::AS_CSV.name);
-    let is_latex = found.get_flag(words::AS_LATEX.name);
+    let is_csv = found.get_flag(AS_CSV.name);
+    let is_latex = found.get_flag(AS_LATEX.name);
     match (is_refuted, is_json, is_csv, is_latex) {
         (false, false, false, false) => Ok(Listing::Games(Form::Lines)),
         (false, true, false, false) => Ok(Listing::Games(Form::Json)),
@@ -141,13 +212,13 @@ fn listing(alloc: Global, found: &ArgMatches<'_>) -> Result<Listing, Failure> {
 // What has to hold of the games.
 fn conditions(alloc: Global, found: &ArgMatches<'_>) -> Result<Vec<Condition>, Failure> {
     let mut which = Vec::new(alloc);
-    if let Some(period) = number_of(alloc, found, words::OF_PERIOD)? {
+    if let Some(period) = number_of(alloc, found, OF_PERIOD)? {
         add(&mut which, Condition::OfPeriod(period))?;
     }
-    if found.get_flag(words::UNCLAIMED.name) {
+    if found.get_flag(UNCLAIMED.name) {
         add(&mut which, Condition::Unclaimed)?;
     }
-    if found.get_flag(words::NO_PERIOD.name) {
+    if found.get_flag(NO_PERIOD.name) {
         if !which.is_empty() {
             return Err(apart(
                 alloc,
@@ -156,7 +227,7 @@ fn conditions(alloc: Global, found: &ArgMatches<'_>) -> Result<Vec<Condition>, F
         }
         add(&mut which, Condition::NoPeriod)?;
     }
-    if let Some(count) = number_of(alloc, found, words::KNOWN_BELOW)? {
+    if let Some(count) = number_of(alloc, found, KNOWN_BELOW)? {
         add(&mut which, Condition::KnownBelow(u64::from(count)))?;
     }
     Ok(which)

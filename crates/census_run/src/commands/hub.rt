@@ -1,13 +1,30 @@
 //! `census hub`: many sessions at once.
 
+use crate::commands::Task;
 use crate::endpoint::endpoint;
 use crate::numbers::{FROM_0, SESSIONS, option_of, seconds};
-use crate::task::Task;
 use census_failure::Failure;
 use census_net::Limits;
-use census_words::{Row, words};
+use census_words::Row;
+use census_words::words::{self, Choice, Takes};
 use clap::ArgMatches;
 use std::alloc::Global;
+
+// How long a session of a hub may last.
+const LONGEST: Choice = Choice {
+    name: "longest",
+    takes: Takes::One("SECONDS"),
+    meaning: "How long one session may last, 1 to 4294967295 seconds",
+    default: Some("600"),
+};
+
+// After how many connections a hub ends.
+const PEERS: Choice = Choice {
+    name: "peers",
+    takes: Takes::One("N"),
+    meaning: "Ends after so many connections, 0 to 4294967295; without it, not by itself",
+    default: None,
+};
 
 /// Its row in the table.
 pub(crate) const ROW: Row = Row {
@@ -15,8 +32,8 @@ pub(crate) const ROW: Row = Row {
     words: &[words::STATE, words::ADDR],
     options: &[
         words::PATIENCE,
-        words::LONGEST,
-        words::PEERS,
+        LONGEST,
+        PEERS,
         words::SESSIONS,
         words::MOST,
         words::AUTHORS,
@@ -49,7 +66,7 @@ Examples:
 
 /// What its words ask for.
 pub(crate) fn task<'a>(alloc: Global, found: &ArgMatches<'a>) -> Result<Task<'a>, Failure> {
-    let longest = seconds(alloc, found, words::LONGEST)?;
+    let longest = seconds(alloc, found, LONGEST)?;
     Ok(Task::Hub {
         endpoint: endpoint(alloc, found, Some(longest))?,
         limits: limits(alloc, found)?,
@@ -66,8 +83,8 @@ fn limits(alloc: Global, found: &ArgMatches<'_>) -> Result<Limits, Failure> {
 
 // After how many peers a hub ends.
 fn peers(alloc: Global, found: &ArgMatches<'_>) -> Result<u64, Failure> {
-    if found.get_str(words::PEERS.name).is_none() {
+    if found.get_str(PEERS.name).is_none() {
         return Ok(u64::MAX);
     }
-    Ok(u64::from(option_of(alloc, found, words::PEERS, FROM_0)?))
+    Ok(u64::from(option_of(alloc, found, PEERS, FROM_0)?))
 }

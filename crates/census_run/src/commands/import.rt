@@ -1,16 +1,24 @@
 //! `census import`: the block of values of a JSON file.
 
 use crate::change::changing;
-use crate::task::Task;
+use crate::commands::Task;
 use census_core::Request;
 use census_failure::Failure;
-use census_words::{Row, words};
+use census_words::Row;
+use census_words::words::{self, Times, Word};
 use clap::ArgMatches;
+
+// The file of a block.
+const FILE: Word = Word {
+    name: "FILE",
+    meaning: "A JSON file such as {\"code\":\"0.07\",\"start\":0,\"values\":[0,0,1,1,2,0,3]}, or -",
+    times: Times::One,
+};
 
 /// Its row in the table.
 pub(crate) const ROW: Row = Row {
     name: "import",
-    words: &[words::STATE, words::FILE],
+    words: &[words::STATE, FILE],
     options: &[words::QUIET],
     line: "Issues a block of values from a JSON file",
     about: "Issues the block of values of a JSON file, and prints its author and number",
@@ -27,5 +35,5 @@ Example:
 
 /// What its words ask for.
 pub(crate) fn task<'a>(found: &ArgMatches<'a>) -> Result<Task<'a>, Failure> {
-    changing(found, Some(words::FILE), Request::Import)
+    changing(found, Some(FILE), Request::Import)
 }

@@ -1,8 +1,8 @@
 //! `census init`: a new state.
 
+use crate::commands::Task;
 use crate::drawing::author;
 use crate::found::word;
-use crate::task::Task;
 use census_core::{Fault, Reply, Request, perform};
 use census_failure::Failure;
 use census_files::{StateFile, exists};

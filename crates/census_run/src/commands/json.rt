@@ -1,6 +1,6 @@
 //! `census json`: all that is known, for scripts.
 
-use crate::task::Task;
+use crate::commands::Task;
 use crate::viewing::viewing;
 use census_core::View;
 use census_failure::Failure;

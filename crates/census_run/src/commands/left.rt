@@ -1,24 +1,32 @@
 //! `census left`: which games of a list lack values.
 
+use crate::commands::Task;
 use crate::commands::read::{of_files, read_files};
 use crate::found::repeated_or_none;
 use crate::lists::{codes_in, dealt, part};
 use crate::numbers::heap_count;
-use crate::task::Task;
 use census_codes::{Part, code_lines};
 use census_core::{Fault, left_in};
 use census_failure::Failure;
-use census_words::{Row, words};
+use census_words::Row;
+use census_words::words::{self, Times, Word};
 use clap::ArgMatches;
 use std::alloc::Global;
 use std::io::{Read, Write};
 use std::rt::Files;
 use written::write_out;
 
+// The files that may hold values.
+const HELD: Word = Word {
+    name: "FILE",
+    meaning: "States and deltas; nothing is known where there is none",
+    times: Times::Any,
+};
+
 /// Its row in the table.
 pub(crate) const ROW: Row = Row {
     name: "left",
-    words: &[words::HEAPS, words::HELD],
+    words: &[words::HEAPS, HELD],
     options: &[words::LIST, words::PART],
     line: "Which games of a list lack one of the first COUNT values",
     about: "Names the games of a list of which some files together lack one of the first COUNT values",
@@ -59,7 +67,7 @@ pub(crate) fn task<'a>(alloc: Global, found: &ArgMatches<'a>) -> Result<Task<'a>
         count: heap_count(alloc, found)?,
         list,
         part: part(alloc, found)?,
-        files: repeated_or_none(alloc, found, words::HELD)?,
+        files: repeated_or_none(alloc, found, HELD)?,
     }))
 }
 

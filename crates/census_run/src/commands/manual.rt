@@ -1,6 +1,6 @@
 //! `census manual`: the page of the manual.
 
-use crate::commands::parts;
+use crate::commands::chapters;
 use census_core::Fault;
 use census_failure::{Failure, FaultWords, faults, name_of, words_of};
 use census_words::{Entry, Row, manual_page};
@@ -26,7 +26,7 @@ Example:
 
 /// Prints the page of the manual.
 pub(crate) fn run<O: Write>(alloc: Global, output: &mut O) -> Result<(), Failure> {
-    let page = manual_page(alloc, &parts(), &entries(alloc)?)?;
+    let page = manual_page(alloc, &chapters(), &entries(alloc)?)?;
     Ok(write_out(output, page.as_bytes())?)
 }
 

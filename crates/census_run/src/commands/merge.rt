@@ -1,16 +1,24 @@
 //! `census merge`: a delta is taken in.
 
 use crate::change::changing;
-use crate::task::Task;
+use crate::commands::Task;
 use census_core::Request;
 use census_failure::Failure;
-use census_words::{Row, words};
+use census_words::Row;
+use census_words::words::{self, Times, Word};
 use clap::ArgMatches;
+
+// The delta that is taken in.
+const DELTA: Word = Word {
+    name: "DELTA",
+    meaning: "A delta file, as `census delta` writes it; or -",
+    times: Times::One,
+};
 
 /// Its row in the table.
 pub(crate) const ROW: Row = Row {
     name: "merge",
-    words: &[words::STATE, words::DELTA],
+    words: &[words::STATE, DELTA],
     options: &[],
     line: "Takes such a file in",
     about: "Takes a delta file in, and prints how many of its operations are new",
@@ -24,5 +32,5 @@ Example:
 
 /// What its words ask for.
 pub(crate) fn task<'a>(found: &ArgMatches<'a>) -> Result<Task<'a>, Failure> {
-    changing(found, Some(words::DELTA), Request::Merge)
+    changing(found, Some(DELTA), Request::Merge)
 }

@@ -1,18 +1,26 @@
 //! `census note`: a note.
 
 use crate::change::changing;
+use crate::commands::Task;
 use crate::found::bytes;
-use crate::task::Task;
 use census_core::Request;
 use census_failure::Failure;
-use census_words::{Row, words};
+use census_words::Row;
+use census_words::words::{self, Times, Word};
 use clap::ArgMatches;
 use std::alloc::Global;
+
+// The text of a note.
+const TEXT: Word = Word {
+    name: "TEXT",
+    meaning: "The note's text, at most 200 bytes of printable ASCII",
+    times: Times::One,
+};
 
 /// Its row in the table.
 pub(crate) const ROW: Row = Row {
     name: "note",
-    words: &[words::STATE, words::NAME, words::TEXT],
+    words: &[words::STATE, words::NAME, TEXT],
     options: &[words::QUIET],
     line: "Issues a note",
     about: "Issues a note, and prints its author and number",
@@ -32,7 +40,7 @@ Examples:
 pub(crate) fn task<'a>(alloc: Global, found: &ArgMatches<'a>) -> Result<Task<'a>, Failure> {
     let request = Request::Note {
         name: bytes(alloc, found, words::NAME)?,
-        text: bytes(alloc, found, words::TEXT)?,
+        text: bytes(alloc, found, TEXT)?,
     };
     changing(found, None, request)
 }

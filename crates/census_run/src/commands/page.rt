@@ -1,18 +1,26 @@
 //! `census page`: a page of the catalogue.
 
 use crate::ask::asking;
+use crate::commands::Task;
 use crate::numbers::{FROM_0, number_of};
-use crate::task::Task;
 use census_core::Request;
 use census_failure::Failure;
-use census_words::{Row, words};
+use census_words::Row;
+use census_words::words::{self, Times, Word};
 use clap::ArgMatches;
 use std::alloc::Global;
+
+// The number of a page of the catalogue.
+const NUMBER: Word = Word {
+    name: "NUMBER",
+    meaning: "The page's number, 0 and up; a page has 64 lines",
+    times: Times::One,
+};
 
 /// Its row in the table.
 pub(crate) const ROW: Row = Row {
     name: "page",
-    words: &[words::STATE, words::NUMBER],
+    words: &[words::STATE, NUMBER],
     options: &[],
     line: "64 lines of it",
     about: "Prints one page of the catalogue",
@@ -26,7 +34,7 @@ Example:
 /// What its words ask for.
 pub(crate) fn task<'a>(alloc: Global, found: &ArgMatches<'a>) -> Result<Task<'a>, Failure> {
     let request = Request::Page {
-        number: number_of(alloc, found, words::NUMBER, FROM_0)?,
+        number: number_of(alloc, found, NUMBER, FROM_0)?,
     };
     asking(found, None, request)
 }

@@ -1,19 +1,34 @@
 //! `census period`: the claim of a period.
 
 use crate::change::changing;
+use crate::commands::Task;
 use crate::found::bytes;
 use crate::numbers::{HEAPS, number_of};
-use crate::task::Task;
 use census_core::Request;
 use census_failure::Failure;
-use census_words::{Row, words};
+use census_words::Row;
+use census_words::words::{self, Times, Word};
 use clap::ArgMatches;
 use std::alloc::Global;
+
+// The heap from which on a claimed period holds.
+const E: Word = Word {
+    name: "E",
+    meaning: "The heap from which on the values repeat, 1 to 65536",
+    times: Times::One,
+};
+
+// A claimed period.
+const P: Word = Word {
+    name: "P",
+    meaning: "The period, 1 to 65536",
+    times: Times::One,
+};
 
 /// Its row in the table.
 pub(crate) const ROW: Row = Row {
     name: "period",
-    words: &[words::STATE, words::CODE, words::E, words::P],
+    words: &[words::STATE, words::CODE, E, P],
     options: &[words::QUIET],
     line: "Claims that a game's values repeat by P from heap E on",
     about: "Issues the claim that a game's values repeat, and prints its author and number",
@@ -32,8 +47,8 @@ Example:
 /// What its words ask for.
 pub(crate) fn task<'a>(alloc: Global, found: &ArgMatches<'a>) -> Result<Task<'a>, Failure> {
     let request = Request::Period {
-        e: number_of(alloc, found, words::E, HEAPS)?,
-        p: number_of(alloc, found, words::P, HEAPS)?,
+        e: number_of(alloc, found, E, HEAPS)?,
+        p: number_of(alloc, found, P, HEAPS)?,
         code: bytes(alloc, found, words::CODE)?,
     };
     changing(found, None, request)

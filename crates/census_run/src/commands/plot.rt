@@ -1,25 +1,42 @@
 //! `census plot`: the picture of the known values of a game.
 
 use crate::ask::asking;
+use crate::commands::Task;
 use crate::found::{bytes, word};
 use crate::numbers::{ANY_HEAP, option_if};
 use crate::system::System;
-use crate::task::Task;
 use census_core::{Fault, Request, plot_heaps};
 use census_diagnosis::{Given, of_code, of_games};
 use census_failure::{Failure, shown_bytes};
 use census_files::read_state;
-use census_words::{Row, words};
+use census_words::Row;
+use census_words::words::{self, Choice, Takes};
 use clap::ArgMatches;
 use std::alloc::{AllocError, Global};
 use std::io::Write;
 use written::write_out;
 
+// The first heap of a picture.
+const FIRST_HEAP: Choice = Choice {
+    name: "from",
+    takes: Takes::One("HEAP"),
+    meaning: "Begins with this heap, whose value has to be known, and not with heap 0",
+    default: None,
+};
+
+// The last heap of a picture.
+const LAST_HEAP: Choice = Choice {
+    name: "to",
+    takes: Takes::One("HEAP"),
+    meaning: "Ends with this heap, or with the last known one, and not with the second run of the period",
+    default: None,
+};
+
 /// Its row in the table.
 pub(crate) const ROW: Row = Row {
     name: "plot",
     words: &[words::STATE, words::CODE],
-    options: &[words::FIRST_HEAP, words::LAST_HEAP],
+    options: &[FIRST_HEAP, LAST_HEAP],
     line: "The known values as a picture, SVG",
     about: "Prints a picture of the known values of a game, as SVG",
     after: "\
@@ -49,8 +66,8 @@ pub(crate) struct Drawn<'a> {
 
 /// What its words ask for.
 pub(crate) fn task<'a>(alloc: Global, found: &ArgMatches<'a>) -> Result<Task<'a>, Failure> {
-    let from = option_if(alloc, found, words::FIRST_HEAP, ANY_HEAP)?;
-    let to = option_if(alloc, found, words::LAST_HEAP, ANY_HEAP)?;
+    let from = option_if(alloc, found, FIRST_HEAP, ANY_HEAP)?;
+    let to = option_if(alloc, found, LAST_HEAP, ANY_HEAP)?;
     let code = bytes(alloc, found, words::CODE)?;
     if from.is_none() && to.is_none() {
         return asking(found, None, Request::Plot { code });

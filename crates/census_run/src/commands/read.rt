@@ -1,7 +1,7 @@
 //! `census read`: what files hold together.
 
+use crate::commands::Task;
 use crate::found::repeated;
-use crate::task::Task;
 use crate::viewing::flushed;
 use census_core::{Fault, read_together};
 use census_diagnosis::{Given, of_either};

@@ -1,15 +1,16 @@
 //! `census recheck`: the long periods that notes say, searched again.
 
+use crate::commands::Task;
 use crate::found::{copies, games, word};
 use crate::system::System;
-use crate::task::Task;
 use census_core::{Fault, Progress};
 use census_diagnosis::{Given, of_games};
 use census_failure::Failure;
 use census_files::read_state;
 use census_noted::{Rechecked, period_notes, recheck};
 use census_progress::ProgressLine;
-use census_words::{Row, words};
+use census_words::Row;
+use census_words::words::{self, Times, Word};
 use clap::ArgMatches;
 use oct_code::Code;
 use oct_record::Record;
@@ -18,10 +19,17 @@ use std::alloc::Global;
 use std::io::Write;
 use written::write_out;
 
+// The codes of games whose notes are rechecked; there may be none.
+const NOTED: Word = Word {
+    name: "CODE",
+    meaning: "Octal codes such as 0.16; the games of all such notes where there is none",
+    times: Times::Any,
+};
+
 /// Its row in the table.
 pub(crate) const ROW: Row = Row {
     name: "recheck",
-    words: &[words::STATE, words::NOTED],
+    words: &[words::STATE, NOTED],
     options: &[],
     line: "Searches again for the long periods that notes say",
     about: "Searches again for the period of each game of which a note says one",
@@ -55,7 +63,7 @@ pub(crate) struct Recheck<'a> {
 pub(crate) fn task<'a>(alloc: Global, found: &ArgMatches<'a>) -> Result<Task<'a>, Failure> {
     Ok(Task::Recheck(Recheck {
         state: word(found, words::STATE)?,
-        codes: games(alloc, &copies(alloc, found, words::NOTED.name)?)?,
+        codes: games(alloc, &copies(alloc, found, NOTED.name)?)?,
     }))
 }
 

@@ -1,18 +1,26 @@
 //! `census renumber`: a state goes on under another number.
 
 use crate::change::changing;
+use crate::commands::Task;
 use crate::drawing::author;
-use crate::task::Task;
 use census_core::Request;
 use census_failure::Failure;
-use census_words::{Row, words};
+use census_words::Row;
+use census_words::words::{self, Times, Word};
 use clap::ArgMatches;
 use std::random::RandomSource;
+
+// The author that a state goes on under.
+const OTHER_ID: Word = Word {
+    name: "ID",
+    meaning: "The new number, 1 to 4294967295; it is drawn where it is left out",
+    times: Times::OneOrNone,
+};
 
 /// Its row in the table.
 pub(crate) const ROW: Row = Row {
     name: "renumber",
-    words: &[words::STATE, words::OTHER_ID],
+    words: &[words::STATE, OTHER_ID],
     options: &[],
     line: "Goes on under another number, drawn where none is given",
     about: "Has a state go on under another number, and prints the old one and the new one",

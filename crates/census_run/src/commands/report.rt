@@ -1,20 +1,29 @@
 //! `census report`: all that is known, as one page of HTML.
 
-use crate::task::Task;
+use crate::commands::Task;
 use crate::viewing::viewing;
 use census_core::{Fault, View};
 use census_failure::Failure;
-use census_words::{Row, words};
+use census_words::Row;
+use census_words::words::{self, Choice, Takes};
 use clap::ArgMatches;
 use oct_text::Shown;
 use std::io::Read;
 use std::rt::Files;
 
+// How many values of a game a report shows.
+const SHOWN: Choice = Choice {
+    name: "values",
+    takes: Takes::One("SHOWN"),
+    meaning: "How many values of a game are shown: brief or all",
+    default: Some("brief"),
+};
+
 /// Its row in the table.
 pub(crate) const ROW: Row = Row {
     name: "report",
     words: &[words::STATE],
-    options: &[words::SHOWN, words::ONLY, words::LIST, words::PART],
+    options: &[SHOWN, words::ONLY, words::LIST, words::PART],
     line: "All that is known, as one page of HTML",
     about: "Prints all that is known as one page of HTML",
     after: "\
@@ -41,7 +50,7 @@ where
     R: Files + AllocGlobal,
     I: Read,
 {
-    let shown = match found.get_str(words::SHOWN.name) {
+    let shown = match found.get_str(SHOWN.name) {
         Some("brief") => Shown::Brief,
         Some("all") => Shown::All,
         _ => return Err(Failure::from(Fault::Words)),

@@ -1,24 +1,73 @@
 //! `census search`: the period of each game, past every limit, or a list of first values.
 
+use crate::commands::Task;
 use crate::found::{copies, game, games};
 use crate::lists::{is_listed, listed};
 use crate::noting::{check_state, note_found};
 use crate::numbers::{Range, SEARCHED, heaps, value_count};
 use crate::system::System;
-use crate::task::Task;
 use census_core::{
     Fault, Forgetful, Form, Progress, WINDOW_LIMIT, first_values, number, search,
     search_in_windows, write_values,
 };
 use census_failure::{Advice, Failure};
 use census_progress::{ProgressLine, WindowSearch, search_saved};
-use census_words::{Row, words};
+use census_words::Row;
+use census_words::words::{self, Choice, Takes};
 use clap::ArgMatches;
 use oct_code::Code;
 use std::alloc::{AllocError, Global};
 use std::io::{Read, Write};
 use std::rt::Files;
 use written::write_out;
+
+// The heaps whose values a search says.
+const AT: Choice = Choice {
+    name: "at",
+    takes: Takes::Many("HEAP"),
+    meaning: "Says the value of this heap too, 0 to 18446744073709551615; may stand several times",
+    default: None,
+};
+
+// Whether a search prints JSON.
+const AS_JSON: Choice = Choice {
+    name: "json",
+    takes: Takes::Nothing,
+    meaning: "Prints a line of JSON for each game",
+    default: None,
+};
+
+// Whether a search prints the values as a b-file.
+const AS_BFILE: Choice = Choice {
+    name: "bfile",
+    takes: Takes::Nothing,
+    meaning: "Prints the first COUNT values of one game as a b-file, and looks for no period",
+    default: None,
+};
+
+// Whether a search keeps few values.
+const WINDOW: Choice = Choice {
+    name: "window",
+    takes: Takes::Nothing,
+    meaning: "Keeps few of the values, so that COUNT may be up to 1152921504606846976",
+    default: None,
+};
+
+// The file in which a search is saved.
+const SAVE: Choice = Choice {
+    name: "save",
+    takes: Takes::One("FILE"),
+    meaning: "With --window and one CODE: saves how far the search is in FILE, and goes on from there",
+    default: None,
+};
+
+// The state in which long periods are noted.
+const NOTING: Choice = Choice {
+    name: "note",
+    takes: Takes::One("STATE"),
+    meaning: "Notes in STATE each period that no period claim can have: it or its start is above 65536",
+    default: None,
+};
 
 /// Its row in the table.
 pub(crate) const ROW: Row = Row {
@@ -27,12 +76,12 @@ pub(crate) const ROW: Row = Row {
     options: &[
         words::LIST,
         words::PART,
-        words::AT,
-        words::AS_JSON,
-        words::AS_BFILE,
-        words::WINDOW,
-        words::SAVE,
-        words::NOTING,
+        AT,
+        AS_JSON,
+        AS_BFILE,
+        WINDOW,
+        SAVE,
+        NOTING,
     ],
     line: "The period of each game, by at most COUNT values",
     about: "Computes values of each game until they prove a period, and says which",
@@ -88,7 +137,7 @@ Examples:
 /// What a search is for: the period of each game, by at most so many values, and the values of these heaps; in windows there
 /// are none.
 #[derive(Drop)]
-pub(crate) struct Search<'a> {
+pub(crate) struct Searched<'a> {
     pub(crate) count: u64,
     pub(crate) heaps: Vec<u64>,
     pub(crate) codes: Vec<Code>,
@@ -116,7 +165,7 @@ where
     R: Files + AllocGlobal,
     I: Read,
 {
-    if found.get_flag(words::AS_BFILE.name) {
+    if found.get_flag(AS_BFILE.name) {
         return tabled(rt.alloc(), found);
     }
     Ok(Task::Search(sought(rt, found, input)?))
@@ -124,11 +173,11 @@ where
 
 // The values that are asked for as a b-file: those of one game, and nothing else.
 fn tabled<'a>(alloc: Global, found: &ArgMatches<'a>) -> Result<Task<'a>, Failure> {
-    let is_more = found.get_flag(words::AS_JSON.name)
-        || found.get_flag(words::WINDOW.name)
-        || found.get_str(words::SAVE.name).is_some()
-        || found.get_str(words::NOTING.name).is_some();
-    if is_more || is_listed(found) || found.get_strs(words::AT.name).is_some() {
+    let is_more = found.get_flag(AS_JSON.name)
+        || found.get_flag(WINDOW.name)
+        || found.get_str(SAVE.name).is_some()
+        || found.get_str(NOTING.name).is_some();
+    if is_more || is_listed(found) || found.get_strs(AT.name).is_some() {
         return Err(crowded(alloc));
     }
     let codes = copies(alloc, found, words::CODES.name)?;
@@ -142,33 +191,33 @@ fn tabled<'a>(alloc: Global, found: &ArgMatches<'a>) -> Result<Task<'a>, Failure
 }
 
 // What is searched for.
-fn sought<'a, R, I>(rt: &R, found: &ArgMatches<'a>, input: &mut I) -> Result<Search<'a>, Failure>
+fn sought<'a, R, I>(rt: &R, found: &ArgMatches<'a>, input: &mut I) -> Result<Searched<'a>, Failure>
 where
     R: Files + AllocGlobal,
     I: Read,
 {
     let alloc = rt.alloc();
-    let form = if found.get_flag(words::AS_JSON.name) {
+    let form = if found.get_flag(AS_JSON.name) {
         Form::Json
     } else {
         Form::Lines
     };
-    let is_windowed = found.get_flag(words::WINDOW.name);
-    if is_windowed && found.get_strs(words::AT.name).is_some() {
+    let is_windowed = found.get_flag(WINDOW.name);
+    if is_windowed && found.get_strs(AT.name).is_some() {
         return Err(forgotten(alloc));
     }
-    let save = found.get_str(words::SAVE.name);
+    let save = found.get_str(SAVE.name);
     if save.is_some() && (!is_windowed || is_listed(found) || !is_one(alloc, found)?) {
         return Err(unsaved(alloc));
     }
-    let note = found.get_str(words::NOTING.name);
+    let note = found.get_str(NOTING.name);
     if note.is_some() && form == Form::Json {
         return Err(unnoted(alloc));
     }
     let range = if is_windowed { WINDOWED } else { SEARCHED };
-    Ok(Search {
+    Ok(Searched {
         count: value_count(alloc, found, range)?,
-        heaps: heaps(alloc, found, words::AT.name)?,
+        heaps: heaps(alloc, found, AT.name)?,
         codes: games(alloc, &listed(rt, found, words::CODES.name, input)?)?,
         form,
         is_windowed,
@@ -210,7 +259,7 @@ fn unnoted(alloc: Global) -> Failure {
 /// Searches for the period of each game, and prints its lines before it goes on to the next.
 pub(crate) fn run<R, O, E>(
     rt: &R,
-    asked: &Search<'_>,
+    asked: &Searched<'_>,
     output: &mut O,
     progress: &mut ProgressLine<'_, R, E>,
 ) -> Result<(), Failure>
@@ -283,7 +332,7 @@ fn seen_early_text(alloc: Global, needs: u64, values: u64) -> Result<String, All
 fn search_unsaved<P: Progress>(
     alloc: Global,
     code: Code,
-    asked: &Search<'_>,
+    asked: &Searched<'_>,
     progress: &mut P,
 ) -> Result<Vec<u8>, Fault> {
     search_in_windows(

@@ -1,9 +1,9 @@
 //! `census serve`: one session with whoever connects.
 
+use crate::commands::Task;
 use crate::endpoint::{Meeting, meeting_of};
 use crate::found::is_quiet;
 use crate::printing::{print_unless, tell_done};
-use crate::task::Task;
 use census_failure::{Advice, Failure};
 use census_net::{serve, serve_over};
 use census_words::{Row, words};

@@ -1,6 +1,6 @@
 //! `census show`: the catalogue.
 
-use crate::task::Task;
+use crate::commands::Task;
 use crate::viewing::viewing;
 use census_core::View;
 use census_failure::Failure;

@@ -1,15 +1,16 @@
 //! `census site`: all that is known, as a folder of pages.
 
+use crate::commands::Task;
 use crate::commands::recheck::notes_of;
 use crate::found::word;
-use crate::task::Task;
 use census_core::{Beside, Fault, Folder, GameProgress, Progress, ProvedPeriods, write_site};
 use census_diagnosis::{Given, of_state};
 use census_failure::Failure;
 use census_files::{PageFile, SiteFolder, read_page, read_state};
 use census_noted::{Rechecked, recheck_into};
 use census_progress::ProgressLine;
-use census_words::{Row, words};
+use census_words::Row;
+use census_words::words::{self, Choice, Takes, Times, Word};
 use clap::ArgMatches;
 use oct_code::Code;
 use oct_said::{PeriodNote, is_long};
@@ -20,11 +21,34 @@ use std::rt::Files;
 use std::time::Clock;
 use written::write_out;
 
+// The folder of a site.
+const DIR: Word = Word {
+    name: "DIR",
+    meaning: "The folder of the site, which is made, or a site that is replaced",
+    times: Times::One,
+};
+
+// The page that is put beside a site.
+const WEB: Choice = Choice {
+    name: "web",
+    takes: Takes::One("FOLDER"),
+    meaning: "Puts the page that computes in the browser, which this folder has, beside the tables",
+    default: None,
+};
+
+// Whether a site has the long periods that notes say searched again.
+const RECHECK: Choice = Choice {
+    name: "recheck",
+    takes: Takes::Nothing,
+    meaning: "Searches again for the long periods that notes say, and shows those that are so as proved",
+    default: None,
+};
+
 /// Its row in the table.
 pub(crate) const ROW: Row = Row {
     name: "site",
-    words: &[words::STATE, words::DIR],
-    options: &[words::WEB, words::RECHECK],
+    words: &[words::STATE, DIR],
+    options: &[WEB, RECHECK],
     line: "All that is known, as a folder of pages for a web server",
     about: "Makes all that is known a site: a folder of pages that any web server shows as it is",
     after: "\
@@ -67,9 +91,9 @@ pub(crate) struct Site<'a> {
 pub(crate) fn task<'a>(found: &ArgMatches<'a>) -> Result<Task<'a>, Failure> {
     Ok(Task::Site(Site {
         state: word(found, words::STATE)?,
-        folder: word(found, words::DIR)?,
-        page: found.get_str(words::WEB.name),
-        rechecks: found.get_flag(words::RECHECK.name),
+        folder: word(found, DIR)?,
+        page: found.get_str(WEB.name),
+        rechecks: found.get_flag(RECHECK.name),
     }))
 }
 

@@ -1,15 +1,16 @@
 //! `census sqlite`: all that is known, as a database.
 
+use crate::commands::Task;
 use crate::found::{out, word};
 use crate::system::System;
-use crate::task::Task;
 use census_core::{Fault, sql_script};
 use census_diagnosis::{Given, of_games};
 use census_failure::{Advice, Failure, shown};
 use census_files::{
     Out, Replaced, StateFile, exists, is_same_file, is_standard, open_file, read_state,
 };
-use census_words::{Row, words};
+use census_words::Row;
+use census_words::words::{self, Times, Word};
 use clap::ArgMatches;
 use std::alloc::{AllocError, Global};
 use std::fs::File;
@@ -18,10 +19,17 @@ use std::rt::Files;
 use std::time::Clock;
 use written::write_out;
 
+// The script that is written.
+const SCRIPT: Word = Word {
+    name: "FILE",
+    meaning: "The file of the script that is written; standard output where it is left out, or is -",
+    times: Times::OneOrNone,
+};
+
 /// Its row in the table.
 pub(crate) const ROW: Row = Row {
     name: "sqlite",
-    words: &[words::STATE, words::SCRIPT],
+    words: &[words::STATE, SCRIPT],
     options: &[words::REPLACE],
     line: "All that is known, as a database for SQLite",
     about: "Prints a script in SQL, of which sqlite3 makes a database of all that is known",
@@ -55,8 +63,8 @@ pub(crate) fn task<'a>(found: &ArgMatches<'a>) -> Result<Task<'a>, Failure> {
 
 // Where the script is written; none where it is printed.
 fn script_out<'a>(found: &ArgMatches<'a>) -> Result<Option<Out<'a>>, Failure> {
-    match found.get_str(words::SCRIPT.name) {
-        Some(path) if !is_standard(path) => Ok(Some(out(found, words::SCRIPT)?)),
+    match found.get_str(SCRIPT.name) {
+        Some(path) if !is_standard(path) => Ok(Some(out(found, SCRIPT)?)),
         _ => Ok(None),
     }
 }

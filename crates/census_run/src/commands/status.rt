@@ -1,12 +1,13 @@
 //! `census status`: what a state file holds, on one screen.
 
+use crate::commands::Task;
 use crate::found::word;
-use crate::task::Task;
 use census_core::{Fault, outcome, status};
 use census_diagnosis::{Given, of_games};
 use census_failure::Failure;
 use census_files::{StateFile, read_state};
-use census_words::{Row, words};
+use census_words::Row;
+use census_words::words::{self, Choice, Takes};
 use clap::ArgMatches;
 use std::alloc::Global;
 use std::fs::File;
@@ -14,11 +15,19 @@ use std::io::Write;
 use std::rt::Files;
 use written::write_out;
 
+// Whether the nim-values are computed too.
+const FULL: Choice = Choice {
+    name: "full",
+    takes: Takes::Nothing,
+    meaning: "Says also how many blocks and claims are proved, refuted and pending, which takes nim-values",
+    default: None,
+};
+
 /// Its row in the table.
 pub(crate) const ROW: Row = Row {
     name: "status",
     words: &[words::STATE],
-    options: &[words::FULL],
+    options: &[FULL],
     line: "Whose a state is, and what it holds, on one screen",
     about: "Says in a few lines whose a state is and what it holds, with no nim-value computed",
     after: "\
@@ -40,7 +49,7 @@ Examples:
 pub(crate) fn task<'a>(found: &ArgMatches<'a>) -> Result<Task<'a>, Failure> {
     Ok(Task::Status {
         state: word(found, words::STATE)?,
-        is_full: found.get_flag(words::FULL.name),
+        is_full: found.get_flag(FULL.name),
     })
 }
 

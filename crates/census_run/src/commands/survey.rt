@@ -1,10 +1,10 @@
 //! `census survey`: the same, and the period of each game.
 
 use crate::change::changing;
+use crate::commands::Task;
 use crate::found::form;
 use crate::lists::listed;
 use crate::numbers::heap_count;
-use crate::task::Task;
 use census_core::Request;
 use census_failure::Failure;
 use census_words::{Row, words};

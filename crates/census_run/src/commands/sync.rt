@@ -1,15 +1,16 @@
 //! `census sync`: one session with whoever serves, and what became of what it brought.
 
 use crate::change::warn_of_forks;
+use crate::commands::Task;
 use crate::endpoint::{Meeting, meeting_of};
 use crate::found::is_quiet;
 use crate::printing::{print_unless, tell_done};
-use crate::task::Task;
 use census_core::Fault;
 use census_failure::{Advice, Failure};
 use census_net::{Loaded, Outcome, sync, sync_over};
 use census_progress::{is_told, say_of_records};
-use census_words::{Row, words};
+use census_words::Row;
+use census_words::words::{self, Choice, Takes};
 use clap::ArgMatches;
 use oct_record::Record;
 use oct_sync::Role;
@@ -20,13 +21,29 @@ use std::net::{Net, TcpListener, TcpStream};
 use std::rt::Files;
 use std::time::Clock;
 
+// Whether a session exchanges all operations.
+const ALL: Choice = Choice {
+    name: "all",
+    takes: Takes::Nothing,
+    meaning: "Exchanges all operations, and not only what each side is seen to lack",
+    default: None,
+};
+
+// Whether a session takes nothing in.
+const GIVE: Choice = Choice {
+    name: "give",
+    takes: Takes::Nothing,
+    meaning: "Sends what the other side lacks, and takes nothing in",
+    default: None,
+};
+
 /// Its row in the table.
 pub(crate) const ROW: Row = Row {
     name: "sync",
     words: &[words::STATE, words::PEER],
     options: &[
-        words::ALL,
-        words::GIVE,
+        ALL,
+        GIVE,
         words::PATIENCE,
         words::MOST_OF_ONE,
         words::AUTHORS_OF_ONE,
@@ -70,10 +87,7 @@ pub(crate) fn task<'a>(alloc: Global, found: &ArgMatches<'a>) -> Result<Task<'a>
 
 // Which client the session has. To exchange all and to take nothing do not go together: that is `Words`.
 fn role(found: &ArgMatches<'_>) -> Result<Role, Failure> {
-    match (
-        found.get_flag(words::ALL.name),
-        found.get_flag(words::GIVE.name),
-    ) {
+    match (found.get_flag(ALL.name), found.get_flag(GIVE.name)) {
         (true, true) => Err(Failure::from(Fault::Words)),
         (true, false) => Ok(Role::ClientOfAll),
         (false, true) => Ok(Role::Giver),

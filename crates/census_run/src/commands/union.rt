@@ -1,14 +1,15 @@
 //! `census union`: one delta of several.
 
+use crate::commands::Task;
 use crate::found::{out, repeated};
 use crate::printing::print_file;
-use crate::task::Task;
 use census_core::{Fault, Reply, unite};
 use census_diagnosis::{Given, of_delta};
 use census_failure::{Failure, INPUT_NAME};
 use census_files::{Out, Replaced, StateFile, is_standard, read_delta, read_standard};
 use census_progress::ProgressLine;
-use census_words::{Row, words};
+use census_words::Row;
+use census_words::words::{self, Times, Word};
 use clap::ArgMatches;
 use std::alloc::Global;
 use std::fs::File;
@@ -17,10 +18,24 @@ use std::rt::Files;
 use std::time::Clock;
 use written::write_out;
 
+// The deltas of a union.
+const DELTAS: Word = Word {
+    name: "DELTA",
+    meaning: "One or more delta files, or -",
+    times: Times::OneOrMore,
+};
+
+// The delta that a union is written to.
+const UNION: Word = Word {
+    name: "OUT",
+    meaning: "The delta file that is written, or -; it may be one of the others",
+    times: Times::One,
+};
+
 /// Its row in the table.
 pub(crate) const ROW: Row = Row {
     name: "union",
-    words: &[words::UNION, words::DELTAS],
+    words: &[UNION, DELTAS],
     options: &[words::REPLACE],
     line: "Writes the union of such files as one; needs no state",
     about: "Writes the union of delta files as one, and prints how many operations it has",
@@ -41,8 +56,8 @@ Example, as a merge driver of git (docs/GROUP.md):
 /// What its words ask for.
 pub(crate) fn task<'a>(alloc: Global, found: &ArgMatches<'a>) -> Result<Task<'a>, Failure> {
     Ok(Task::Union {
-        out: out(found, words::UNION)?,
-        deltas: repeated(alloc, found, words::DELTAS)?,
+        out: out(found, UNION)?,
+        deltas: repeated(alloc, found, DELTAS)?,
     })
 }
 

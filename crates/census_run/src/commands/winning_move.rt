@@ -1,21 +1,11 @@
 //! `census move`: a winning move.
 
-use crate::ask::asking;
-use crate::commands::value::listed;
-use crate::found::{bytes, form, word};
-use crate::numbers::{heaps, searched};
-use crate::system::System;
-use crate::task::Task;
-use census_core::{Form, Request, move_by_search};
-use census_diagnosis::{Given, of_games};
+use crate::commands::Task;
+use crate::position::{Question, asking_of};
 use census_failure::Failure;
-use census_files::read_state;
-use census_progress::ProgressLine;
 use census_words::{Row, words};
 use clap::ArgMatches;
 use std::alloc::Global;
-use std::io::Write;
-use written::write_out;
 
 /// Its row in the table.
 pub(crate) const ROW: Row = Row {
@@ -42,60 +32,7 @@ Examples:
   census move anna.state 0.16 10000000000 7 --search 1000000",
 };
 
-/// A position of which a winning move is asked for, and by how many values the game is searched where the state does not give it.
-#[derive(Drop)]
-pub(crate) struct Played<'a> {
-    state: &'a str,
-    code: Vec<u8>,
-    heaps: Vec<u64>,
-    count: u64,
-    form: Form,
-}
-
 /// What its words ask for.
 pub(crate) fn task<'a>(alloc: Global, found: &ArgMatches<'a>) -> Result<Task<'a>, Failure> {
-    let heaps = heaps(alloc, found, words::HEAP.name)?;
-    let code = bytes(alloc, found, words::CODE)?;
-    let form = form(found);
-    if let Some(count) = searched(alloc, found)? {
-        return Ok(Task::Move(Played {
-            state: word(found, words::STATE)?,
-            code,
-            heaps,
-            count,
-            form,
-        }));
-    }
-    asking(found, None, Request::Move { heaps, code, form })
-}
-
-/// Prints the move by the state, or else by a search.
-pub(crate) fn run<R, O, E>(
-    rt: &R,
-    asked: &Played<'_>,
-    output: &mut O,
-    progress: &mut ProgressLine<'_, R, E>,
-) -> Result<(), Failure>
-where
-    R: System,
-    O: Write,
-    E: Write,
-{
-    let Played {
-        state,
-        code,
-        heaps,
-        count,
-        form,
-    } = asked;
-    let bytes = read_state(rt, state)?;
-    let found = move_by_search(rt.alloc(), &bytes, code, heaps, *count, *form, progress);
-    progress.clear();
-    match found {
-        Ok(text) => Ok(write_out(output, &text)?),
-        Err(fault) => {
-            let codes = listed(rt.alloc(), code)?;
-            Err(of_games(rt.alloc(), fault, &codes, Given::new(state, &bytes)))
-        }
-    }
+    asking_of(alloc, found, Question::Move)
 }
