@@ -25,12 +25,9 @@ pub(crate) fn held(rt: &(impl Abort + AllocGlobal), bytes: &[u8]) -> Vec<u8> {
     Vec::from_slice(rt.alloc(), bytes).ok().expect(rt, "memory")
 }
 
-/// The answer without what comes back with a fault.
-pub(crate) fn plain<T, E, R: Drop>(answer: Result<T, (E, R)>) -> Result<T, E> {
-    match answer {
-        Ok(value) => Ok(value),
-        Err((fault, _)) => Err(fault),
-    }
+/// The bytes of a hexadecimal text.
+pub(crate) fn bytes(rt: &(impl Abort + AllocGlobal), text: &str) -> Vec<u8> {
+    worked::bytes(rt.alloc(), text).expect(rt, text)
 }
 
 /// The bytes are this text, of what is named.

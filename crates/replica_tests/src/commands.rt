@@ -1,10 +1,6 @@
 //! Commands, each on the state that another one left.
 
-use crate::answers::{check, check_equal, held};
-use crate::texts::{
-    CUT_STATE, EARLY, EMPTY_STATE, FIRST, FIRST_STATE, FORKED_SHOWN, LAST, LATER, ONE, REMOVAL,
-    SECOND_PAGE, TWO, bytes, long_claimed, many_blocks, many_notes,
-};
+use crate::answers::{bytes, check, check_equal, held};
 use census_core::{Fault, ImportError, Reply, Request, digest, number, perform};
 use oct_bfile::BfileError;
 use oct_code::CodeError;
@@ -12,6 +8,10 @@ use oct_ops::PeriodError;
 use oct_replica::{ComputeError, LoadError, RemovalError, TakeError};
 use oct_text::{Form, Shown};
 use std::process::Abort;
+use worked::{
+    COMPUTED, CUT_STATE, EARLY, EMPTY_STATE, FIRST, FIRST_STATE, FORKED_SHOWN, LAST, LATER, ONE,
+    REMOVAL, SECOND_PAGE, TWO, long_claimed, many_blocks, many_notes,
+};
 
 /// What is asked of a state, with the file that a command reads or should write, where a delta is a hexadecimal text. A claim
 /// has the period 1, and a note the name a.
@@ -92,15 +92,6 @@ census 2
 game 0.07 known 7
 values 0 0 0 1 1 2 0 3
 block 7.1 at 0 count 7 proved
-author 7 through 1 last 1
-end
-";
-
-pub(crate) const COMPUTED: &str = "\
-census 2
-game 0.137 known 6
-values 0 0 1 1 2 0 3
-block 7.1 at 1 count 5 proved
 author 7 through 1 last 1
 end
 ";
@@ -609,8 +600,10 @@ const BLOCK_PAGES: &[Step<'static>] = &[
 
 #[test]
 fn pages_are_shown(rt: HostRuntime) {
-    follow_delta(&rt, &many_notes(&rt), "new 70\n", NOTE_PAGES);
-    follow_delta(&rt, &many_blocks(&rt), "new 70\n", BLOCK_PAGES);
+    let notes = many_notes(rt.alloc()).expect(&rt, "memory");
+    follow_delta(&rt, &notes, "new 70\n", NOTE_PAGES);
+    let blocks = many_blocks(rt.alloc()).expect(&rt, "memory");
+    follow_delta(&rt, &blocks, "new 70\n", BLOCK_PAGES);
 }
 
 // The claim gives values once its last value is there, and not before.
@@ -635,7 +628,8 @@ const CLAIMED: &[Step<'static>] = &[
 
 #[test]
 fn claims_give_values(rt: HostRuntime) {
-    follow_delta(&rt, &long_claimed(&rt), "new 3\n", CLAIMED);
+    let claimed = long_claimed(rt.alloc()).expect(&rt, "memory");
+    follow_delta(&rt, &claimed, "new 3\n", CLAIMED);
 }
 
 #[test]

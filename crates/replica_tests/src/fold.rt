@@ -1,15 +1,15 @@
 //! Lines of deltas in hexadecimal, folded into one catalogue.
 
 use crate::answers::{check, check_equal, is_text};
-use crate::texts::{
-    BOTH_SHOWN, EARLY, FIRST, LATER, LATER_SHOWN, NEXT, NEXT_SHOWN, NONE_SHOWN, NOTHING,
-    NOTHING_NEW, REMOVAL, SECOND, THIRD, THREE_SHOWN, TURNS, TURNS_SHOWN, UNTOLD, UNTOLD_SHOWN,
-    put_digits,
-};
 use census_core::{Fault, fold_lines};
 use std::io;
 use std::io::{ErrorKind, Read, Write};
 use std::process::Abort;
+use worked::{
+    BOTH_SHOWN, EARLY, FIRST, LATER, LATER_SHOWN, NEXT, NEXT_SHOWN, NONE_SHOWN, NOTHING,
+    NOTHING_NEW, REMOVAL, SECOND, THIRD, THREE_SHOWN, TURNS, TURNS_SHOWN, UNTOLD, UNTOLD_SHOWN,
+    put_digits,
+};
 
 // FIRST in capitals with a carriage return.
 const CAPITALS: &str = "\

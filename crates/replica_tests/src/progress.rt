@@ -1,11 +1,11 @@
 //! Who is told how far a command is.
 
-use crate::answers::{check, held};
-use crate::texts::{EMPTY_STATE, bytes};
+use crate::answers::{bytes, check, held};
 use census_core::{Form, NoKeeper, Progress, Request, perform_kept, search};
 use oct_code::Code;
 use std::alloc::AllocGlobal;
 use std::process::Abort;
+use worked::EMPTY_STATE;
 
 /// The code of a game, how many of its values are known, and how many are wanted.
 #[derive(Clone, Copy)]

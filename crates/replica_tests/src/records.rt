@@ -1,13 +1,13 @@
 //! Records: the operations of each game, the notes, an operation that is taken out again, and what became of those that
 //! are new.
 
-use crate::answers::{check, check_equal};
-use crate::texts::{EARLY, FIRST, LAST, NEXT, ONE, TURNS, bytes};
+use crate::answers::{bytes, check, check_equal};
 use census_core::{Verdict, judge, tally};
 use oct_code::Code;
 use oct_record::{Record, RenumberError};
 use std::alloc::Global;
 use std::process::Abort;
+use worked::{EARLY, FIRST, LAST, NEXT, ONE, TURNS};
 
 // A record that took in each of the deltas.
 fn record_of(rt: &(impl Abort + AllocGlobal), deltas: &[&str]) -> Record<Global> {

@@ -81,11 +81,14 @@ const FOUND: &str = "0.16 period 149459 from 105351 needs 509622 values 411603";
 const RESUMED: &str =
     "0.16 period 149459 from 105351 needs 509622 values 411603 from a saved search";
 
-// It comes to a place where these values come again; then a period ahead, 149,459; then before the marked window, 229,376.
-const PLACES: usize = 3;
+// A step goes on by an eighth. From 65,536 on it comes to 15 places before these values come again; then to one where they have;
+// and then to the last one, where the least heap is found.
+const PLACES: usize = 17;
 
 // A search by fewer values ends at a place at which no period is seen.
 const FEWER: u64 = 300_000;
+
+const FEWER_PLACES: usize = 13;
 
 const UNSEEN: &str = "0.16 no period seen in 300000 values";
 
@@ -132,7 +135,7 @@ fn a_search_goes_on_where_none_is_seen(rt: HostRuntime) {
     let mut album = album_of_none(rt.alloc());
     let line = search_in_windows(rt.alloc(), code, FEWER, Form::Lines, &mut album);
     is_line(&rt, line, UNSEEN);
-    check_equal(&rt, album.texts.len(), 1, "places");
+    check_equal(&rt, album.texts.len(), FEWER_PLACES, "places");
     for text in &album.texts {
         goes_on(&rt, code, text);
     }

@@ -1,12 +1,12 @@
 //! What a session leaves of the state that a file has.
 
-use crate::answers::{check, check_equal, is_text};
-use crate::texts::{CUT_STATE, EMPTY_STATE, FIRST_STATE, bytes};
+use crate::answers::{bytes, check, check_equal, is_text};
 use census_core::{Fault, Reply, rejoin, rejoined_text, write_state};
 use oct_ops::Dot;
 use oct_record::Record;
 use oct_replica::LoadError;
 use std::process::Abort;
+use worked::{CUT_STATE, EMPTY_STATE, FIRST_STATE};
 
 /// The state of author 8 without operations.
 const OTHER_STATE: &str = "4f475331 00000008 4f474431 00000000";

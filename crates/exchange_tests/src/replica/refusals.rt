@@ -2,8 +2,7 @@
 
 use super::*;
 use crate::answers::{check, check_equal};
-use crate::commands::COMPUTED;
-use crate::texts::{SECOND_PAGE, note_of_3};
+use worked::{COMPUTED, SECOND_PAGE, note_of_3};
 
 // The catalogue of Kayles up to heap 167, with its claims.
 const PERIODIC: &str = "\
@@ -425,7 +424,7 @@ fn makes_long<A: Allocator + Copy>(
 ) {
     let other = new_replica(rt, alloc, 1);
     let mut replica = new_replica(rt, alloc, 1);
-    let long = long_block(rt);
+    let long = long_block(rt.alloc()).expect(rt, "memory");
     changes(rt, heap, alloc, &mut replica, Change::Take(&long), &other);
     for text in [RIGHT_CLAIM, EARLY_CLAIM, LAST] {
         steps(rt, heap, alloc, &mut replica, Step::Take(text), &other);
@@ -514,7 +513,7 @@ fn writes_notes<A: Allocator + Copy>(
     let other = new_replica(rt, alloc, 1);
     let mut replica = new_replica(rt, alloc, 1);
     for number in 1..71u32 {
-        let note = note_of_3(rt, number);
+        let note = note_of_3(rt.alloc(), number).expect(rt, "memory");
         changes(rt, heap, alloc, &mut replica, Change::Take(&note), &other);
     }
     check_equal(rt, replica.len(), 70, "notes");

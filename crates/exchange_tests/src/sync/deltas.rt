@@ -1,8 +1,7 @@
 //! Deltas of several operations, of which the first ones stay where memory ends.
 
 use super::*;
-use crate::answers::{check, check_equal};
-use crate::texts::put;
+use crate::answers::{check, check_equal, put};
 
 // What a replica shows that holds all the notes that come, and the first so many of them.
 const ALL_SHOWN: &str =

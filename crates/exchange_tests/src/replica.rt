@@ -1,12 +1,6 @@
 //! Replicas: what they print, compute, issue, send, refuse, save and load.
 
-use crate::answers::{check, check_equal, is_text, plain};
-use crate::texts::{
-    BOTH_SHOWN, EARLY, EARLY_CLAIM, EMPTY_STATE, FIRST, FORKED_SHOWN, LAST, LATER, LATER_SHOWN,
-    NEXT, NEXT_SHOWN, NONE_SHOWN, ONE, REMOVAL, RIGHT_CLAIM, SECOND, THIRD, THIRD_UNTOLD,
-    THREE_SHOWN, TURNS, TURNS_SHOWN, TWO, UNTOLD, UNTOLD_SHOWN, UNTOLD_STATE, bytes, long_block,
-    put, put_number,
-};
+use crate::answers::{bytes, check, check_equal, is_text, plain, put, put_number};
 use metered::Metered;
 use oct_code::Code;
 use oct_delta::decode;
@@ -18,6 +12,11 @@ use oct_replica::{
 };
 use std::alloc::{Allocator, Global};
 use std::process::Abort;
+use worked::{
+    BOTH_SHOWN, EARLY, EARLY_CLAIM, EMPTY_STATE, FIRST, FORKED_SHOWN, LAST, LATER, LATER_SHOWN,
+    NEXT, NEXT_SHOWN, NONE_SHOWN, ONE, REMOVAL, RIGHT_CLAIM, SECOND, THIRD, THIRD_UNTOLD,
+    THREE_SHOWN, TURNS, TURNS_SHOWN, TWO, UNTOLD, UNTOLD_SHOWN, UNTOLD_STATE, long_block,
+};
 
 mod refusals;
 
@@ -303,7 +302,8 @@ fn has_one_page(rt: &(impl Abort + AllocGlobal), replica: &Replica<Global>) {
 fn follows_claims(rt: &(impl Abort + AllocGlobal)) {
     let (code, other) = (code_of(rt, "0.77"), code_of(rt, "0.07"));
     let mut replica = new_replica(rt, rt.alloc(), 1);
-    takes_bytes(rt, &mut replica, &long_block(rt), 1);
+    let long = long_block(rt.alloc()).expect(rt, "memory");
+    takes_bytes(rt, &mut replica, &long, 1);
     takes(rt, &mut replica, &[RIGHT_CLAIM, EARLY_CLAIM], 1);
     let value = value_of(&replica, code, &[5, 1_000_000_000]);
     check_equal(rt, value, Err(1), "before the last value");

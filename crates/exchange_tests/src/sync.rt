@@ -4,17 +4,18 @@
 mod deltas;
 mod driven;
 
-use crate::answers::{check, check_equal};
+use crate::answers::{bytes, check, check_equal};
+use crate::frames::{Frame, frame_bytes};
 use crate::replica::{new_replica, shows};
-use crate::texts::{
-    BOTH, BOTH_SHOWN, FIRST, FORKED_SHOWN, Frame, NEXT, NEXT_SHOWN, NONE_SHOWN, NOTHING,
-    NOTHING_NEW, ONE, ONE_AND_TWO, TWO, bytes, frame_bytes,
-};
 use metered::Metered;
 use oct_replica::Replica;
 use oct_sync::{MAX_READS, Progress, Role, Session, SyncError, converse, drive};
 use std::alloc::{Allocator, Global};
 use std::process::Abort;
+use worked::{
+    BOTH, BOTH_SHOWN, FIRST, FORKED_SHOWN, NEXT, NEXT_SHOWN, NONE_SHOWN, NOTHING, NOTHING_NEW, ONE,
+    ONE_AND_TWO, TWO,
+};
 
 /// One side of an exchange: what it holds at first, what comes to it, what it sends, how many bytes of that before its last
 /// answer, and its catalogue in the end.
