@@ -22,8 +22,8 @@ WIDTH = 100
 # A sentence of more signs is cut at a colon or semicolon, but not before so many.
 LONG = 100
 SHORT = 30
-# The allocator of tests has no clause.
-LEFT_OUT = {"metered"}
+# The allocator and the texts of tests have no clause.
+LEFT_OUT = {"metered", "worked"}
 
 NAME = r"[A-Za-z_][A-Za-z0-9_]*"
 VISIBLE = r"(?P<visible>pub(?:\([a-z ]+\))?\s+)?"

@@ -115,7 +115,7 @@ def links_that_lead_nowhere():
 def two_names():
     """A state with two names: a change leaves the other name as it was, and is warned of."""
     for explained, more in ((("--explain",), {}), ((), {"env": ASKING}), ((), {})):
-        for words in (["note", "b.state", "n", "t"], ["extend", "b.state", "9", "0.77"]):
+        for words, verdict in ((["note", "b.state", "n", "t"], ""), (["extend", "b.state", "9", "0.77"], "1.1: proved\n")):
             for name in ("a.state", "b.state"):
                 if os.path.exists(name):
                     os.remove(name)
@@ -125,7 +125,7 @@ def two_names():
             status, out, err = run(*explained, *words, **more)
             warning = "warning: b.state has another name, which stays as it was: use one of the two only\n"
             need(status == 0 and out != "", f"{words} answered {status}, {err!r}")
-            need(err == (warning if explained or more else ""), f"{words} said {err!r}")
+            need(err == (warning + verdict if explained or more else ""), f"{words} said {err!r}")
             need(read("a.state") == old and read("b.state") != old, "the state or its other name is not as it should be")
             need(run(*explained, *words, **more)[2] == "", "a state with one name is warned of")
 

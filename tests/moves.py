@@ -11,7 +11,7 @@ import operator
 import random
 import re
 
-from lib import done, folder, need, nim_values, refused, same
+from lib import done, folder, need, nim_values, refused, run, same
 
 LARGEST = 2**64 - 1
 STATE = "moves.state"
@@ -178,6 +178,22 @@ def searched():
     refused(1, "Code Digit", "value", STATE, "0.x", "7", "--search", "9")
 
 
+def advised():
+    """What is said of a heap that is not known: how far they are, and the claim of the period that they prove, or what computes on."""
+    told = "told.state"
+    done("init", told, "2")
+    for code, count, heap, advice in (
+        ("0.77", 1000, 5000, f"to heap 1000; census find proves period 12 from 71: census period {told} 0.77 71 12"),
+        ("0.6", 100, 5000, f"to heap 100, and prove no period; census extend {told} 5001 0.6 computes them"),
+        ("0.6", 1, 70000, "to heap 101, and prove no period; --search COUNT looks for one among more values"),
+    ):
+        done("compute", told, code, str(count))
+        for command in ("value", "move"):
+            status, printed, said = run("--explain", command, told, code, "1", str(heap))
+            same(f"{command} of heap {heap} of {code}", (status, printed), (0, "unknown at 1\n"))
+            same(f"what is said of it by {command}", said.strip(), f"heap {heap} is not known: values are known {advice}")
+
+
 def main():
     done("init", STATE, "1")
     same("a heap that is not known", done("move", STATE, "0.77", "0", "9"), "unknown at 1\n")
@@ -186,6 +202,7 @@ def main():
     searched()
     moves_searched()
     far_moves()
+    advised()
     print(f"{sum(map(play, GAMES))} positions, and each answer is right")
 
 

@@ -171,7 +171,8 @@ def check_damage():
 
 
 def saved():
-    """The bytes of a search that is saved."""
+    """The bytes of a search that is saved, from its beginning."""
+    write("whole.search", b"")
     search("whole.search", 100_000)
     return read("whole.search")
 

@@ -240,6 +240,7 @@ def try_surveys():
     done("init a.state 9")
     said_of("survey a.state 200 0.77 0.6", "3 new: 3 proved, 0 refuted, 0 pending\n")
     said_of("survey a.state 200 0.77 0.6", "")
+    said_of("extend a.state 300 0.6", "9.4: proved\n")
     said_of("extend a.state 300 0.6", "")
     done("extend a.state 65536 0.77")
     said_of("period a.state 0.77 1000 12", "9.69: proved\n", on_terminal="")
