@@ -45,7 +45,7 @@ settled_listed c values n mask heaps v r fit listed some common o first =
 
 -- ---- the table
 
-few_removed : (c : Code) (g : ℕ → ℕ) (n r v : ℕ) → IsOptionBy c g n r v → r < min (len c) n + 1
+pub few_removed : (c : Code) (g : ℕ → ℕ) (n r v : ℕ) → IsOptionBy c g n r v → r < min (len c) n + 1
 few_removed c g n r v o = omega (arith, o.parts.few, o.parts.total)
 
 pub option_value : (c : Code) (g : ℕ → ℕ) (n r v : ℕ) → IsOptionBy c g n r v → IsOptionValue c g n v

@@ -148,7 +148,7 @@ pairs_by c g n r from end x y held few allowed some p =
     AddsMarks-as x y (IsPairValue g (n - r) from end) (IsPairBy c g n from end r) p
     (λ v o. pair_option c g n r from end v held few allowed some o) (λ v o. pair_options c g n r from end v held some o)
 
-rare_pair : (g : ℕ → ℕ) (heaps : List ℕ) (rest a b v : ℕ) → Contains heaps a → 1 ≤ a → 1 ≤ b → a + b ≡ rest → v ≡ bit_xor (g a) (g b)
+pub rare_pair : (g : ℕ → ℕ) (heaps : List ℕ) (rest a b v : ℕ) → Contains heaps a → 1 ≤ a → 1 ≤ b → a + b ≡ rest → v ≡ bit_xor (g a) (g b)
     → IsRarePair g heaps rest (length heaps) v
 rare_pair g heaps rest a b v (at, within, found) first second total is =
     let same : slice_index heaps at ≡ a = get_or_default heaps at 0 a within ∙ found in

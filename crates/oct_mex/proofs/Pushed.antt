@@ -1,11 +1,11 @@
 -- The next nim-value, and the values with it.
-use Rattle.std.proofs.Common.{◌≡◌, ℕ, ◌+◌, ◌<◌, ◌++◌, ◌∷◌, [], List, length, map, slice_index, sym, subst, ap, ◌∙◌}
+use Rattle.std.proofs.Common.{◌≡◌, ℕ, suc, ◌+◌, ◌<◌, ◌++◌, ◌∷◌, [], List, map, slice_index, sym, ap, ap₂, ◌∙◌, arith}
 use Rattle.std.proofs.lemmas.List.{map-append}
 use Rattle.oct_code.specs.Code.{Code}
 use Rattle.oct_mex.specs.Mex.{IsMex}
 use Rattle.oct_mex.specs.NimValues.{IsOptionValue, nim_value, nim_values}
 use Rattle.oct_mex.proofs.Mex.{mex_unique}
-use Rattle.oct_mex.proofs.NimValues.{nim_sequence, nim_values-at, nim_values-length, nim_values-push, option_agree}
+use Rattle.oct_mex.proofs.NimValues.{nim_sequence, nim_value-eq, nim_values-at, option_agree}
 
 -- a further cell holds a further number
 pub numbers_push : {T : Type 0} (number : T → ℕ) (cells more : List T) (cell : T) → more ≡ cells ++ cell ∷ [] → map number more ≡ map number cells ++ number cell ∷ []
@@ -23,6 +23,7 @@ next_is c n v values are mex =
     (option_agree c (nim_value c) (slice_index values) n (λ m l. sym (value_at c n m values are l)))
 
 -- and the list is longer by it
-pub values_push : (c : Code) (n v : ℕ) (values : List ℕ) → values ≡ nim_values c n → IsMex (IsOptionValue c (slice_index values) n) v → values ++ v ∷ [] ≡ nim_values c (n + 1)
-values_push c n v values are mex =
-    nim_values-push c values n v are (subst (λ k. IsMex (IsOptionValue c (slice_index values) k) v) (sym (ap length are ∙ nim_values-length c n)) mex)
+pub values_push : (c : Code) (n v : ℕ) (values : List ℕ) → values ≡ nim_values c n → v ≡ nim_value c n → values ++ v ∷ [] ≡ nim_values c (n + 1)
+values_push c n v values are is =
+    let next : n + 1 ≡ suc n = omega arith in
+    ap₂ (λ xs x. xs ++ x ∷ []) are (is ∙ nim_value-eq c n) ∙ ap (nim_values c) (sym next)

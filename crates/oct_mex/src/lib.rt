@@ -13,10 +13,13 @@
 //!   mask is found by a transform of the counts of the values: `mask`.
 //! - Where they don't settle it, other pairs are marked, and the few values that are still not marked are sought in
 //!   those that are left, both many pairs at a time: `next`, `marks`, `pairs`.
+//! - Where several moves leave the same total of two heaps, what is found of its pairs is kept for all: `totals`.
 //! - A `Cell` holds a nim-value in 8, 16 or 32 bits, and a `Row` the values of a game in cells. What is done with many
 //!   pairs at a time is in `cell`, once for each width; all other functions over cells are the same for each, with
 //!   clauses over the numbers in the cells.
 //! - Where no large heap is rare, the next value is settled by those of the small heaps and of the last ones: `settled`.
+//! - A game takes over the values of another one, of `Leaders`, as long as they are its own, where both codes allow two
+//!   heaps to be left by the same digits: `following`.
 //! - Once they show a period that holds for ever, the further values are copied.
 //! - `find_period` looks for the least period that first nim-values show, and for the least heap from which on they do.
 //! - `first_difference` compares two lists of claimed and true values.
@@ -25,7 +28,9 @@
 
 mod cell;
 mod difference;
+mod following;
 pub mod laws;
+mod leaders;
 mod marks;
 mod mask;
 mod next;
@@ -34,10 +39,12 @@ mod period;
 mod rare;
 mod row;
 mod settled;
+mod totals;
 mod values;
 
 pub use cell::{Cell, LANES};
 pub use difference::first_difference;
+pub use leaders::Leaders;
 pub use mask::{Mask, NO_MASK};
 pub use oct_code::OutOfMemory;
 pub use period::{SeenPeriod, expected_period, find_period, find_shown};

@@ -58,6 +58,16 @@ pub(crate) fn mark_pair_options<T: Cell>(
     }
 }
 
+/// Marks the nim-values of the options that leave at most one heap.
+pub(crate) fn mark_one_heaps<T: Cell>(code: &Code, values: &[T], marks: &mut [bool])
+    requires { IsTableFor (map T.number values.now) (length marks.old) }
+    ensures { AddsMarks marks.old marks.new (IsBelow (IsOneHeapBy code.now (slice_index (map T.number values.now)) (length values.now)) (min (octal.len code.now) (length values.now) + 1)) }
+{
+    for removed in 0..code.len().min(values.len()) + 1 {
+        mark_one_heap(code, values, removed, marks);
+    }
+}
+
 // Marks the nim-value of the option that removes so many beans and leaves at most one heap.
 fn mark_one_heap<T: Cell>(code: &Code, values: &[T], removed: usize, marks: &mut [bool])
     requires held { removed ≤ length values.now }
@@ -71,8 +81,8 @@ fn mark_one_heap<T: Cell>(code: &Code, values: &[T], removed: usize, marks: &mut
     }
 }
 
-// Marks the nim-values of the pairs of heaps that are not empty, have so many beans, and one of which is in the list.
-fn mark_listed_pairs<T: Cell>(
+/// Marks the nim-values of the pairs of heaps that are not empty, have so many beans, and one of which is in the list.
+pub(crate) fn mark_listed_pairs<T: Cell>(
     values: &[T],
     heaps: &[u32],
     beside: &[T],
@@ -92,8 +102,14 @@ fn mark_listed_pairs<T: Cell>(
     }
 }
 
-// Marks the nim-values of the pairs of heaps that have so many beans, the smaller one in the range.
-fn mark_pairs<T: Cell>(values: &[T], rest: usize, from: usize, end: usize, marks: &mut [bool])
+/// Marks the nim-values of the pairs of heaps that have so many beans, the smaller one in the range.
+pub(crate) fn mark_pairs<T: Cell>(
+    values: &[T],
+    rest: usize,
+    from: usize,
+    end: usize,
+    marks: &mut [bool],
+)
     requires some { 1 ≤ from }
     requires ordered { from ≤ end }
     requires held { rest ≤ length values.now }
@@ -131,6 +147,16 @@ pub(crate) fn mark(marks: &mut [bool], value: usize)
     ensures { AddsMarks marks.old marks.new (λ v. v ≡ value) }
 {
     marks[value] = true;
+}
+
+/// Marks what another table of the same length marks.
+pub(crate) fn add_marks(others: &[bool], marks: &mut [bool])
+    requires { length others.now ≡ length marks.old }
+    ensures { AddsMarks marks.old marks.new (IsMarked others.now) }
+{
+    for at in 0..marks.len() {
+        marks[at] |= others[at];
+    }
 }
 
 /// The first place that is not marked, or the table's length, where all places before one are marked.

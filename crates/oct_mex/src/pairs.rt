@@ -21,8 +21,8 @@ pub(crate) fn has_pair<T: Cell>(code: &Code, values: &[T], from: usize, value: T
     false
 }
 
-// Whether the values of two heaps of so many beans, the smaller one from `from` on, have an exclusive or.
-fn is_met<T: Cell>(values: &[T], rest: usize, from: usize, value: T) -> bool
+/// Whether the values of two heaps of so many beans, the smaller one from `from` on, have an exclusive or.
+pub(crate) fn is_met<T: Cell>(values: &[T], rest: usize, from: usize, value: T) -> bool
     requires some { 1 ≤ from }
     requires held { rest ≤ length values.now }
     ensures { IsTrue result ↔ IsPairValue (slice_index (map T.number values.now)) rest from (rest / 2 + 1) (T.number value) }

@@ -19,7 +19,7 @@ use oct_code::Code;
 use std::alloc::{AllocError, Allocator};
 
 // The rare heaps are listed while they are at most one in so many, and some more.
-const SHARE: usize = 24;
+const SHARE: usize = 8;
 
 const SPARE: usize = 64;
 

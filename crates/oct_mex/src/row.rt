@@ -1,14 +1,17 @@
 //! The nim-values of a game in a list that grows at its end.
 
-ghost use Rattle.std.specs.Prelude.{◌≡◌, ◌+◌, ◌*◌, ◌^◌, ◌⊎◌, ◌<◌, ◌≤◌, if◌then◌else◌, IfOk, IsTrue, OnOk, false, length, max, vec_len, vec_capacity};
+ghost use Rattle.std.specs.Prelude.{◌≡◌, ◌+◌, ◌*◌, ◌^◌, ◌⊎◌, ◌<◌, ◌≤◌, if◌then◌else◌, IfOk, IsTrue, OnOk, false, length, map, max, vec_len, vec_capacity};
+ghost use Rattle.std.specs.List.{All};
 ghost use Rattle.oct_code.specs.Code as octal;
 ghost use Rattle.oct_mex.specs.NimValues.{nim_value};
 ghost use Rattle.oct_mex.specs.Periods.{GoesOn};
 ghost use Rattle.oct_mex.specs.Row.{IsRow};
+ghost use Rattle.oct_mex.specs.Totals.{IsTable};
 
 use crate::cell::Cell;
-use crate::next::next_value;
+use crate::next::{next_by_marks, next_value};
 use crate::rare::Rare;
+use crate::totals::Table;
 use oct_code::Code;
 use std::alloc::{AllocError, Allocator};
 
@@ -82,7 +85,7 @@ impl<T: Cell, A: Allocator + Copy> Row<T, A> {
         ensures room { vec_capacity self.new.values ≡ vec_capacity self.old.values }
         ensures marks { length marks.new ≡ length marks.old }
     {
-        let value = next_value(
+        let value = next_by_marks(
             code,
             &self.values,
             self.rare.mask,
@@ -90,6 +93,55 @@ impl<T: Cell, A: Allocator + Copy> Row<T, A> {
             &self.rare.values,
             &mut marks[..self.used],
         );
+        self.push_value(code, value)
+    }
+
+    /// The same by the tables of the totals, which stay right for the values and the mask that there were.
+    pub(crate) fn push_next_by(
+        &mut self,
+        code: &Code,
+        tables: &mut [Table<A>],
+        marks: &mut [bool],
+    ) -> bool
+        requires row { IsRow T.number code.now self.old }
+        requires limited { vec_len self.old.values < 2 ^ 32 }
+        requires room { vec_len self.old.values < vec_capacity self.old.values }
+        requires marks { self.old.used ≤ length marks.old }
+        requires tables { All (IsTable self.old.rare.mask (map T.number self.old.values.items)) tables.old }
+        ensures row { IsRow T.number code.now self.new }
+        ensures len { vec_len self.new.values ≡ (if result then vec_len self.old.values + 1 else vec_len self.old.values) }
+        ensures used { (self.new.used ≡ self.old.used) ⊎ ((self.new.used ≡ 2 * self.old.used) × (nim_value code.now (vec_len self.old.values) ≡ self.old.used)) }
+        ensures past { result ≡ false → T.bound ≤ nim_value code.now (vec_len self.old.values) }
+        ensures room { vec_capacity self.new.values ≡ vec_capacity self.old.values }
+        ensures marks { length marks.new ≡ length marks.old }
+        ensures count { length tables.new ≡ length tables.old }
+        ensures tables { All (IsTable self.old.rare.mask (map T.number self.old.values.items)) tables.new }
+    {
+        let value = next_value(
+            code,
+            &self.values,
+            self.rare.mask,
+            &self.rare.heaps,
+            &self.rare.values,
+            tables,
+            &mut marks[..self.used],
+        );
+        self.push_value(code, value)
+    }
+
+    /// Adds the next value, if a cell holds it.
+    pub(crate) fn push_value(&mut self, code: &Code, value: usize) -> bool
+        requires row { IsRow T.number code.now self.old }
+        requires limited { vec_len self.old.values < 2 ^ 32 }
+        requires room { vec_len self.old.values < vec_capacity self.old.values }
+        requires value { value ≡ nim_value code.now (vec_len self.old.values) }
+        requires within { value ≤ self.old.used }
+        ensures row { IsRow T.number code.now self.new }
+        ensures len { vec_len self.new.values ≡ (if result then vec_len self.old.values + 1 else vec_len self.old.values) }
+        ensures used { (self.new.used ≡ self.old.used) ⊎ ((self.new.used ≡ 2 * self.old.used) × (nim_value code.now (vec_len self.old.values) ≡ self.old.used)) }
+        ensures past { result ≡ false → T.bound ≤ nim_value code.now (vec_len self.old.values) }
+        ensures room { vec_capacity self.new.values ≡ vec_capacity self.old.values }
+    {
         let Some(cell) = T::from_number(value) else {
             return false;
         };

@@ -1,14 +1,19 @@
 //! The first nim-values of a game.
 
-ghost use Rattle.std.specs.Prelude.{◌≡◌, ◌+◌, ◌*◌, ◌^◌, ◌<◌, ◌≤◌, max, length, IfOk, IfSome, MatchOption, OnErr, OnOk, SomeIff};
+ghost use Rattle.std.specs.Prelude.{◌≡◌, ◌+◌, ◌*◌, ◌^◌, ◌<◌, ◌≤◌, ◌⊎◌, ◌↔◌, false, max, length, IfOk, IfSome, IsTrue, MatchOption, OnErr, OnOk, SomeIff};
 ghost use Rattle.std.specs.List.{All};
 ghost use Rattle.oct_code.specs.Code as octal;
+ghost use Rattle.oct_mex.specs.Following.{Follows};
 ghost use Rattle.oct_mex.specs.NimValues.{nim_values, nim_value};
 ghost use Rattle.oct_mex.specs.Periods.{IsPeriodicFrom, NoneIsShown, NoneIsShownBefore};
 
+use crate::following::{Leader, is_led};
+use crate::leaders::Leaders;
 use crate::marks::table_len;
+use crate::mask::{Mask, NO_MASK};
 use crate::period::{SeenPeriod, find_period};
 use crate::row::Row;
+use crate::totals::{Table, follow_mask, room_for_tables};
 use oct_code::{Code, LIMIT};
 use std::alloc::{AllocError, Allocator};
 use std::marker::Model;
@@ -25,6 +30,9 @@ pub struct Values<A: Allocator + Copy> {
     room: usize,
     // A period with which the values go on, or 0 while none is seen.
     period: usize,
+    // What is known of the pairs of heaps under a mask, while no period is seen.
+    tables: Vec<Table<A>, A>,
+    mask: Mask,
 }
 
 impl<A: Allocator + Copy> Model for Values<A> {
@@ -50,6 +58,8 @@ impl<A: Allocator + Copy> Values<A> {
             marks: Vec::new(alloc),
             room: 0,
             period: 0,
+            tables: Vec::new(alloc),
+            mask: NO_MASK,
         }
     }
 
@@ -96,6 +106,7 @@ impl<A: Allocator + Copy> Values<A> {
         if self.room < count {
             self.row.room_to(count)?;
             self.marks.resize(table_len(&self.code, count), false)?;
+            room_for_tables(*self.marks.allocator(), &self.code, &mut self.tables, count)?;
             self.room = count;
         }
         Ok(())
@@ -131,7 +142,11 @@ impl<A: Allocator + Copy> Values<A> {
         if self.period > 0 {
             self.row.push_again(&self.code, self.period);
         } else {
-            let _ = self.row.push_next(&self.code, &mut self.marks);
+            follow_mask(&mut self.tables, self.mask, self.row.rare.mask);
+            self.mask = self.row.rare.mask;
+            let _ = self
+                .row
+                .push_next_by(&self.code, &mut self.tables, &mut self.marks);
         }
     }
 
@@ -146,6 +161,70 @@ impl<A: Allocator + Copy> Values<A> {
         self.room_to(count)?;
         self.extend_within(count);
         Ok(())
+    }
+
+    /// The values, as far as each has at most 16 bits, for other games to go on with, in memory of `alloc`.
+    pub(crate) fn lead(&self, alloc: A) -> Result<Leader<A>, AllocError>
+        ensures code { IfOk result (λ leader. leader.code ≡ self.now.code) }
+        ensures few { IfOk result (λ leader. leader.len ≤ self.now.len) }
+        ensures all { IfOk result (λ leader. (leader.len ≡ self.now.len) ⊎ (2 ^ 16 ≤ nim_value self.now.code leader.len)) }
+    {
+        Leader::new(alloc, self.code, &self.row.values)
+    }
+
+    /// Whether another game may lead this one: its values are at least as many and begin with those of this one, and the
+    /// same digits of both codes allow two heaps to be left.
+    pub(crate) fn is_led_by(&self, leader: &Leader<A>) -> bool
+        ensures { IsTrue result ↔ ((self.now.len ≤ leader.now.len) × Follows self.now.code leader.now.code self.now.len) }
+    {
+        leader.leads(&self.code, &self.row.values)
+    }
+
+    /// Takes over the values of other games that may lead this one, as long as they are its own, at most until it has those
+    /// of `count` heaps, for which there is room. Takes no memory.
+    pub fn follow(&mut self, leaders: &Leaders<A>, count: usize)
+        requires { count ≤ self.old.room }
+        ensures same { self.new ≡ record self.old { len = self.new.len } }
+        ensures more { self.old.len ≤ self.new.len }
+        ensures within { self.new.len ≤ max count self.old.len }
+    {
+        for leader in leaders.as_slice() {
+            if self.is_led_by(leader) {
+                self.push_all_led(leader, count);
+            }
+        }
+    }
+
+    // Takes over the values of a leader, as long as they are this game's own, until there are so many or they show a period.
+    fn push_all_led(&mut self, leader: &Leader<A>, count: usize)
+        requires room { count ≤ self.old.room }
+        requires follows { Follows self.old.code leader.now.code self.old.len }
+        ensures same { self.new ≡ record self.old { len = self.new.len } }
+        ensures more { self.old.len ≤ self.new.len }
+        ensures within { self.new.len ≤ max count self.old.len }
+    {
+        for _ in self.row.values.len()..count.min(leader.len()) {
+            self.look_for_period();
+            if self.period > 0 || !self.push_led(leader) {
+                return;
+            }
+        }
+    }
+
+    // Adds the next value of a leader, if it is this game's, too.
+    fn push_led(&mut self, leader: &Leader<A>) -> bool
+        requires room { self.old.len < self.old.room }
+        requires held { self.old.len < leader.now.len }
+        requires follows { Follows self.old.code leader.now.code self.old.len }
+        ensures pushed { IsTrue result → self.new ≡ record self.old { len = self.old.len + 1 } }
+        ensures follows { IsTrue result → Follows self.old.code leader.now.code (self.old.len + 1) }
+        ensures kept { result ≡ false → self.new ≡ self.old }
+    {
+        let value = leader.value(self.row.values.len());
+        if self.row.used < value || !is_led(&self.code, &leader.code(), &self.row.values, value) {
+            return false;
+        }
+        self.row.push_value(&self.code, value)
     }
 
     /// The least period that the values show so far that it holds for ever: twice the heap from which on it is seen, twice the
@@ -166,12 +245,16 @@ impl<A: Allocator + Copy> Values<A> {
     pub fn copy(&self, alloc: A) -> Result<Values<A>, AllocError>
         ensures { IfOk result (λ copy. copy ≡ self.now) }
     {
+        let mut tables = Vec::new(alloc);
+        room_for_tables(alloc, &self.code, &mut tables, self.room)?;
         Ok(Values {
             code: self.code,
             row: self.row.copy(alloc, self.room)?,
             marks: Vec::from_slice(alloc, &self.marks)?,
             room: self.room,
             period: self.period,
+            tables,
+            mask: self.mask,
         })
     }
 }

@@ -1,7 +1,8 @@
 //! What is known of a game.
 
-ghost use Rattle.std.specs.Prelude.{◌≡◌, ◌+◌, ◌≤◌, length, true, false, Some, IfErr, IfOk, IfSome, OnErr, OnOk};
+ghost use Rattle.std.specs.Prelude.{◌≡◌, ◌+◌, ◌≤◌, ◌⊎◌, length, true, false, Some, IfErr, IfOk, IfSome, OnErr, OnOk};
 ghost use Rattle.oct_code.specs.declared.limits.TheConstants.{LIMIT};
+ghost use Rattle.oct_mex.specs.Following.{IsKept};
 ghost use Rattle.oct_mex.specs.NimValues.{nim_value, position_value as nim_sum};
 ghost use Rattle.oct_mex.specs.Periods.{IsPeriodicFrom};
 ghost use Rattle.oct_ops.specs.Games.{game_of};
@@ -28,6 +29,7 @@ use crate::values::{heap_value_by, is_proved, position_value_by};
 use crate::winner::Outcome;
 use crate::winning::outcome_of;
 use oct_code::Code;
+use oct_mex::Leaders;
 use oct_ops::{Block, Body, Dot, Op, Period};
 use oct_verify::{Ledger, Status};
 use std::alloc::{AllocError, Allocator};
@@ -136,6 +138,23 @@ impl<A: Allocator + Copy> Game<A> {
         ensures same { self.new ≡ self.old }
     {
         self.ledger.compute_next(count)
+    }
+
+    /// Keeps the nim-values that are computed here, known or not, among those that other games may take over. Where memory is
+    /// refused, they are not kept.
+    pub fn lead(&self, leaders: &mut Leaders<A>)
+        ensures { (leaders.new ≡ leaders.old) ⊎ IsKept self.now.code leaders.old leaders.new }
+    {
+        self.ledger.lead(leaders);
+    }
+
+    /// Takes over the nim-values of other games, as long as they are those of this one, at most below the heap `count`, so that
+    /// a block of them is compared without computing them. It makes nothing known. The one error is that memory is refused.
+    pub fn follow(&mut self, leaders: &Leaders<A>, count: u32) -> Result<(), AllocError>
+        requires { count ≤ LIMIT }
+        ensures { self.new ≡ self.old }
+    {
+        self.ledger.follow(leaders, count)
     }
 
     /// The claims in the order of the operations.

@@ -12,6 +12,7 @@
 //!     game.winning_move(&[1_000_000_001])         // Some: of heap 0 remove 1 bean
 //!
 //! - `Game` is a ledger and the period claims of its game, and answers for both.
+//! - `Leaders` are games whose values another one may take over, as long as they are its own.
 //! - `PeriodClaim` is a claim under its dot, and `PeriodStatus` what is known of a claim: proved, refuted at the least heap
 //!   that breaks it, or pending.
 //! - `period_status`, `heap_value`, `position_value` and `outcome` answer for a ledger and a list of claims. No answer takes
@@ -47,6 +48,7 @@ pub use found::find_period;
 pub use game::Game;
 pub use moving::Move;
 pub use oct_code::OutOfMemory;
+pub use oct_mex::Leaders;
 pub use status::PeriodStatus;
 pub use unknown::Unknown;
 pub use values::{heap_value, position_value};

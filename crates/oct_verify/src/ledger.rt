@@ -1,7 +1,8 @@
 //! The ledger of a game.
 
-ghost use Rattle.std.specs.Prelude.{◌≡◌, ◌+◌, ◌<◌, ◌≤◌, true, false, Some, None, nat_le, nat_lt, if◌then◌else◌, count_by, length, OnOk, OnErr, IfOk, IfErr};
+ghost use Rattle.std.specs.Prelude.{◌≡◌, ◌+◌, ◌<◌, ◌≤◌, ◌⊎◌, true, false, Some, None, nat_le, nat_lt, if◌then◌else◌, count_by, length, OnOk, OnErr, IfOk, IfErr};
 ghost use Rattle.std.specs.Option.{IsSome};
+ghost use Rattle.oct_mex.specs.Following.{IsKept};
 ghost use Rattle.oct_mex.specs.NimValues.{nim_value, nim_values};
 ghost use Rattle.oct_ops.specs.Games.{game_of};
 ghost use Rattle.oct_ops.specs.Sets as sets;
@@ -12,10 +13,14 @@ ghost use Rattle.oct_verify.specs.Next.{next_values};
 use crate::shelf::Shelf;
 use crate::status::Status;
 use oct_code::{Code, LIMIT};
+use oct_mex::Leaders;
 use oct_ops::{Block, Dot, Op};
 use std::alloc::{AllocError, Allocator};
 use std::marker::Model;
 use std::rc::Rc;
+
+// Fewer values are computed sooner than those of many other games are looked at.
+const FEWEST: usize = 1_024;
 
 /// A finite set of blocks of one game, each under its dot, with what is known from them. Only `add` and `share`
 /// ask for memory to keep.
@@ -144,6 +149,7 @@ impl<A: Allocator + Copy> Ledger<A> {
         values.extend_to(end)?;
         Vec::from_slice(alloc, &values.as_slice()[start..end])
     }
+
     /// The same values. What was computed is kept, so that a block of them is compared without computing them again; it makes
     /// nothing known.
     pub fn compute_next(&mut self, count: u32) -> Result<Vec<u32, A>, AllocError>
@@ -159,5 +165,31 @@ impl<A: Allocator + Copy> Ledger<A> {
             self.shelf.alloc,
             &self.shelf.comparer.values.as_slice()[start..end],
         )
+    }
+
+    /// Keeps the nim-values that are computed here, known or not, among those that other games may take over. Fewer than 1,024
+    /// are not kept, nor where memory is refused.
+    pub fn lead(&self, leaders: &mut Leaders<A>)
+        ensures { (leaders.new ≡ leaders.old) ⊎ IsKept self.now.code leaders.old leaders.new }
+    {
+        let values = &self.shelf.comparer.values;
+        if FEWEST <= values.as_slice().len() {
+            leaders.keep(self.shelf.alloc, values);
+        }
+    }
+
+    /// Takes over the nim-values of other games, as long as they are those of this one, at most below the heap `count`, so that
+    /// a block of them is compared without computing them. It makes nothing known. Where `count` is below 1,024 nothing is done.
+    /// The one error is that memory is refused.
+    pub fn follow(&mut self, leaders: &Leaders<A>, count: u32) -> Result<(), AllocError>
+        requires { count ≤ LIMIT }
+        ensures { self.new ≡ self.old }
+    {
+        let count = count as usize;
+        if FEWEST <= count {
+            self.shelf.comparer.values.room_to(count)?;
+            self.shelf.comparer.values.follow(leaders, count);
+        }
+        Ok(())
     }
 }

@@ -10,6 +10,7 @@
 //!     ledger.status(&far, &at_7)        // Proved
 //!
 //! - `Ledger` is a code and a finite set of pairs of a dot and a block. A block may be shared with who has its operation.
+//! - Its values may be taken over from other games where they are the same: `oct_mex` has `Leaders`.
 //! - `Status` says whether a block is proved, refuted at its least wrong place, or pending.
 //! - `laws` says what holds of all sets of blocks.
 #![tactic(auto)]

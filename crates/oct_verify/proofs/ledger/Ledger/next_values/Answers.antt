@@ -1,4 +1,5 @@
-use Rattle.std.proofs.Common.{◌≡◌, ◌+◌, ◌-◌, ◌≤◌, drop, take, ap, ◌∙◌, arith}
+use Rattle.std.proofs.Common.{◌≡◌, ◌+◌, ◌-◌, ◌≤◌, drop, take, length, length-drop, ap, ◌∙◌, arith}
+use Rattle.std.proofs.lemmas.List.{length-take-le}
 use Rattle.std.proofs.lemmas.Result.{IfOk-weaker}
 use Rattle.oct_mex.specs.Held.{Held}
 use Rattle.oct_mex.specs.NimValues.{nim_values}
@@ -20,3 +21,13 @@ returns-clause-values g c =
     ∙ part_of_values held.code held.len start c.args.count far
     ∙ (λ i. drop (c.known-start.ensures.value i) (nim_values (code i) (c.known-start.ensures.value i + c.args.count))) in
     IfOk-weaker c.from_slice.result _ _ (λ next is. is ∙ part) c.from_slice.ensures.items
+
+pub returns-clause-len : goal.returns-clause-len
+returns-clause-len g c =
+    let start = c.known-start.result in
+    let held = c.extend_to.new.self in
+    let slice = c.as_slice.result.now in
+    let far : start + c.args.count ≤ length slice = omega (arith, ap (λ (h : Held). h.len) c.in_ok-extend_to.ensures.ok, c.as_slice.ensures.len) in
+    let fits : start + c.args.count - start ≤ length (drop start slice) = omega (arith, length-drop start slice) in
+    let size : length (take (start + c.args.count - start) (drop start slice)) ≡ c.args.count = length-take-le (start + c.args.count - start) (drop start slice) fits ∙ omega arith in
+    IfOk-weaker c.from_slice.result _ _ (λ next is. ap length is ∙ size) c.from_slice.ensures.items
