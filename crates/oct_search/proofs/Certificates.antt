@@ -25,7 +25,7 @@ module _ {T A : Type 0} (number : T → ℕ) (c : Code) (row : Row T A) (reach :
   all = map number row.values.items
 
   -- nor is a heap rare that is larger
-  common : (h : ℕ) → reach < h → h < vec_len row.values → is_rare row.rare.mask h (nim_value c h) ≡ false
+  pub common : (h : ℕ) → reach < h → h < vec_len row.values → is_rare row.rare.mask h (nim_value c h) ≡ false
   common h high low = elim (cases_Bool (is_rare row.rare.mask h (nim_value c h))) [
     | inr not ↦ not
     | inl is ↦ absurd (omega (arith, few h (kept.listed.rare some h (omega arith) low (ap (is_rare row.rare.mask h) (value_at c (vec_len row.values) h all kept.values low) ∙ is))))

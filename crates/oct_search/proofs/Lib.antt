@@ -1,2 +1,3 @@
+pub mod BySets
 pub mod CellReads
 pub mod Certificates

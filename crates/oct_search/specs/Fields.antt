@@ -1,5 +1,6 @@
 -- `Search` as its fields hold it.
 use Rattle.std.specs.Prelude.{IfSome}
+use Rattle.oct_search.specs.BySets.{AreSetsOf}
 use Rattle.oct_search.specs.Cells.{IsKnown, len_of}
 use Rattle.oct_search.specs.Certain.{IsCertain}
 use Rattle.oct_search.specs.Known.{Known}
@@ -11,3 +12,4 @@ known_of s = record { code = s.code; len = len_of s.cells }
 pub record IsStored {A : Type 0} (s : Inside A) : Type 0 where
   pub known : IsKnown s.code s.cells
   pub certain : IfSome s.certain (IsCertain s.code (len_of s.cells))
+  pub sets : IfSome s.finder.sets (AreSetsOf s.code (len_of s.cells))

@@ -1,10 +1,11 @@
 //! The nim-values of a game in cells of 8 bits until one exceeds 255, and then of 16.
 
-ghost use Rattle.std.specs.Prelude.{◌≡◌, ◌+◌, ◌^◌, ◌<◌, ◌≤◌, if◌then◌else◌, false, vec_capacity, vec_len, IfErr, IfOk, IfSome, OnErr, OnOk};
+ghost use Rattle.std.specs.Prelude.{◌≡◌, ◌+◌, ◌^◌, ◌<◌, ◌≤◌, if◌then◌else◌, false, vec_len, IfErr, IfOk, IfSome, OnErr, OnOk};
 ghost use Rattle.oct_code.specs.Code as octal;
 ghost use Rattle.oct_mex.specs.NimValues.{nim_value};
 ghost use Rattle.oct_mex.specs.Periods.{GoesOn};
 ghost use Rattle.oct_mex.specs.Row.{IsRow};
+ghost use Rattle.oct_search.specs.BySets.{AreSetsOf};
 ghost use Rattle.oct_search.specs.Cells.{IsKnown, bound_of, len_of};
 ghost use Rattle.oct_search.specs.Certain.{IsCertain};
 ghost use Rattle.oct_search.specs.Found.{IsFound};
@@ -12,15 +13,11 @@ ghost use Rattle.oct_search.specs.declared.error.SearchError.TheVariants.{PastVa
 
 use crate::certificate::certain_period;
 use crate::error::SearchError;
+use crate::finder::{Finder, lengthen, make_room, room_behind};
 use crate::search::MOST;
 use oct_code::Code;
 use oct_mex::{Cell, Rare, Row, SeenPeriod, expected_period, find_shown};
 use std::alloc::{AllocError, Allocator};
-
-// The room for values grows by one in so many, and some more.
-const SHARE: usize = 16;
-
-const SPARE: usize = 1_024;
 
 /// The nim-values of the heaps 0, 1, .. of a game.
 #[derive(Drop)]
@@ -123,22 +120,24 @@ impl<A: Allocator + Copy> Cells<A> {
         &mut self,
         alloc: A,
         code: &Code,
-        marks: &mut Vec<bool, A>,
+        finder: &mut Finder<A>,
     ) -> Result<(), SearchError>
         requires known { IsKnown code.now self.old }
         requires limited { len_of self.old < MOST }
+        requires sets { IfSome finder.old.sets (AreSetsOf code.now (len_of self.old)) }
         ensures known { IsKnown code.now self.new }
+        ensures sets { IfSome finder.new.sets (AreSetsOf code.now (len_of self.new)) }
         ensures ok { OnOk result (len_of self.new ≡ len_of self.old + 1) }
         ensures err { OnErr result (len_of self.new ≡ len_of self.old) }
         ensures past { IfErr result (λ fault. fault ≡ PastValue → 2 ^ 16 ≤ nim_value code.now (len_of self.old)) }
     {
-        if self.push_fitting(code, marks)? {
+        if self.push_fitting(alloc, code, finder)? {
             return Ok(());
         }
         if let Cells::Narrow(row) = self {
             let wide = widened(alloc, row)?;
             *self = Cells::Wide(wide);
-            if self.push_fitting(code, marks)? {
+            if self.push_fitting(alloc, code, finder)? {
                 return Ok(());
             }
         }
@@ -146,38 +145,27 @@ impl<A: Allocator + Copy> Cells<A> {
     }
 
     // Adds the next value, and says whether its cell holds it: else the values stay.
-    fn push_fitting(&mut self, code: &Code, marks: &mut Vec<bool, A>) -> Result<bool, AllocError>
+    fn push_fitting(
+        &mut self,
+        alloc: A,
+        code: &Code,
+        finder: &mut Finder<A>,
+    ) -> Result<bool, AllocError>
         requires known { IsKnown code.now self.old }
         requires limited { len_of self.old < MOST }
+        requires sets { IfSome finder.old.sets (AreSetsOf code.now (len_of self.old)) }
         ensures known { IsKnown code.now self.new }
+        ensures sets { IfSome finder.new.sets (AreSetsOf code.now (len_of self.new)) }
         ensures len { IfOk result (λ fits. len_of self.new ≡ (if fits then len_of self.old + 1 else len_of self.old)) }
         ensures err { OnErr result (len_of self.new ≡ len_of self.old) }
         ensures past { IfOk result (λ fits. fits ≡ false → bound_of self.old ≤ nim_value code.now (len_of self.old)) }
         ensures bound { bound_of self.new ≡ bound_of self.old }
     {
         match self {
-            Cells::Narrow(row) => push_in(row, code, marks),
-            Cells::Wide(row) => push_in(row, code, marks),
+            Cells::Narrow(row) => finder.push_next(alloc, row, code),
+            Cells::Wide(row) => finder.push_next(alloc, row, code),
         }
     }
-}
-
-// Adds the next value, and says whether its cell holds it: else the values stay.
-fn push_in<T: Cell, A: Allocator + Copy>(
-    row: &mut Row<T, A>,
-    code: &Code,
-    marks: &mut Vec<bool, A>,
-) -> Result<bool, AllocError>
-    requires row { IsRow T.number code.now row.old }
-    requires limited { vec_len row.old.values < MOST }
-    ensures row { IsRow T.number code.now row.new }
-    ensures len { IfOk result (λ fits. vec_len row.new.values ≡ (if fits then vec_len row.old.values + 1 else vec_len row.old.values)) }
-    ensures err { OnErr result (vec_len row.new.values ≡ vec_len row.old.values) }
-    ensures past { IfOk result (λ fits. fits ≡ false → T.bound ≤ nim_value code.now (vec_len row.old.values)) }
-{
-    make_room(row)?;
-    lengthen(marks, row.used)?;
-    Ok(row.push_next(code, marks))
 }
 
 // Adds the value of the heap one period before. Without memory the values stay.
@@ -199,30 +187,6 @@ fn push_again_in<T: Cell, A: Allocator + Copy>(
     Ok(())
 }
 
-// Makes room for one more value. Without memory nothing changes but the room.
-fn make_room<T: Cell, A: Allocator + Copy>(row: &mut Row<T, A>) -> Result<(), AllocError>
-    requires { vec_len row.old.values < MOST }
-    ensures row { (c : octal.Code) → IsRow T.number c row.old → IsRow T.number c row.new }
-    ensures len { vec_len row.new.values ≡ vec_len row.old.values }
-    ensures room { OnOk result (vec_len row.new.values < vec_capacity row.new.values) }
-{
-    let len = row.values.len();
-    if len == row.values.capacity() {
-        row.room_to(MOST.min(len + len / SHARE + SPARE))?;
-    }
-    Ok(())
-}
-
-// Makes a table of marks at least so long.
-fn lengthen<A: Allocator>(marks: &mut Vec<bool, A>, len: usize) -> Result<(), AllocError>
-    ensures { OnOk result (len ≤ vec_len marks.new) }
-{
-    if marks.len() < len {
-        marks.resize(len, false)?;
-    }
-    Ok(())
-}
-
 // The same values in wider cells.
 fn widened<A: Allocator + Copy>(alloc: A, row: &Row<u8, A>) -> Result<Row<u16, A>, AllocError>
     requires { vec_len row.now.values < MOST }
@@ -230,7 +194,7 @@ fn widened<A: Allocator + Copy>(alloc: A, row: &Row<u8, A>) -> Result<Row<u16, A
     ensures len { IfOk result (λ wide. vec_len wide.values ≡ vec_len row.now.values) }
 {
     let len = row.values.len();
-    let room = MOST.min(len + len / SHARE + SPARE);
+    let room = room_behind(len);
     let mut values = Vec::with_capacity(alloc, room)?;
     for value in row.values.as_slice() {
         values.push_reserved(u16::from(*value));

@@ -72,9 +72,10 @@ fn goes_on<T: Cell, A: Allocator + Copy>(
         && are_settled(row, code, start, reach, &mut marks[..row.used])
 }
 
-// The greatest heap of a list, or 0.
-fn greatest(heaps: &[u32]) -> usize
-    ensures { (h : ℕ) → Contains heaps.now h → h ≤ result }
+/// The greatest heap of a list, or 0.
+pub(crate) fn greatest(heaps: &[u32]) -> usize
+    ensures within { result < 2 ^ 32 }
+    ensures most { (h : ℕ) → Contains heaps.now h → h ≤ result }
 {
     let mut greatest = 0;
     for heap in heaps {

@@ -11,7 +11,9 @@
 //!
 //! The values are in cells of 8 bits until one exceeds 255, and then of 16 (`cells`), in memory that grows by a
 //! sixteenth: a list of some 400 million values takes as many bytes. How the next one is found, by a mask that parts
-//! the heaps and by a table of marks, is that of `oct_mex`, whose functions are the same for each width.
+//! the heaps and by a table of marks, is that of `oct_mex`, whose functions are the same for each width. Where all values
+//! are below 64 and no large heap is rare, sets of the values of near options tell most of the next ones sooner (`by_sets`,
+//! over `oct_sets`), and marks the others (`finder`).
 //!
 //! A period is looked for at lengths that grow by a quarter, mostly at two heaps for each. Often one run of it proves that
 //! the values go on with it long before they show it (`certificate`). Then the values that it takes are copied.
@@ -19,9 +21,11 @@
 //! What nim-values, periods and what proves them are is defined in `oct_mex`.
 #![tactic(auto)]
 
+mod by_sets;
 mod cells;
 mod certificate;
 mod error;
+mod finder;
 mod search;
 #[cfg(test)]
 mod tests;

@@ -9,6 +9,7 @@ ghost use Rattle.oct_search.specs.declared.error.SearchError.TheVariants.{PastVa
 use crate::cells::Cells;
 use crate::certificate::need_of;
 use crate::error::SearchError;
+use crate::finder::Finder;
 use oct_code::Code;
 use oct_mex::SeenPeriod;
 use std::alloc::{AllocError, Allocator};
@@ -28,7 +29,7 @@ const FIRST_TRY: usize = 4_096;
 pub struct Search<A: Allocator + Copy> {
     code: Code,
     cells: Cells<A>,
-    marks: Vec<bool, A>,
+    finder: Finder<A>,
     alloc: A,
     // A period with which the values go on, once one is known.
     certain: Option<SeenPeriod>,
@@ -55,7 +56,7 @@ impl<A: Allocator + Copy> Search<A> {
         Search {
             code,
             cells: Cells::new(alloc),
-            marks: Vec::new(alloc),
+            finder: Finder::new(alloc),
             alloc,
             certain: None,
             due: FIRST_TRY,
@@ -135,7 +136,9 @@ impl<A: Allocator + Copy> Search<A> {
         let len = self.len();
         if self.certain.is_none() && len >= self.due {
             self.due = len + len / 4;
-            self.certain = self.cells.certain_period(&self.code, &mut self.marks)?;
+            self.certain = self
+                .cells
+                .certain_period(&self.code, &mut self.finder.marks)?;
         }
         Ok(())
     }
@@ -148,11 +151,12 @@ impl<A: Allocator + Copy> Search<A> {
         ensures past { IfErr result (λ fault. fault ≡ PastValue → 2 ^ 16 ≤ nim_value self.new.code self.new.len) }
     {
         if let Some(seen) = self.certain {
+            self.finder.sets = None;
             self.cells.push_again(&self.code, seen.period)?;
             Ok(())
         } else {
             self.cells
-                .push_next(self.alloc, &self.code, &mut self.marks)
+                .push_next(self.alloc, &self.code, &mut self.finder)
         }
     }
 

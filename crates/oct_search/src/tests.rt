@@ -1,9 +1,10 @@
 //! Periods of the literature, far beyond the limit of the games.
 
 use crate::cells::Cells;
+use crate::finder::Finder;
 use crate::search::Search;
 use oct_code::Code;
-use oct_mex::SeenPeriod;
+use oct_mex::{SeenPeriod, Values};
 use std::process::Abort;
 
 // The search of a game finds this period, by so many values.
@@ -83,17 +84,38 @@ fn values_above_255_are_held(rt: HostRuntime) {
     assert_eq!(&rt; search.known(235), 256, "of heap 235");
 }
 
+// What a list has that goes on by sets from 16,384 values on is what a table has that knows none.
+#[test]
+fn values_by_sets_are_those_by_marks(rt: HostRuntime) {
+    for text in ["0.104", "0.16"] {
+        let code = Code::parse(text.as_bytes()).ok().expect(&rt, text);
+        let mut cells = Cells::new(rt.alloc());
+        let mut finder = Finder::new(rt.alloc());
+        for _ in 0..65_536usize {
+            let pushed = cells.push_next(rt.alloc(), &code, &mut finder);
+            assert!(&rt; pushed.is_ok(), "memory");
+        }
+        assert!(&rt; finder.sets.is_some(), "{text} goes on with no sets");
+        let mut values = Values::new(rt.alloc(), code);
+        assert!(&rt; values.extend_to(65_536).is_ok(), "memory");
+        for heap in 0..cells.len() {
+            let value = Some(u32::from(cells.value(heap)));
+            assert_eq!(&rt; value, values.get(heap), "of {text} at heap {heap}");
+        }
+    }
+}
+
 // The period 349 from heap 3,479 on takes 7,659 values to show itself.
 #[test]
 fn one_settled_period_is_enough(rt: HostRuntime) {
     let code = Code::parse(b"0.156").ok().expect(&rt, "a code");
     let mut cells = Cells::new(rt.alloc());
-    let mut marks = Vec::new(rt.alloc());
+    let mut finder = Finder::new(rt.alloc());
     for _ in 0..5_120usize {
-        let pushed = cells.push_next(rt.alloc(), &code, &mut marks);
+        let pushed = cells.push_next(rt.alloc(), &code, &mut finder);
         assert!(&rt; pushed.is_ok(), "memory");
     }
-    let found = cells.certain_period(&code, &mut marks);
+    let found = cells.certain_period(&code, &mut finder.marks);
     let seen = found.ok().expect(&rt, "memory").expect(&rt, "a period");
     assert_eq!(&rt; seen.period, 349, "the period");
     assert_eq!(&rt; seen.start, 3_479, "the heap from which it is seen");

@@ -1,12 +1,13 @@
 //! The values of what moves that leave two heaps leave of one.
 
-ghost use Rattle.std.specs.Prelude.{◌≡◌, ◌+◌, ◌-◌, ◌*◌, ◌^◌, ◌<◌, ◌≤◌, ◌↔◌, ℕ, IfOk, length, slice_index, vec_len, vec_capacity};
+ghost use Rattle.std.specs.Prelude.{◌≡◌, ◌+◌, ◌-◌, ◌*◌, ◌^◌, ◌<◌, ◌≤◌, ◌↔◌, ℕ, IfOk, length, map, slice_index, vec_len, vec_capacity};
 ghost use Rattle.bitsets.specs.Sets.{Has};
 ghost use Rattle.oct_code.specs.Code as octal;
 ghost use Rattle.oct_sets.specs.Plans.{AreSplits, IsOneBefore};
 
 use bitsets::one;
 use oct_code::Code;
+use oct_mex::Cell;
 use std::alloc::{AllocError, Allocator};
 
 /// How many beans a move may remove that leaves two heaps.
@@ -24,19 +25,19 @@ pub(crate) fn splits_of<A: Allocator>(alloc: A, code: &Code) -> Result<Vec<usize
 }
 
 /// For each place of a list of values from `first` on, the set of the values that stand before it by these numbers.
-pub(crate) fn pairs_of<A: Allocator + Copy>(
+pub(crate) fn pairs_of<T: Cell, A: Allocator + Copy>(
     alloc: A,
     splits: &[usize],
-    values: &[u16],
+    values: &[T],
     first: usize,
 ) -> Result<Vec<u64, A>, AllocError>
     requires few { length values.now < 2 ^ 62 }
     requires first { first ≤ length values.now }
     requires splits { (k : ℕ) → k < length splits.now → slice_index splits.now k ≤ first }
-    requires low { (i : ℕ) → i < length values.now → slice_index values.now i < 64 }
+    requires low { (i : ℕ) → i < length values.now → slice_index (map T.number values.now) i < 64 }
     ensures len { IfOk result (λ pairs. vec_len pairs ≡ length values.now - first) }
     ensures room { IfOk result (λ pairs. vec_len pairs < vec_capacity pairs) }
-    ensures pairs { IfOk result (λ pairs. (i v : ℕ) → first + i < length values.now → Has (slice_index pairs.items i) v ↔ IsOneBefore splits.now values.now (first + i) (length splits.now) v) }
+    ensures pairs { IfOk result (λ pairs. (i v : ℕ) → first + i < length values.now → Has (slice_index pairs.items i) v ↔ IsOneBefore splits.now (map T.number values.now) (first + i) (length splits.now) v) }
 {
     let mut pairs = Vec::with_capacity(alloc, 2 * values.len() + 1)?;
     for place in first..values.len() {
@@ -46,17 +47,25 @@ pub(crate) fn pairs_of<A: Allocator + Copy>(
 }
 
 /// The set of the values that stand before a place by these numbers.
-pub(crate) fn split_set(splits: &[usize], values: &[u16], place: usize) -> u64
+pub(crate) fn split_set<T: Cell>(splits: &[usize], values: &[T], place: usize) -> u64
     requires within { place < length values.now }
     requires splits { (k : ℕ) → k < length splits.now → slice_index splits.now k ≤ place }
-    requires low { (i : ℕ) → i < length values.now → slice_index values.now i < 64 }
-    ensures set { (v : ℕ) → Has result v ↔ IsOneBefore splits.now values.now place (length splits.now) v }
+    requires low { (i : ℕ) → i < length values.now → slice_index (map T.number values.now) i < 64 }
+    ensures set { (v : ℕ) → Has result v ↔ IsOneBefore splits.now (map T.number values.now) place (length splits.now) v }
 {
     let mut set = 0;
     for removed in splits {
-        set |= one(usize::from(values[place - *removed]));
+        set |= one(number_at(values, place - *removed));
     }
     set
+}
+
+/// The nim-value that stands at a place.
+pub(crate) fn number_at<T: Cell>(values: &[T], place: usize) -> usize
+    requires { place < length values.now }
+    ensures { result ≡ slice_index (map T.number values.now) place }
+{
+    values[place].number()
 }
 
 /// Keeps the last words, so many. Takes no memory.

@@ -30,7 +30,7 @@ impl<A: Allocator + Copy> Plan<A> {
     pub(crate) fn of(
         alloc: A,
         code: &Code,
-        none: u16,
+        none: usize,
         heaps: &[SmallHeap],
     ) -> Result<Plan<A>, AllocError>
         requires none { none < 64 }
@@ -42,7 +42,7 @@ impl<A: Allocator + Copy> Plan<A> {
             far: Steps::new(alloc),
             near: Steps::new(alloc),
         };
-        plan.add_ends(code, none as usize)?;
+        plan.add_ends(code, none)?;
         plan.add_heaps(code, heaps)?;
         Ok(plan)
     }

@@ -1,6 +1,6 @@
 //! The sets of the values of near options, for a block of heaps at a time.
 
-ghost use Rattle.std.specs.Prelude.{◌≡◌, ◌+◌, ◌-◌, ◌*◌, ◌^◌, ◌<◌, ◌≤◌, ℕ, List, IfOk, IfSome, length, slice_index, vec_len, vec_capacity};
+ghost use Rattle.std.specs.Prelude.{◌≡◌, ◌+◌, ◌-◌, ◌*◌, ◌^◌, ◌<◌, ◌≤◌, ℕ, List, IfOk, IfSome, length, map, slice_index, vec_len, vec_capacity};
 ghost use Rattle.std.specs.List.{Contains};
 ghost use Rattle.oct_code.specs.Code as octal;
 ghost use Rattle.oct_mex.specs.NimValues.{nim_value};
@@ -8,14 +8,14 @@ ghost use Rattle.oct_mex.specs.Windows.{IsSettled};
 ghost use Rattle.oct_sets.specs.Plans.{AreFirst, AreLast, AreSplits, IsParted, IsShapedSteps, IsUnion};
 ghost use Rattle.oct_sets.specs.Sets.{ArePairs, IsBlock, IsRight, IsShaped};
 
-use crate::pairs::{keep_last, pairs_of, split_set, splits_of};
+use crate::pairs::{keep_last, number_at, pairs_of, split_set, splits_of};
 use crate::plan::{BLOCK, Plan};
 use crate::settled::settled_by;
 use crate::sorted::sorted;
 use crate::witnesses::witnesses;
 use bitsets::{one, unite_steps};
 use oct_code::Code;
-use oct_mex::Mask;
+use oct_mex::{Cell, Mask};
 use std::alloc::{AllocError, Allocator};
 
 /// Each value is below this number: words have as many bits.
@@ -43,29 +43,29 @@ pub struct Sets<A: Allocator> {
 impl<A: Allocator + Copy> Sets<A> {
     /// The sets behind the values of the last heaps before the heap `heap`: by a plan that leads to the rare heaps, and to others
     /// of the small heaps, whose values are given. Memory is taken for the plan and for twice as many words as there are values.
-    pub fn new(
+    pub fn new<T: Cell>(
         alloc: A,
         code: &Code,
-        small: &[u16],
+        small: &[T],
         rare: &[u32],
-        last: &[u16],
+        last: &[T],
         heap: usize,
     ) -> Result<Sets<A>, AllocError>
         requires some { 1 < length small.now }
         requires few { length small.now ≤ 2 ^ 32 }
-        requires low { (h : ℕ) → h < length small.now → slice_index small.now h < 64 }
+        requires low { (h : ℕ) → h < length small.now → slice_index (map T.number small.now) h < 64 }
         requires listed { (h : ℕ) → Contains rare.now h → h < length small.now }
         requires window { length last.now ≡ length small.now - 1 + octal.len code.now }
-        requires least { (i : ℕ) → i < length last.now → slice_index last.now i < 64 }
+        requires least { (i : ℕ) → i < length last.now → slice_index (map T.number last.now) i < 64 }
         requires room { 2 * (length small.now - 1) + octal.len code.now < heap }
         requires limited { heap ≤ 2 ^ 60 }
         ensures shaped { IfOk result (IsShaped (length small.now - 1) (length last.now)) }
         ensures heap { IfOk result (λ sets. sets.heap ≡ heap) }
-        ensures right { AreFirst code.now small.now → AreLast code.now heap last.now → IfOk result (IsRight code.now rare.now (length small.now - 1)) }
+        ensures right { AreFirst code.now (map T.number small.now) → AreLast code.now heap (map T.number last.now) → IfOk result (IsRight code.now rare.now (length small.now - 1)) }
     {
         let others = witnesses(alloc, code, small, last, rare)?;
         let heaps = sorted(alloc, small, rare, &others)?;
-        let plan = Plan::of(alloc, code, small[0], &heaps)?;
+        let plan = Plan::of(alloc, code, number_at(small, 0), &heaps)?;
         let splits = splits_of(alloc, code)?;
         let pairs = pairs_of(alloc, &splits, last, code.len())?;
         let mut sets = Sets {
@@ -83,42 +83,42 @@ impl<A: Allocator + Copy> Sets<A> {
 
     /// The nim-value of the next heap, if near options by the plan settle it: below 64, and common. The values of the last heaps
     /// before it are given.
-    pub fn settle(&self, mask: Mask, last: &[u16]) -> Option<usize>
+    pub fn settle<T: Cell>(&self, mask: Mask, last: &[T]) -> Option<usize>
         requires shaped { IsShaped self.now.reach (length last.now) self.now }
         requires limited { self.now.heap ≤ 2 ^ 60 }
-        requires low { (i : ℕ) → i < length last.now → slice_index last.now i < 64 }
+        requires low { (i : ℕ) → i < length last.now → slice_index (map T.number last.now) i < 64 }
         ensures small { IfSome result (λ value. value < 64) }
-        ensures value { (c : octal.Code) (heaps : List ℕ) (reach : ℕ) → IsRight c heaps reach self.now → AreLast c self.now.heap last.now → IsParted c mask heaps reach self.now.heap → IfSome result (λ value. value ≡ nim_value c self.now.heap) }
-        ensures settled { (c : octal.Code) (heaps : List ℕ) (reach : ℕ) → IsRight c heaps reach self.now → AreLast c self.now.heap last.now → IsParted c mask heaps reach self.now.heap → IfSome result (λ value. IsSettled c mask reach self.now.heap) }
+        ensures value { (c : octal.Code) (heaps : List ℕ) (reach : ℕ) → IsRight c heaps reach self.now → AreLast c self.now.heap (map T.number last.now) → IsParted c mask heaps reach self.now.heap → IfSome result (λ value. value ≡ nim_value c self.now.heap) }
+        ensures settled { (c : octal.Code) (heaps : List ℕ) (reach : ℕ) → IsRight c heaps reach self.now → AreLast c self.now.heap (map T.number last.now) → IsParted c mask heaps reach self.now.heap → IfSome result (λ value. IsSettled c mask reach self.now.heap) }
     {
         settled_by(mask, self.heap, self.near_set(last))
     }
 
     // The set of the next heap: that of the block, and what near steps make besides.
-    fn near_set(&self, last: &[u16]) -> u64
+    fn near_set<T: Cell>(&self, last: &[T]) -> u64
         requires shaped { IsShaped self.now.reach (length last.now) self.now }
-        requires low { (i : ℕ) → i < length last.now → slice_index last.now i < 64 }
-        ensures union { (c : octal.Code) (heaps : List ℕ) (reach : ℕ) → IsRight c heaps reach self.now → AreLast c self.now.heap last.now → IsUnion c self.now.heap self.now.plan result }
+        requires low { (i : ℕ) → i < length last.now → slice_index (map T.number last.now) i < 64 }
+        ensures union { (c : octal.Code) (heaps : List ℕ) (reach : ℕ) → IsRight c heaps reach self.now → AreLast c self.now.heap (map T.number last.now) → IsUnion c self.now.heap self.now.plan result }
     {
         let near = &self.plan.near;
         let mut set = self.block[self.heap - self.start];
         for at in 0..near.offsets.len() {
-            let value = usize::from(last[last.len() - near.offsets[at]]);
+            let value = number_at(last, last.len() - near.offsets[at]);
             set |= one(value ^ near.values[at]);
         }
         set
     }
 
     /// Goes on to the next heap, by the values of the last heaps, of which this one is the last. Takes no memory.
-    pub fn push(&mut self, last: &[u16])
+    pub fn push<T: Cell>(&mut self, last: &[T])
         requires shaped { IsShaped self.old.reach (length last.now) self.old }
         requires some { 0 < length last.now }
-        requires low { (i : ℕ) → i < length last.now → slice_index last.now i < 64 }
+        requires low { (i : ℕ) → i < length last.now → slice_index (map T.number last.now) i < 64 }
         requires limited { self.old.heap < 2 ^ 60 }
         ensures shaped { IsShaped self.old.reach (length last.now) self.new }
         ensures reach { self.new.reach ≡ self.old.reach }
         ensures heap { self.new.heap ≡ self.old.heap + 1 }
-        ensures right { (c : octal.Code) (heaps : List ℕ) (reach : ℕ) → IsRight c heaps reach self.old → AreLast c (self.old.heap + 1) last.now → IsRight c heaps reach self.new }
+        ensures right { (c : octal.Code) (heaps : List ℕ) (reach : ℕ) → IsRight c heaps reach self.old → AreLast c (self.old.heap + 1) (map T.number last.now) → IsRight c heaps reach self.new }
     {
         self.add_pair(last);
         self.heap += 1;
@@ -128,17 +128,17 @@ impl<A: Allocator + Copy> Sets<A> {
     }
 
     // Adds the word of the next heap. Where there is no room, the first words are forgotten.
-    fn add_pair(&mut self, last: &[u16])
+    fn add_pair<T: Cell>(&mut self, last: &[T])
         requires pairs { self.old.reach ≤ vec_len self.old.pairs }
         requires spare { self.old.reach < vec_capacity self.old.pairs }
         requires splits { (k : ℕ) → k < length self.old.splits.items → slice_index self.old.splits.items k < length last.now }
         requires some { 0 < length last.now }
-        requires low { (i : ℕ) → i < length last.now → slice_index last.now i < 64 }
+        requires low { (i : ℕ) → i < length last.now → slice_index (map T.number last.now) i < 64 }
         ensures same { self.new ≡ record self.old { pairs = self.new.pairs } }
         ensures least { self.old.reach ≤ vec_len self.new.pairs }
         ensures most { vec_len self.new.pairs ≤ vec_len self.old.pairs + 1 }
         ensures room { vec_capacity self.new.pairs ≡ vec_capacity self.old.pairs }
-        ensures pairs { (c : octal.Code) → vec_len self.old.pairs ≤ self.old.heap → length last.now ≤ self.old.heap + 1 → AreSplits c self.old.splits.items → ArePairs c self.old.heap self.old.pairs.items → AreLast c (self.old.heap + 1) last.now → ArePairs c (self.old.heap + 1) self.new.pairs.items }
+        ensures pairs { (c : octal.Code) → vec_len self.old.pairs ≤ self.old.heap → length last.now ≤ self.old.heap + 1 → AreSplits c self.old.splits.items → ArePairs c self.old.heap self.old.pairs.items → AreLast c (self.old.heap + 1) (map T.number last.now) → ArePairs c (self.old.heap + 1) self.new.pairs.items }
     {
         if self.pairs.len() == self.pairs.capacity() {
             keep_last(&mut self.pairs, self.reach);

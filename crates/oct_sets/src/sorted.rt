@@ -1,10 +1,12 @@
 //! The small heaps that a plan goes by, those of one nim-value side by side, and each value beside one that differs little.
 
-ghost use Rattle.std.specs.Prelude.{◌≡◌, ◌<◌, ◌≤◌, ℕ, IfOk, OnOk, length, slice_index};
+ghost use Rattle.std.specs.Prelude.{◌≡◌, ◌<◌, ◌≤◌, ℕ, IfOk, OnOk, length, map, slice_index};
 ghost use Rattle.std.specs.List.{Contains};
 ghost use Rattle.oct_sets.specs.Plans.{HasHeap, IsAmong};
 ghost use Rattle.oct_sets.specs.declared.sorted.SmallHeap.{SmallHeap};
 
+use crate::pairs::number_at;
+use oct_mex::Cell;
 use std::alloc::{AllocError, Allocator};
 
 /// A small heap and its nim-value. They are ordered by the place of the value in Gray's code, in which each number differs from the
@@ -17,16 +19,17 @@ pub struct SmallHeap {
 }
 
 /// The heaps of two lists, from 1 on, by their values.
-pub(crate) fn sorted<A: Allocator + Copy>(
+pub(crate) fn sorted<T: Cell, A: Allocator + Copy>(
     alloc: A,
-    small: &[u16],
+    small: &[T],
     rare: &[u32],
     others: &[u32],
 ) -> Result<Vec<SmallHeap, A>, AllocError>
+    requires low { (h : ℕ) → h < length small.now → slice_index (map T.number small.now) h < 64 }
     requires rare { (h : ℕ) → Contains rare.now h → h < length small.now }
     requires others { (h : ℕ) → Contains others.now h → h < length small.now }
-    ensures each { IfOk result (λ list. (h : SmallHeap) → Contains list.items h → IsAmong small.now h) }
-    ensures has { IfOk result (λ list. (h : ℕ) → Contains rare.now h → 1 ≤ h → HasHeap list.items h (slice_index small.now h)) }
+    ensures each { IfOk result (λ list. (h : SmallHeap) → Contains list.items h → IsAmong (map T.number small.now) h) }
+    ensures has { IfOk result (λ list. (h : ℕ) → Contains rare.now h → 1 ≤ h → HasHeap list.items h (slice_index (map T.number small.now) h)) }
 {
     let mut list = Vec::new(alloc);
     add(&mut list, small, rare)?;
@@ -36,19 +39,20 @@ pub(crate) fn sorted<A: Allocator + Copy>(
 }
 
 // Adds the heaps of a list, from 1 on.
-fn add<A: Allocator>(
+fn add<T: Cell, A: Allocator>(
     list: &mut Vec<SmallHeap, A>,
-    small: &[u16],
+    small: &[T],
     heaps: &[u32],
 ) -> Result<(), AllocError>
+    requires low { (h : ℕ) → h < length small.now → slice_index (map T.number small.now) h < 64 }
     requires within { (h : ℕ) → Contains heaps.now h → h < length small.now }
-    ensures each { ((h : SmallHeap) → Contains list.old.items h → IsAmong small.now h) → OnOk result ((h : SmallHeap) → Contains list.new.items h → IsAmong small.now h) }
+    ensures each { ((h : SmallHeap) → Contains list.old.items h → IsAmong (map T.number small.now) h) → OnOk result ((h : SmallHeap) → Contains list.new.items h → IsAmong (map T.number small.now) h) }
     ensures keeps { OnOk result ((h : SmallHeap) → Contains list.old.items h → Contains list.new.items h) }
-    ensures has { OnOk result ((h : ℕ) → Contains heaps.now h → 1 ≤ h → HasHeap list.new.items h (slice_index small.now h)) }
+    ensures has { OnOk result ((h : ℕ) → Contains heaps.now h → 1 ≤ h → HasHeap list.new.items h (slice_index (map T.number small.now) h)) }
 {
     for heap in heaps {
         if *heap > 0 {
-            let value = small[*heap as usize];
+            let value = number_at(small, *heap as usize) as u16;
             list.push(SmallHeap {
                 place: place_of(value),
                 value,

@@ -6,12 +6,13 @@
 //! those that meet what a heap lacks most, the one that meets most of what the others lack too. Which ones are chosen changes no
 //! value, but how many heaps have to be settled one by one.
 
-ghost use Rattle.std.specs.Prelude.{◌≤◌, ◌<◌, IfOk, IfSome, length, slice_index, vec_len};
+ghost use Rattle.std.specs.Prelude.{◌≤◌, ◌<◌, IfOk, IfSome, length, map, slice_index, vec_len};
 ghost use Rattle.std.specs.List.{All};
 
-use crate::pairs::splits_of;
+use crate::pairs::{number_at, splits_of};
 use bitsets::one;
 use oct_code::Code;
+use oct_mex::Cell;
 use std::alloc::{AllocError, Allocator};
 
 /// So many witnesses are chosen at most.
@@ -41,14 +42,14 @@ const PRICE: usize = 3;
 /// Small heaps by which most heaps are settled, besides those of the plan: of the list `small` of the first values, each of a
 /// value below 64. They are chosen by the heaps that have the values `last`, in order, so far as these are settled neither by a
 /// step that leaves one heap nor by one over a heap of the list `rare`.
-pub(crate) fn witnesses<A: Allocator + Copy>(
+pub(crate) fn witnesses<T: Cell, A: Allocator + Copy>(
     alloc: A,
     code: &Code,
-    small: &[u16],
-    last: &[u16],
+    small: &[T],
+    last: &[T],
     rare: &[u32],
 ) -> Result<Vec<u32, A>, AllocError>
-    ensures heaps { IfOk result (λ heaps. All (λ h. (NEAREST ≤ h) × (h < length small.now) × (slice_index small.now h < 64)) heaps.items) }
+    ensures heaps { IfOk result (λ heaps. All (λ h. (NEAREST ≤ h) × (h < length small.now) × (slice_index (map T.number small.now) h < 64)) heaps.items) }
     ensures few { IfOk result (λ heaps. vec_len heaps ≤ MOST) }
 {
     let splits = splits_of(alloc, code)?;
@@ -102,13 +103,13 @@ fn neediest(lacking: &[Lacking]) -> usize
 
 // The removals that leave two heaps, the first values, and those of the last heaps.
 #[derive(Clone, Copy)]
-struct Known<'a> {
+struct Known<'a, T> {
     splits: &'a [usize],
-    small: &'a [u16],
-    last: &'a [u16],
+    small: &'a [T],
+    last: &'a [T],
 }
 
-impl Known<'_> {
+impl<T: Cell> Known<'_, T> {
     // The heaps of the sample that the plan does not settle.
     fn lacking<A: Allocator>(
         self,
@@ -130,7 +131,7 @@ impl Known<'_> {
     // The numbers below the value at a place that no step of the plan meets.
     fn lacking_at(self, code: &Code, rare: &[u32], place: usize) -> u64 {
         let mut numbers = match self.last.get(place) {
-            Some(value) => below(usize::from(*value)),
+            Some(value) => below(value.number()),
             None => 0,
         };
         for removed in 1..code.len() + 1 {
@@ -156,7 +157,7 @@ impl Known<'_> {
     // The set of the value of a small heap.
     fn set_of(self, heap: usize) -> u64 {
         match self.small.get(heap) {
-            Some(value) => set_of(usize::from(*value)),
+            Some(value) => set_of(value.number()),
             None => 0,
         }
     }
@@ -168,7 +169,7 @@ impl Known<'_> {
         };
         let mut met = 0;
         for removed in self.splits {
-            met |= self.met(place, *removed, heap, usize::from(*value));
+            met |= self.met(place, *removed, heap, value.number());
         }
         met
     }
@@ -182,14 +183,14 @@ impl Known<'_> {
             return 0;
         };
         match self.last.get(rest) {
-            Some(other) => set_of(usize::from(*other) ^ value),
+            Some(other) => set_of(other.number() ^ value),
             None => 0,
         }
     }
 
     // Of the first heaps that meet the least number that one lacks, the one that is worth most.
     fn best(self, neediest: Lacking, lacking: &[Lacking], values: u64) -> Option<u32>
-        ensures { IfSome result (λ h. (NEAREST ≤ h) × (h < length self.entry.small.now) × (slice_index self.entry.small.now h < 64)) }
+        ensures { IfSome result (λ h. (NEAREST ≤ h) × (h < length self.entry.small.now) × (slice_index (map T.number self.entry.small.now) h < 64)) }
     {
         let least = neediest.numbers & neediest.numbers.wrapping_neg();
         let mut best = None;
@@ -199,7 +200,7 @@ impl Known<'_> {
             if tried == TRIED {
                 break;
             }
-            if self.small[heap] < 64 && self.met_by(neediest.place, heap) & least != 0 {
+            if number_at(self.small, heap) < 64 && self.met_by(neediest.place, heap) & least != 0 {
                 tried += 1;
                 let worth = self.worth(heap, lacking, values);
                 if worth > most {

@@ -1,6 +1,6 @@
 -- Sets that stay right while their window goes on.
-use Rattle.std.proofs.Common.{◌≡◌, ℕ, ◌+◌, ◌-◌, ◌<◌, ◌≤◌, true, List, length, take, drop, slice_index, Option, Some, None, IfSome, Result, Ok, Err, IfOk, sym, subst, ap, ◌∙◌, arith}
-use Rattle.std.proofs.lemmas.List.{get_or-take, get_or-drop, length-take-le, length-drop}
+use Rattle.std.proofs.Common.{◌≡◌, ℕ, ◌+◌, ◌-◌, ◌<◌, ◌≤◌, true, List, length, map, take, drop, slice_index, Option, Some, None, IfSome, Result, Ok, Err, IfOk, sym, subst, ap, ◌∙◌, arith}
+use Rattle.std.proofs.lemmas.List.{get_or-take, get_or-drop, length-take-le, length-drop, map-id}
 use Rattle.std.specs.List.{Contains}
 use Rattle.std.specs.Result.{result_ok}
 use Rattle.oct_code.specs.Code.{Code}
@@ -39,20 +39,27 @@ parted w s known are = record { fit = known.fit; listed = are.listed; common = k
 -- ---- the values that a window has
 
 module _ (c : Code) (reach n : ℕ) (held : List ℕ) (is : IsHeld c reach n held) where
-  pub first_of : (xs : List ℕ) → xs ≡ held → AreFirst c (take (reach + 1) xs)
-  first_of xs same h low =
+  first_values : (xs : List ℕ) → xs ≡ held → AreFirst c (take (reach + 1) xs)
+  first_values xs same h low =
       let room = is.room in
       let size : length (take (reach + 1) xs) ≡ reach + 1 = length-take-le (reach + 1) xs (omega (arith, ap length same)) in
       get_or-take (reach + 1) xs h 0 (omega (arith, low, size)) ∙ ap (λ ys. slice_index ys h) same ∙ is.small h (omega (arith, low, size))
 
-  pub last_of : (xs : List ℕ) (k m : ℕ) → xs ≡ held → k + window c reach ≡ length held → m ≡ window c reach → AreLast c n (take m (drop k xs))
-  last_of xs k m same at full h low near =
+  -- the same, as the numbers in cells
+  pub first_of : (xs : List ℕ) → xs ≡ held → AreFirst c (map (λ x. x) (take (reach + 1) xs))
+  first_of xs same = subst (AreFirst c) (sym (map-id (take (reach + 1) xs))) (first_values xs same)
+
+  last_values : (xs : List ℕ) (k m : ℕ) → xs ≡ held → k + window c reach ≡ length held → m ≡ window c reach → AreLast c n (take m (drop k xs))
+  last_values xs k m same at full h low near =
       let room = is.room in
       let few = is.few in
       let size : length (take m (drop k xs)) ≡ m = length-take-le m (drop k xs) (omega (arith, length-drop k xs, ap length same, at, full)) in
       let i = h + length (take m (drop k xs)) - n in
       let place : k + i ≡ h + length held - n = omega (arith, size, at, near, room, few, full) in
       get_or-take m (drop k xs) i 0 (omega (arith, size, low, near)) ∙ get_or-drop k xs i 0 ∙ ap (λ ys. slice_index ys (k + i)) same ∙ ap (slice_index held) place ∙ is.last h low (omega (arith, near, size, full))
+
+  pub last_of : (xs : List ℕ) (k m : ℕ) → xs ≡ held → k + window c reach ≡ length held → m ≡ window c reach → AreLast c n (map (λ x. x) (take m (drop k xs)))
+  last_of xs k m same at full = subst (AreLast c n) (sym (map-id (take m (drop k xs)))) (last_values xs k m same at full)
 
 pub listed_of : (c : Code) (mask : Mask) (reach n : ℕ) (held heaps : List ℕ) → 0 < mask.bits → IsHeld c reach n held → ListsRare mask held (reach + 1) heaps
     → (a : ℕ) → 1 ≤ a → a ≤ reach → is_rare mask a (nim_value c a) ≡ true → Contains heaps a

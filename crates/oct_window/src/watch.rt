@@ -78,14 +78,15 @@ impl<A: Allocator + Copy> Watch<A> {
         ensures err { OnErr result (self.new ≡ self.old) }
         ensures stepped { IsWatched self.old → IfOk result (IsStepped self.new) }
     {
-        self.step_by(alloc, &mut None, marks)
+        self.step_by(alloc, &mut None, &mut 0, marks)
     }
 
-    // A step by sets, where there are some, or else by a table of marks.
+    // A step by sets, where there are some, or else by a table of marks. Of the marked values that at the place `look` is compared first.
     fn step_by(
         &mut self,
         alloc: A,
         sets: &mut Option<Sets<A>>,
+        look: &mut usize,
         marks: &mut [bool],
     ) -> Result<Step, AllocError>
         requires watchable { IsWatchable self.old }
@@ -106,7 +107,7 @@ impl<A: Allocator + Copy> Watch<A> {
         ensures passed { IsWatched self.old → IfSome sets.old (AreRight self.old.window) → AreSettled self.old.window.count self.new.window }
     {
         self.mark_if_due(alloc)?;
-        Ok(self.push_next(sets, marks))
+        Ok(self.push_next(sets, look, marks))
     }
 
     /// Steps on until the window is at the heap `end`, the marked values come again, or the window is lost: by sets, as far as
@@ -130,8 +131,9 @@ impl<A: Allocator + Copy> Watch<A> {
         ensures passed { IsWatched self.old → AreSettled self.old.window.count self.new.window }
     {
         let mut sets = self.window.sets(alloc);
+        let mut look = 0;
         while self.window.count < end {
-            let step = self.step_by(alloc, &mut sets, marks)?;
+            let step = self.step_by(alloc, &mut sets, &mut look, marks)?;
             if !matches!(step, Step::On) {
                 return Ok(step);
             }
@@ -171,7 +173,12 @@ impl<A: Allocator + Copy> Watch<A> {
     }
 
     // Adds the next value, and says whether the marked values come again with it.
-    fn push_next(&mut self, sets: &mut Option<Sets<A>>, marks: &mut [bool]) -> Step
+    fn push_next(
+        &mut self,
+        sets: &mut Option<Sets<A>>,
+        look: &mut usize,
+        marks: &mut [bool],
+    ) -> Step
         requires watchable { IsWatchable self.old }
         requires of { IfSome sets.old (AreSetsOf self.old.window) }
         requires fresh { self.old.window.count < 2 * self.old.at }
@@ -191,7 +198,7 @@ impl<A: Allocator + Copy> Watch<A> {
         if !self.window.push_by(sets, marks) {
             return Step::Lost;
         }
-        if self.window.ends_with(&self.mark) {
+        if self.window.ends_with(&self.mark, look) {
             Step::Again
         } else {
             Step::On

@@ -107,12 +107,18 @@ impl<A: Allocator + Copy> Window<A> {
         Vec::from_slice(alloc, self.last_values())
     }
 
-    /// Whether the last values are these.
-    pub(crate) fn ends_with(&self, values: &[u16]) -> bool
+    /// Whether the last values are these. That at the place `look` is compared first, and where it is the same, another one the
+    /// next time: mostly a seldom value comes to be the first, and no more is compared.
+    pub(crate) fn ends_with(&self, values: &[u16], look: &mut usize) -> bool
         requires shaped { IsShaped self.now }
         requires size { length values.now ≡ window self.now.code self.now.reach }
         ensures { IsKnown self.now → IsTrue result ↔ ((i : ℕ) → i < window self.now.code self.now.reach → slice_index values.now i ≡ nim_value self.now.code (self.now.count - window self.now.code self.now.reach + i)) }
     {
+        let last = self.last_values();
+        if *look < values.len() && last[*look] != values[*look] {
+            return false;
+        }
+        *look = look.checked_sub(1).unwrap_or(values.len());
         self.held.ends_with(values)
     }
 

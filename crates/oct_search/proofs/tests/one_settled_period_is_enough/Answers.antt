@@ -1,5 +1,11 @@
-use Rattle.std.proofs.Common.{arith}
+use Rattle.std.proofs.Common.{IfSome, arith, sym, subst}
+use Rattle.oct_search.specs.BySets.{AreSetsOf}
+use Rattle.oct_search.specs.Cells.{len_of}
 use Rattle.oct_search.proofs.tests.one_settled_period_is_enough.Goals as goal
 
 pub loop-init : goal.loop-init
-loop-init g c = record { known = c.new-cells.ensures.known c.expect-code.result; few = omega (arith, c.new-cells.ensures.len) }
+loop-init g c = record {
+  known = c.new-cells.ensures.known c.expect-code.result;
+  few = omega (arith, c.new-cells.ensures.len);
+  sets = subst (λ s. IfSome s (AreSetsOf c.expect-code.result (len_of c.new-cells.result))) (sym c.new-finder.ensures) tt;
+}

@@ -1,4 +1,4 @@
-use Rattle.std.proofs.Common.{length, subst, sym, arith, ℕ, ◌+◌, ◌<◌, ◌↔◌, slice_index, List}
+use Rattle.std.proofs.Common.{length, subst, sym, arith, ℕ, ◌+◌, ◌<◌, ◌↔◌, map, slice_index, List}
 use Rattle.bitsets.specs.Sets.{Has}
 use Rattle.oct_sets.specs.Plans.{IsOneBefore}
 use Rattle.oct_sets.proofs.Words.{each_more}
@@ -9,7 +9,7 @@ loop-place-preserved g c =
     let is = c.loop-place.invariant in
     let old = c.loop-place.pairs.items in
     let place = c.loop-place.place in
-    let before = λ (k v : ℕ). IsOneBefore c.args.splits.now c.args.values.now k (length c.args.splits.now) v in
+    let before = λ (k v : ℕ). IsOneBefore c.args.splits.now (map g.T.Cell.number c.args.values.now) k (length c.args.splits.now) v in
     record {
       begun = omega (arith, is.begun);
       len = omega (arith, c.in_ok-push.ensures.len, is.len, is.begun);

@@ -1,4 +1,4 @@
-use Rattle.std.proofs.Common.{◌≡◌, ℕ, ◌+◌, ◌-◌, ◌<◌, ◌≤◌, ◌↔◌, length, slice_index, vec_len, vec_capacity}
+use Rattle.std.proofs.Common.{◌≡◌, ℕ, ◌+◌, ◌-◌, ◌<◌, ◌≤◌, ◌↔◌, length, map, slice_index, vec_len, vec_capacity}
 use Rattle.bitsets.specs.Sets.{Has}
 use Rattle.oct_sets.specs.Plans.{IsOneBefore}
 use Rattle.oct_sets.proofs.pairs.pairs_of.Given as goal
@@ -8,5 +8,5 @@ invariant-loop-place g l = record {
   begun : l.first ≤ l.place;
   len : vec_len l.pairs ≡ l.place - l.first;
   room : length l.values < vec_capacity l.pairs;
-  pairs : (i v : ℕ) → l.first + i < l.place → Has (slice_index l.pairs.items i) v ↔ IsOneBefore l.splits l.values (l.first + i) (length l.splits) v;
+  pairs : (i v : ℕ) → l.first + i < l.place → Has (slice_index l.pairs.items i) v ↔ IsOneBefore l.splits (map g.T.Cell.number l.values) (l.first + i) (length l.splits) v;
 }

@@ -1,4 +1,4 @@
-use Rattle.std.proofs.Common.{ℕ, ◌<◌, ◌⊎◌, ◌↔◌, List, length}
+use Rattle.std.proofs.Common.{ℕ, ◌<◌, ◌⊎◌, ◌↔◌, List, length, map}
 use Rattle.bitsets.specs.Sets.{Has}
 use Rattle.oct_code.specs.Code as octal
 use Rattle.oct_sets.specs.Plans.{AreLast, IsMade, IsPairMade}
@@ -7,6 +7,6 @@ use Rattle.oct_sets.proofs.sets.Sets.near_set.Given as goal
 
 abbrev pub invariant-loop-at : goal.invariant-loop-at
 invariant-loop-at g l = record {
-  union : (c : octal.Code) (heaps : List ℕ) (reach : ℕ) → IsRight c heaps reach l.self → AreLast c l.self.heap l.last
+  union : (c : octal.Code) (heaps : List ℕ) (reach : ℕ) → IsRight c heaps reach l.self → AreLast c l.self.heap (map g.T.Cell.number l.last)
       → (v : ℕ) → v < 64 → Has l.set v ↔ (IsPairMade c l.self.heap l.self.plan.far (length l.self.plan.far.offsets.items) v ⊎ IsMade c l.self.heap l.self.plan.near l.at v);
 }

@@ -1,9 +1,10 @@
-use Rattle.std.proofs.Common.{◌≡◌, ◌+◌, ◌-◌, ◌<◌, ◌≤◌, ◌⊎◌, ◌↔◌, ℕ, List, Vec, length, slice_index, sym, subst, subst₂, ap, arith, vec_len, vec_capacity}
+use Rattle.std.proofs.Common.{◌≡◌, ◌+◌, ◌-◌, ◌<◌, ◌≤◌, ◌⊎◌, ◌↔◌, ℕ, List, Vec, length, map, slice_index, sym, subst, subst₂, ap, arith, vec_len, vec_capacity}
 use Rattle.std.proofs.lemmas.List.Elements.{All-contains}
 use Rattle.std.specs.List.{Contains}
 use Rattle.bitsets.specs.Sets.{Has}
 use Rattle.oct_code.specs.Code.{len}
-use Rattle.oct_sets.specs.Plans.{HasStep, IsEndStep, IsHeapStep, IsOneBefore, IsShapedPlan}
+use Rattle.oct_mex.proofs.Cells.{as_many}
+use Rattle.oct_sets.specs.Plans.{HasStep, IsEndStep, IsHeapStep, IsOneBefore, IsPlan, IsShapedPlan}
 use Rattle.oct_sets.specs.Sets.{ArePairs}
 use Rattle.oct_sets.specs.declared.sets.Sets.{Sets}
 use Rattle.oct_sets.specs.declared.sorted.SmallHeap.{SmallHeap}
@@ -15,13 +16,14 @@ use Rattle.oct_sets.proofs.sets.Sets.new.Goals as goal
 
 pub sorted-requires-clause-others : goal.sorted-requires-clause-others
 sorted-requires-clause-others g c h is =
-    (All-contains (λ w. (NEAREST ≤ w) × (w < length c.args.small.now) × (slice_index c.args.small.now w < 64)) c.in_ok-others.others.items h c.in_ok-others.ensures.heaps
+    (All-contains (λ w. (NEAREST ≤ w) × (w < length c.args.small.now) × (slice_index (map g.T.Cell.number c.args.small.now) w < 64)) c.in_ok-others.others.items h c.in_ok-others.ensures.heaps
     (subst (λ xs. Contains xs h) c.deref.ensures.value is)).1
 
 pub of-requires-clause-each : goal.of-requires-clause-each
 of-requires-clause-each g c h is =
     let among = c.in_ok-heaps.ensures.each h (subst (λ (xs : List SmallHeap). Contains xs h) c.deref-2.ensures.value is) in
-    record { some = among.some; few = omega (arith, among.few, c.requires.few); small = let low = c.requires.low h.heap among.few in omega (arith, low, among.value) }
+    let size = as_many g.T.Cell.number c.args.small.now in
+    record { some = among.some; few = omega (arith, among.few, c.requires.few, size); small = let low = c.requires.low h.heap (omega (arith, among.few, size)) in omega (arith, low, among.value) }
 
 pub pairs_of-requires-clause-few : goal.pairs_of-requires-clause-few
 pairs_of-requires-clause-few g c = omega (arith, c.requires.window, c.requires.room, c.requires.limited, c.requires.few)
@@ -30,7 +32,8 @@ pub fill-requires-clause-far : goal.fill-requires-clause-far
 fill-requires-clause-far g c =
     (c.in_ok-plan.ensures.shaped (length c.args.small.now - 1) (λ h is.
     let among = c.in_ok-heaps.ensures.each h (subst (λ (xs : List SmallHeap). Contains xs h) c.deref-2.ensures.value is) in
-    record { some = among.some; few = omega (arith, among.few); small = let low = c.requires.low h.heap among.few in omega (arith, low, among.value) })).far
+    let size = as_many g.T.Cell.number c.args.small.now in
+    record { some = among.some; few = omega (arith, among.few, size); small = let low = c.requires.low h.heap (omega (arith, among.few, size)) in omega (arith, low, among.value) })).far
 
 pub returns-clause-shaped : goal.returns-clause-shaped
 returns-clause-shaped g c =
@@ -45,7 +48,8 @@ returns-clause-shaped g c =
     (ap (λ (s : Sets g.row.A.Denot). s.splits.items) filled)
     (subst (λ width. IsShapedPlan reach width c.in_ok-plan.plan) (sym c.requires.window) (c.in_ok-plan.ensures.shaped reach (λ h is.
     let among = c.in_ok-heaps.ensures.each h (subst (λ (xs : List SmallHeap). Contains xs h) c.deref-2.ensures.value is) in
-    record { some = among.some; few = omega (arith, among.few); small = let low = c.requires.low h.heap among.few in omega (arith, low, among.value) })))
+    let size = as_many g.T.Cell.number c.args.small.now in
+    record { some = among.some; few = omega (arith, among.few, size); small = let low = c.requires.low h.heap (omega (arith, among.few, size)) in omega (arith, low, among.value) })))
     (λ k low. let few = c.in_ok-splits.ensures.few k low in omega (arith, few, c.requires.window, c.requires.some))
     (omega (arith, ap vec_len pairs, size)) (omega (arith, ap vec_capacity pairs, size, c.in_ok-pairs.ensures.room))
     (omega (arith, ap vec_len pairs, size, c.requires.room, heap)) (omega (arith, c.requires.window, c.requires.room, heap)) c.fill.ensures.len (omega (arith, heap, start)) (omega (arith, heap, start))
@@ -55,18 +59,23 @@ returns-clause-right g c first last =
     let filled = c.fill.ensures.same in
     let new = c.fill.new.self in
     let code = c.args.code.now in
-    let small = c.args.small.now in
-    let values = c.args.last.now in
+    let number = g.T.Cell.number in
+    let small = map number c.args.small.now in
+    let values = map number c.args.last.now in
+    let many = as_many number c.args.small.now in
+    let size : length values ≡ length c.args.last.now = as_many number c.args.last.now in
     let splits = c.in_ok-splits.splits.items in
     let pairs = c.in_ok-pairs.pairs in
     let list = c.in_ok-heaps.heaps.items in
     let are : ArePairs code c.args.heap pairs.items = pairs_first code c.args.heap c.len.result splits values pairs.items c.in_ok-splits.ensures.splits last
-    (omega (arith, c.requires.window, c.requires.room)) (omega (arith, c.requires.window, c.len.ensures.value)) (omega (arith, c.in_ok-pairs.ensures.len))
+    (omega (arith, c.requires.window, c.requires.room, size)) (omega (arith, c.requires.window, c.len.ensures.value, size)) (omega (arith, c.in_ok-pairs.ensures.len, size))
     (λ k low. let few = c.in_ok-splits.ensures.few k low in omega (arith, few, c.len.ensures.value))
-    (subst (λ (xs : List ℕ). (i v : ℕ) → c.len.result + i < length values → Has (slice_index pairs.items i) v ↔ IsOneBefore xs values (c.len.result + i) (length xs) v) c.deref-3.ensures.value c.in_ok-pairs.ensures.pairs) in
-    let plan = plan_is code c.args.rare.now small list c.in_ok-plan.plan (omega (arith, c.requires.some)) first c.requires.listed c.in_ok-heaps.ensures.each c.in_ok-heaps.ensures.has
-    (subst (λ (xs : List SmallHeap). (d x : ℕ) → HasStep code c.in_ok-plan.plan d x ↔ (IsEndStep code (slice_index small 0) (len code + 1) d x ⊎ IsHeapStep code xs (length xs) d x)) c.deref-2.ensures.value c.in_ok-plan.ensures.steps) in
-    right_new code c.args.rare.now (length small - 1) c.args.heap c.in_ok-plan.plan splits new (ap (λ (s : Sets g.row.A.Denot). s.plan) filled) (ap (λ (s : Sets g.row.A.Denot). s.splits.items) filled)
-    (ap (λ (s : Sets g.row.A.Denot). s.start) filled) plan c.in_ok-splits.ensures.splits
+    (subst (λ (xs : List ℕ). (i v : ℕ) → c.len.result + i < length values → Has (slice_index pairs.items i) v ↔ IsOneBefore xs values (c.len.result + i) (length xs) v) c.deref-3.ensures.value
+    (λ i v low. c.in_ok-pairs.ensures.pairs i v (omega (arith, low, size)))) in
+    let plan = plan_is code c.args.rare.now small list c.in_ok-plan.plan (omega (arith, c.requires.some, many)) first
+    (λ h is. let low = c.requires.listed h is in omega (arith, low, many)) c.in_ok-heaps.ensures.each c.in_ok-heaps.ensures.has
+    (subst₂ (λ v (xs : List SmallHeap). (d x : ℕ) → HasStep code c.in_ok-plan.plan d x ↔ (IsEndStep code v (len code + 1) d x ⊎ IsHeapStep code xs (length xs) d x)) c.number_at.ensures c.deref-2.ensures.value c.in_ok-plan.ensures.steps) in
+    right_new code c.args.rare.now (length c.args.small.now - 1) c.args.heap c.in_ok-plan.plan splits new (ap (λ (s : Sets g.row.A.Denot). s.plan) filled) (ap (λ (s : Sets g.row.A.Denot). s.splits.items) filled)
+    (ap (λ (s : Sets g.row.A.Denot). s.start) filled) (subst (λ k. IsPlan code c.args.rare.now (k - 1) (HasStep code c.in_ok-plan.plan)) many plan) c.in_ok-splits.ensures.splits
     (subst₂ (λ n (ws : Vec ℕ g.row.A.Denot). ArePairs code n ws.items) (sym (ap (λ (s : Sets g.row.A.Denot). s.heap) filled)) (sym (ap (λ (s : Sets g.row.A.Denot). s.pairs) filled)) are)
     (c.fill.ensures.block code are) c.requires.room

@@ -1,4 +1,4 @@
-use Rattle.std.proofs.Common.{◌-◌, length, arith, drop, subst, sym, take, IfSome}
+use Rattle.std.proofs.Common.{◌-◌, length, map, arith, drop, subst, sym, take, IfSome}
 use Rattle.oct_sets.specs.Plans.{AreLast}
 use Rattle.oct_window.specs.BySets.{AreRight, IsBehind}
 use Rattle.oct_window.proofs.Sets.{last_of}
@@ -16,6 +16,6 @@ returns-in-Some-clause-right g c known right =
     (omega (arith, c.len.ensures, c.len-in-Some.ensures.value, room)) (omega (arith, c.len.ensures, c.len-in-Some.ensures.value, room, c.deref.ensures.len)) in
     record {
       heaps = are.heaps;
-      right = c.push.ensures.right w.code are.heaps w.reach are.right (subst (λ n. AreLast w.code n (take (length c.deref.result.now - k) (drop k c.deref.result.now))) (sym behind.heap) last);
+      right = c.push.ensures.right w.code are.heaps w.reach are.right (subst (λ n. AreLast w.code n (map (λ x. x) (take (length c.deref.result.now - k) (drop k c.deref.result.now)))) (sym behind.heap) last);
       listed = are.listed;
     }

@@ -1,4 +1,4 @@
-use Rattle.std.proofs.Common.{◌-◌, ◌∙◌, ap, arith, length, drop, subst, sym, take, IfSome}
+use Rattle.std.proofs.Common.{◌-◌, ◌∙◌, ap, arith, length, drop, map, subst, sym, take, IfSome}
 use Rattle.oct_mex.specs.Windows.{IsSettled}
 use Rattle.oct_mex.specs.NimValues.{nim_value}
 use Rattle.oct_sets.specs.Plans.{AreLast, IsParted}
@@ -16,7 +16,7 @@ returns-then-value-self-clause-value g c known right =
     let room = c.requires.shaped.room in
     let last = last_of w.code w.reach w.count w.held.items known.held c.deref.result.now k (length c.deref.result.now - k) c.deref.ensures.value
     (omega (arith, c.len.ensures, c.len-2.ensures.value, room)) (omega (arith, c.len.ensures, c.len-2.ensures.value, room, c.deref.ensures.len)) in
-    c.in_ok-value.ensures.value w.code are.heaps w.reach are.right (subst (λ n. AreLast w.code n (take (length c.deref.result.now - k) (drop k c.deref.result.now))) (sym of.heap) last)
+    c.in_ok-value.ensures.value w.code are.heaps w.reach are.right (subst (λ n. AreLast w.code n (map (λ x. x) (take (length c.deref.result.now - k) (drop k c.deref.result.now)))) (sym of.heap) last)
     (subst (λ n. IsParted w.code w.rare.mask are.heaps w.reach n) (sym of.heap) (parted w s known are))
     ∙ ap (nim_value w.code) of.heap
 
@@ -31,5 +31,5 @@ returns-then-value-self-clause-settled g c known right =
     let last = last_of w.code w.reach w.count w.held.items known.held c.deref.result.now k (length c.deref.result.now - k) c.deref.ensures.value
     (omega (arith, c.len.ensures, c.len-2.ensures.value, room)) (omega (arith, c.len.ensures, c.len-2.ensures.value, room, c.deref.ensures.len)) in
     subst (IsSettled w.code w.rare.mask w.reach) of.heap
-    (c.in_ok-value.ensures.settled w.code are.heaps w.reach are.right (subst (λ n. AreLast w.code n (take (length c.deref.result.now - k) (drop k c.deref.result.now))) (sym of.heap) last)
+    (c.in_ok-value.ensures.settled w.code are.heaps w.reach are.right (subst (λ n. AreLast w.code n (map (λ x. x) (take (length c.deref.result.now - k) (drop k c.deref.result.now)))) (sym of.heap) last)
     (subst (λ n. IsParted w.code w.rare.mask are.heaps w.reach n) (sym of.heap) (parted w s known are)))
