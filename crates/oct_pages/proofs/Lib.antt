@@ -12,3 +12,4 @@ mod GroupLaws
 mod Pushing
 pub mod SheetLaws
 mod Pagers
+mod Flowing

@@ -2,6 +2,8 @@ pub use Rattle.oct_ops.specs.Operations
 pub mod Catalogue
 pub mod Contents
 pub mod GamesIn
+pub mod HeldBlocks
+pub mod Outlet
 pub mod Pager
 pub mod Rest
 pub mod Sheet

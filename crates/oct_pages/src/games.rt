@@ -14,14 +14,14 @@ ghost use Rattle.oct_pages.specs.Sheet.{sheet_by, sheet_lines};
 ghost use Rattle.oct_pages.specs.Pager.{AreShown};
 
 use crate::blocks::GameHead;
-use crate::built::game_of;
+use crate::built::game_after;
 use crate::game::GameSheet;
 use crate::line::{show, show_each};
 use crate::pager::Pager;
 use crate::values::append_values;
 use oct_code::Code;
 use oct_join::OpSet;
-use oct_period::Game;
+use oct_period::{Game, Leaders};
 use oct_record::Record;
 use std::alloc::{AllocError, Allocator};
 use std::collections::BTreeMap;
@@ -39,8 +39,9 @@ pub(crate) fn append_games<A: Allocator + Copy>(
 {
     let games = said.games();
     prove!(games.len() <= usize::MAX);
+    let mut leaders = Leaders::new(said.allocator());
     for (code, ops) in games.iter() {
-        append_game(out, pager, said, kept, *code, ops)?;
+        append_game(out, pager, said, kept, *code, ops, &mut leaders)?;
     }
     Ok(())
 }
@@ -54,6 +55,7 @@ pub(crate) fn append_game<A: Allocator + Copy>(
     kept: &BTreeMap<Code, Game<A>, A>,
     code: Code,
     ops: &OpSet<A>,
+    leaders: &mut Leaders<A>,
 ) -> Result<(), AllocError>
     requires kept { AreGamesIn said.now.ops kept.now }
     requires its { ops.now ≡ summary.of_game said.now.ops code }
@@ -66,7 +68,7 @@ pub(crate) fn append_game<A: Allocator + Copy>(
     if let Some(game) = kept.get(&code) {
         return append_game_lines(said.allocator(), out, pager, game, ops);
     }
-    let game = game_of(said, code)?;
+    let game = game_after(said, code, leaders)?;
     append_game_lines(said.allocator(), out, pager, &game, ops)
 }
 

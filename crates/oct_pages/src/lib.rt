@@ -18,6 +18,8 @@
 //!   is built when its lines are due, and let go after them.
 //! - `write_catalogue_of` and `write_page_of` do so where no game is kept. `game_of` builds one, and
 //!   `codes_of` gives the codes of all.
+//! - `ready_catalogue` asks for all memory that it takes to write the catalogue, and gives a `ReadyCatalogue`, which asks for none:
+//!   what is written of it is not cut off by want of memory, and its longest part need not be in memory.
 //! - `stream_catalogue` writes it to a writer as it is made; it and `write_catalogue_among` show a part of what was said, with the
 //!   authors of the whole.
 //! - `GameSheet` is what the lines of a game tell, and what other views show of it: its known nim-values, its blocks and its
@@ -36,25 +38,33 @@ mod codes;
 mod game;
 mod game_sheet;
 mod games;
+mod held_blocks;
+mod held_lines;
 mod line;
+mod making_ready;
 mod notes;
+mod outlet;
+mod outlet_lines;
 mod pager;
 mod parts;
+mod ready;
 mod statuses;
 mod stream;
 mod values;
 
-pub use built::game_of;
+pub use built::{game_after, game_of};
 pub use catalogue::{
     write_catalogue_among, write_catalogue_of, write_catalogue_with, write_page_of, write_page_with,
 };
 pub use codes::codes_of;
 pub use game::GameSheet;
+pub use making_ready::ready_catalogue;
 pub use oct_code::OutOfMemory;
 pub use oct_text::{
     append_dot, append_labelled, append_labelled_dot, append_labelled_text, append_number,
     append_text,
 };
 pub use parts::{Parts, write_catalogue, write_page};
+pub use ready::ReadyCatalogue;
 pub use statuses::{BlockRow, PeriodRow};
 pub use stream::{GameProgress, Unwatched, stream_catalogue};

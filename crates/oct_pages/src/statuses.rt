@@ -114,8 +114,11 @@ fn is_proved(status: PeriodStatus) -> bool
     status == PeriodStatus::Proved
 }
 
-// The block, where the body is one of the game.
-fn block_of_game<'a, A: Allocator>(body: &'a Body<A>, code: &Code) -> Option<&'a Block<A>>
+/// The block, where the body is one of the game.
+pub(crate) fn block_of_game<'a, A: Allocator>(
+    body: &'a Body<A>,
+    code: &Code,
+) -> Option<&'a Block<A>>
     ensures { option_copied result ≡ block_of_game code.now (content body.now) }
 {
     match body {

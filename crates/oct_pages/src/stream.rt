@@ -12,6 +12,7 @@ use crate::catalogue::append_rest;
 use crate::games::append_game;
 use crate::pager::Pager;
 use oct_code::Code;
+use oct_period::Leaders;
 use oct_record::Record;
 use oct_text::append_text;
 use std::alloc::Allocator;
@@ -69,9 +70,18 @@ fn stream_games<W: Write, P: GameProgress, A: Allocator + Copy>(
     let none = BTreeMap::new(part.allocator());
     let all = games.len() as u64;
     let mut done = 0;
+    let mut leaders = Leaders::new(part.allocator());
     for (code, ops) in games.iter() {
         progress.tell(*code, done, all);
-        append_game(piece, &mut Pager::All, part, &none, *code, ops)?;
+        append_game(
+            piece,
+            &mut Pager::All,
+            part,
+            &none,
+            *code,
+            ops,
+            &mut leaders,
+        )?;
         spill(piece, out)?;
         done = done.saturating_add(1);
     }
