@@ -1,3 +1,5 @@
+pub mod Fitting
+pub mod FittingLaws
+pub mod LinePlaces
 pub mod Looks
-pub mod Places
 pub mod Table

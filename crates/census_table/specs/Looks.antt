@@ -1,6 +1,7 @@
 -- How lines are shown.
-use Rattle.std.specs.Prelude.{Bool, true, false}
-use Rattle.census_table.specs.Places.{Text}
+use Rattle.std.specs.Prelude.{ℕ, Bool, true, false, Option}
+use Rattle.census_table.specs.Fitting.{fitted_to}
+use Rattle.census_table.specs.LinePlaces.{Text}
 use Rattle.census_table.specs.Table.{aligned}
 use Rattle.census_table.specs.declared.look.Look.{Look}
 use Rattle.census_table.specs.declared.look.Look.TheVariants.{Bare, Columns, Colors}
@@ -17,7 +18,8 @@ look_of Auto true true = Columns
 look_of Auto true false = Colors
 look_of Auto false plain = Bare
 
-abbrev pub shown : Look → Text → Text
-shown Bare s = s
-shown Columns s = aligned false s
-shown Colors s = aligned true s
+-- lines in columns have this width at most, where there is one; what stays as it is is never cut
+abbrev pub shown : Look → Option ℕ → Text → Text
+shown Bare width s = s
+shown Columns width s = fitted_to width (aligned false s)
+shown Colors width s = fitted_to width (aligned true s)

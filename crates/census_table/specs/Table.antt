@@ -1,7 +1,7 @@
 -- The lines in columns, as they stand on a terminal.
 use Rattle.std.specs.Prelude.{ℕ, ◌-◌, max, ◌&&◌, Bool, false, nat_lt, List, [], ◌∷◌, ◌++◌, codes, length, replicate, slice_index, slice_set, if◌then◌else◌}
-use Rattle.census_table.specs.Places.{Text, begins, behind, says_period, says_refuted, start, stops}
-use Rattle.census_table.specs.declared.place.Place.{Place}
+use Rattle.census_table.specs.LinePlaces.{Text, begins, behind, says_period, says_refuted, start, stops}
+use Rattle.census_table.specs.declared.line_place.LinePlace.{LinePlace}
 
 -- ---- how wide the columns are
 
@@ -12,17 +12,17 @@ noted widths column width =
     else widths ++ (width ∷ [])
 
 -- a column is measured where the next one begins
-abbrev pub measured_at : List ℕ → Place → Text → List ℕ
+abbrev pub measured_at : List ℕ → LinePlace → Text → List ℕ
 measured_at widths place s = if begins place s then noted widths place.column place.width else widths
 
-abbrev pub measured : List ℕ → Place → Text → List ℕ
+abbrev pub measured : List ℕ → LinePlace → Text → List ℕ
 measured widths place [] = widths
 measured widths place (b ∷ s) = measured (measured_at widths place (b ∷ s)) (behind false place (b ∷ s)) s
 
 -- ---- what stands before a byte
 
 -- the end of a colour
-abbrev pub end_of : Place → Text
+abbrev pub end_of : LinePlace → Text
 end_of place = if place.is_colored then 27 ∷ codes "[0m" else []
 
 -- red for what is refuted, green for a period
@@ -32,14 +32,14 @@ color_of colored s =
     else (if colored && says_period s then 27 ∷ codes "[32m" else [])
 
 -- spaces fill a column before the next one
-abbrev pub front : Bool → List ℕ → Place → Text → Text
+abbrev pub front : Bool → List ℕ → LinePlace → Text → Text
 front colored widths place s =
     if begins place s then end_of place ++ replicate (slice_index widths place.column - place.width) 32 ++ color_of colored s
     else (if stops place s then 27 ∷ codes "[0m" else [])
 
 -- ---- the text
 
-abbrev pub dressed : Bool → List ℕ → Place → Text → Text
+abbrev pub dressed : Bool → List ℕ → LinePlace → Text → Text
 dressed colored widths place [] = []
 dressed colored widths place (b ∷ s) = front colored widths place (b ∷ s) ++ (b ∷ dressed colored widths (behind colored place (b ∷ s)) s)
 

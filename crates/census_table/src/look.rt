@@ -3,6 +3,7 @@
 ghost use Rattle.std.specs.Prelude.{◌≡◌, IfOk};
 ghost use Rattle.census_table.specs.Looks.{look_of, shown};
 
+use crate::fitting::fitted_to;
 use crate::table::aligned;
 use std::alloc::{AllocError, Global};
 
@@ -41,14 +42,19 @@ impl Look {
         }
     }
 
-    /// The lines of games as they are shown so.
-    pub fn show(self, alloc: Global, lines: Vec<u8>) -> Result<Vec<u8>, AllocError>
-        ensures { IfOk result (λ text. text.items ≡ shown self lines.items) }
+    /// The lines of games as they are shown so. Where they are in columns and a width is given, what is wider is cut.
+    pub fn show(
+        self,
+        alloc: Global,
+        lines: Vec<u8>,
+        width: Option<usize>,
+    ) -> Result<Vec<u8>, AllocError>
+        ensures { IfOk result (λ text. text.items ≡ shown self width lines.items) }
     {
         match self {
             Look::Bare => Ok(lines),
-            Look::Columns => aligned(alloc, &lines, false),
-            Look::Colors => aligned(alloc, &lines, true),
+            Look::Columns => fitted_to(alloc, aligned(alloc, &lines, false)?, width),
+            Look::Colors => fitted_to(alloc, aligned(alloc, &lines, true)?, width),
         }
     }
 }

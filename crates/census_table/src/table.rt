@@ -2,9 +2,9 @@
 
 ghost use Rattle.std.specs.Prelude.{◌≡◌, ◌-◌, ◌++◌, [], IfOk, OnOk, replicate, slice_index};
 ghost use Rattle.census_table.specs.Table.{aligned, color_of, dressed, end_of, front, measured, noted};
-ghost use Rattle.census_table.specs.Places.{start};
+ghost use Rattle.census_table.specs.LinePlaces.{start};
 
-use crate::place::{Place, says_period, says_refuted};
+use crate::line_place::{LinePlace, says_period, says_refuted};
 use std::alloc::{AllocError, Global};
 
 const RED: &[u8] = b"\x1b[31m";
@@ -26,7 +26,7 @@ fn measured(alloc: Global, lines: &[u8]) -> Result<Vec<usize>, AllocError>
     ensures { IfOk result (λ widths. widths.items ≡ measured [] (start lines.now) lines.now) }
 {
     let mut widths = Vec::new(alloc);
-    let mut place = Place::start(lines);
+    let mut place = LinePlace::start(lines);
     for i in 0..lines.len() {
         let rest = &lines[i..];
         if place.begins(rest) {
@@ -58,7 +58,7 @@ fn dressed(
     ensures { IfOk result (λ text. text.items ≡ dressed is_colored widths.now (start lines.now) lines.now) }
 {
     let mut text = Vec::new(alloc);
-    let mut place = Place::start(lines);
+    let mut place = LinePlace::start(lines);
     for i in 0..lines.len() {
         let rest = &lines[i..];
         append_front(&mut text, &place, rest, widths, is_colored)?;
@@ -71,7 +71,7 @@ fn dressed(
 // Appends what stands before the first of these bytes: where it begins a column, the end of a colour, spaces, and a colour.
 fn append_front(
     text: &mut Vec<u8>,
-    place: &Place,
+    place: &LinePlace,
     rest: &[u8],
     widths: &[usize],
     is_colored: bool,
@@ -90,14 +90,14 @@ fn append_front(
 }
 
 // Appends the end of a colour, where the bytes before are colored.
-fn append_end(text: &mut Vec<u8>, place: &Place) -> Result<(), AllocError>
+fn append_end(text: &mut Vec<u8>, place: &LinePlace) -> Result<(), AllocError>
     ensures { OnOk result (text.new.items ≡ text.old.items ++ end_of place.now) }
 {
     text.extend_from_slice(if place.is_colored { PLAIN } else { b"" })
 }
 
 // How many spaces fill the column up.
-fn spaces_in(widths: &[usize], place: &Place) -> usize
+fn spaces_in(widths: &[usize], place: &LinePlace) -> usize
     ensures { result ≡ slice_index widths.now place.now.column - place.now.width }
 {
     if place.column < widths.len() {

@@ -17,9 +17,10 @@ use crate::json_rows::game_json;
 use oct_code::Code;
 use oct_join::OpSet;
 use oct_overview::LeastPeriod;
-use oct_pages::{GameProgress, GameSheet, game_of};
+use oct_pages::{GameProgress, GameSheet, game_after};
+use oct_period::Leaders;
 use oct_record::Record;
-use oct_sheet::{Remarks, with_names};
+use oct_sheet::{Remarks, told_codes, with_names};
 use oct_text::append_text;
 use serde_json::Value;
 use std::alloc::{AllocError, Global};
@@ -118,16 +119,32 @@ fn stream_games<W: Write, P: GameProgress>(
 ) -> io::Result<()>
     ensures { OnOk result (AppendsFront (W.contents out.old) (W.contents out.new) (piece.old.items ++ (before.now ++ compact_text (list (game_data remarks.now) (sheet (listed said.now.ops)).games))) piece.new.items) }
 {
+    let codes = told_codes(said)?;
+    stream_each(alloc, before, said, &codes, remarks, progress, piece, out)
+}
+
+// Puts a text there, and then the array of the games of these codes.
+fn stream_each<W: Write, P: GameProgress>(
+    alloc: Global,
+    before: &[u8],
+    said: &Record<Global>,
+    codes: &[Code],
+    remarks: &Remarks<'_, Global>,
+    progress: &mut P,
+    piece: &mut Vec<u8>,
+    out: &mut W,
+) -> io::Result<()>
+    ensures { OnOk result (AppendsFront (W.contents out.old) (W.contents out.new) (piece.old.items ++ (before.now ++ compact_text (list (λ c. game_data remarks.now (game_sheet (listed said.now.ops) c)) codes.now))) piece.new.items) }
+{
     append_text(piece, before)?;
     append_text(piece, b"[")?;
-    let games = said.games();
-    prove!(games.len() <= usize::MAX);
-    let all = games.len() as u64;
+    let all = codes.len() as u64;
     let mut done = 0_u64;
+    let mut leaders = Leaders::new(alloc);
     let mut is_later = false;
-    for (code, ops) in games.iter() {
+    for code in codes {
         progress.tell(*code, done, all);
-        append_game(alloc, said, remarks, *code, ops, is_later, piece)?;
+        append_game(alloc, said, remarks, *code, &mut leaders, is_later, piece)?;
         spill(piece, out)?;
         done = done.saturating_add(1);
         is_later = true;
@@ -136,35 +153,51 @@ fn stream_games<W: Write, P: GameProgress>(
     Ok(())
 }
 
-// Appends a game with these operations, as an item of an array.
+// Appends a game as an item of an array.
 fn append_game(
     alloc: Global,
     said: &Record<Global>,
     remarks: &Remarks<'_, Global>,
     code: Code,
-    ops: &OpSet<Global>,
+    leaders: &mut Leaders<Global>,
     is_later: bool,
     out: &mut Vec<u8>,
 ) -> Result<(), AllocError>
-    requires { ops.now ≡ summary.of_game said.now.ops code }
     ensures { OnOk result (out.new.items ≡ out.old.items ++ (comma_if is_later ++ compact_text (game_data remarks.now (game_sheet (listed said.now.ops) code)))) }
 {
-    let value = game_value(alloc, said, remarks, code, ops)?;
+    let value = game_value(alloc, said, remarks, code, leaders)?;
     append_item(alloc, &value, is_later, out)
 }
 
-// The value of a game with these operations.
+// The value of a game.
 fn game_value(
     alloc: Global,
     said: &Record<Global>,
     remarks: &Remarks<'_, Global>,
     code: Code,
+    leaders: &mut Leaders<Global>,
+) -> Result<Value, AllocError>
+    ensures { IfOk result (λ v. view v ≡ game_data remarks.now (game_sheet (listed said.now.ops) code)) }
+{
+    match said.game(code) {
+        Some(ops) => built_value(alloc, said, remarks, code, ops, leaders),
+        None => built_value(alloc, said, remarks, code, &OpSet::new(alloc), leaders),
+    }
+}
+
+// The value of a game with these operations, which is built for it.
+fn built_value(
+    alloc: Global,
+    said: &Record<Global>,
+    remarks: &Remarks<'_, Global>,
+    code: Code,
     ops: &OpSet<Global>,
+    leaders: &mut Leaders<Global>,
 ) -> Result<Value, AllocError>
     requires { ops.now ≡ summary.of_game said.now.ops code }
     ensures { IfOk result (λ v. view v ≡ game_data remarks.now (game_sheet (listed said.now.ops) code)) }
 {
-    let game = game_of(said, code)?;
+    let game = game_after(said, code, leaders)?;
     let sheet = GameSheet::of_game(alloc, &game, ops)?;
     let found = game.find_period();
     let least = LeastPeriod::of(&sheet, &found);

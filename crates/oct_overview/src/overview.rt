@@ -19,8 +19,8 @@ use crate::tables::{append_csv_row, append_latex_row};
 use oct_code::Code;
 use oct_join::OpSet;
 use oct_ops::Dot;
-use oct_pages::{BlockRow, GameProgress, GameSheet, PeriodRow, game_of};
-use oct_period::PeriodStatus;
+use oct_pages::{BlockRow, GameProgress, GameSheet, PeriodRow, game_after};
+use oct_period::{Leaders, PeriodStatus};
 use oct_record::Record;
 use oct_sheet::{GameTally, Remarks};
 use oct_text::Piece::{Code as CodeText, Dot as DotText, Number, Text};
@@ -106,9 +106,10 @@ fn append_games<P: GameProgress, A: Allocator + Copy>(
 {
     let all = codes.len() as u64;
     let mut done = 0;
+    let mut leaders = Leaders::new(said.allocator());
     for code in codes {
         progress.tell(*code, done, all);
-        append_game(out, said, *code, remarks, which, listing)?;
+        append_game(out, said, *code, &mut leaders, remarks, which, listing)?;
         done = done.saturating_add(1);
     }
     Ok(())
@@ -119,6 +120,7 @@ fn append_game<A: Allocator + Copy>(
     out: &mut Vec<u8, A>,
     said: &Record<A>,
     code: Code,
+    leaders: &mut Leaders<A>,
     remarks: &Remarks<'_, A>,
     which: &[Condition],
     listing: Listing,
@@ -127,12 +129,13 @@ fn append_game<A: Allocator + Copy>(
     ensures grown { Extends out.old.items out.new.items }
 {
     match said.game(code) {
-        Some(ops) => append_built(out, said, code, ops, remarks, which, listing),
+        Some(ops) => append_built(out, said, code, ops, leaders, remarks, which, listing),
         None => append_built(
             out,
             said,
             code,
             &OpSet::new(said.allocator()),
+            leaders,
             remarks,
             which,
             listing,
@@ -146,6 +149,7 @@ fn append_built<A: Allocator + Copy>(
     said: &Record<A>,
     code: Code,
     ops: &OpSet<A>,
+    leaders: &mut Leaders<A>,
     remarks: &Remarks<'_, A>,
     which: &[Condition],
     listing: Listing,
@@ -154,7 +158,7 @@ fn append_built<A: Allocator + Copy>(
     ensures ok { OnOk result (out.new.items ≡ out.old.items ++ told_if which.now listing remarks.now (game_sheet (listed said.now.ops) code)) }
     ensures grown { Extends out.old.items out.new.items }
 {
-    let game = game_of(said, code)?;
+    let game = game_after(said, code, leaders)?;
     let sheet = GameSheet::of_game(said.allocator(), &game, ops)?;
     let found = game.find_period();
     let line = GameLine::of(&sheet, remarks, &found);

@@ -1,4 +1,3 @@
 mod FoundNames
 pub mod Pushing
-pub mod RecordGames
 pub mod Streamed

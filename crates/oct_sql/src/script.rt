@@ -18,9 +18,10 @@ use crate::schema::{ENDING, OPENING};
 use oct_code::Code;
 use oct_join::OpSet;
 use oct_overview::LeastPeriod;
-use oct_pages::{GameSheet, game_of};
+use oct_pages::{GameSheet, game_after};
+use oct_period::Leaders;
 use oct_record::Record;
-use oct_sheet::with_names;
+use oct_sheet::{told_codes, with_names};
 use oct_text::append_text;
 use std::alloc::{AllocError, Allocator};
 
@@ -93,26 +94,55 @@ fn append_games<A: Allocator + Copy>(
     ensures ok { OnOk result (out.new.items ≡ out.old.items ++ games_part (sheet (listed said.now.ops))) }
     ensures grown { Extends out.old.items out.new.items }
 {
-    let games = said.games();
-    prove!(games.len() <= usize::MAX);
-    for (code, ops) in games.iter() {
-        append_game(out, said, *code, ops)?;
+    let codes = told_codes(said)?;
+    append_each(out, said, &codes)
+}
+
+// Appends the rows of the games of these codes.
+fn append_each<A: Allocator + Copy>(
+    out: &mut Vec<u8, A>,
+    said: &Record<A>,
+    codes: &[Code],
+) -> Result<(), AllocError>
+    ensures ok { OnOk result (out.new.items ≡ out.old.items ++ flat_map (λ c. game_rows (game_sheet (listed said.now.ops) c)) codes.now) }
+    ensures grown { Extends out.old.items out.new.items }
+{
+    let mut leaders = Leaders::new(said.allocator());
+    for code in codes {
+        append_game(out, said, *code, &mut leaders)?;
     }
     Ok(())
 }
 
-// Appends the rows of a game with these operations, which is built for it.
+// Appends the rows of a game.
 fn append_game<A: Allocator + Copy>(
     out: &mut Vec<u8, A>,
     said: &Record<A>,
     code: Code,
+    leaders: &mut Leaders<A>,
+) -> Result<(), AllocError>
+    ensures ok { OnOk result (out.new.items ≡ out.old.items ++ game_rows (game_sheet (listed said.now.ops) code)) }
+    ensures grown { Extends out.old.items out.new.items }
+{
+    match said.game(code) {
+        Some(ops) => append_built(out, said, code, ops, leaders),
+        None => append_built(out, said, code, &OpSet::new(said.allocator()), leaders),
+    }
+}
+
+// Appends the rows of a game with these operations, which is built for it.
+fn append_built<A: Allocator + Copy>(
+    out: &mut Vec<u8, A>,
+    said: &Record<A>,
+    code: Code,
     ops: &OpSet<A>,
+    leaders: &mut Leaders<A>,
 ) -> Result<(), AllocError>
     requires { ops.now ≡ summary.of_game said.now.ops code }
     ensures ok { OnOk result (out.new.items ≡ out.old.items ++ game_rows (game_sheet (listed said.now.ops) code)) }
     ensures grown { Extends out.old.items out.new.items }
 {
-    let game = game_of(said, code)?;
+    let game = game_after(said, code, leaders)?;
     let sheet = GameSheet::of_game(said.allocator(), &game, ops)?;
     let found = game.find_period();
     let least = LeastPeriod::of(&sheet, &found);

@@ -1,5 +1,5 @@
 -- The tables of all games, and of what belongs to no game.
-use Rattle.std.specs.Prelude.{ℕ, ◌==◌, ◌&&◌, ◌+◌, ◌^◌, ◌-◌, min, Bool, true, false, if◌then◌else◌, List, [], ◌∷◌, length, codes, count_by, is_some}
+use Rattle.std.specs.Prelude.{ℕ, ◌==◌, ◌&&◌, ◌+◌, ◌^◌, ◌-◌, min, Bool, true, false, if◌then◌else◌, List, [], ◌∷◌, ◌++◌, length, codes, count_by, is_some}
 use Rattle.std.specs.List.{concat, flat_map, fold}
 use Rattle.std.specs.Fmt.{decimal}
 use Rattle.oct_code.specs.Code.{Code}
@@ -46,10 +46,19 @@ link_text way anchor c = concat (codes "<a href=\"" ∷ target way anchor c ∷ 
 abbrev pub known_after : ℕ → Summary → ℕ
 known_after known row = min (known + row.known) (2 ^ 64 - 1)
 
+-- the word for one, or that for another number
+abbrev pub one_or : ℕ → Text → Text → Text
+one_or count one many = if count == 1 then one else many
+
+abbrev pub games_count : ℕ → Text
+games_count count = concat (codes "<p>" ∷ decimal count ∷ one_or count (codes " game, ") (codes " games, ") ∷ [])
+
+abbrev pub proved_and_known : ℕ → ℕ → Text
+proved_and_known proved known = concat (
+    decimal proved ∷ codes " with a proved period; " ∷ decimal known ∷ one_or known (codes " value known.</p>\n") (codes " values known.</p>\n") ∷ [])
+
 abbrev pub totals : List Summary → Text
-totals rows = concat (
-    codes "<p>" ∷ decimal (length rows) ∷ codes " games, " ∷ decimal (count_by (λ row. is_some row.proved) rows)
-    ∷ codes " with a proved period; " ∷ decimal (fold known_after 0 rows) ∷ codes " values known.</p>\n" ∷ [])
+totals rows = games_count (length rows) ++ proved_and_known (count_by (λ row. is_some row.proved) rows) (fold known_after 0 rows)
 
 -- a game, and how many of its blocks and claims are refuted
 abbrev pub refuted_cells : Links → Code → ℕ → ℕ → Text

@@ -8,7 +8,7 @@ use Rattle.oct_ops.specs.Body.{Operation}
 use Rattle.oct_ops.specs.Operation.{Period}
 use Rattle.oct_text.specs.Words.{Text}
 use Rattle.oct_views.specs.Game.{game_tables}
-use Rattle.oct_views.specs.Index.{authors_table, forks_table, games_part, notes_table, proved_table}
+use Rattle.oct_views.specs.Index.{authors_table, forks_table, games_part, notes_table, one_or, proved_table}
 use Rattle.oct_proved.specs.Periods.{period_in}
 use Rattle.oct_proved.specs.declared.periods.ProvedPeriod.{ProvedPeriod}
 use Rattle.oct_plot.specs.Plot.{pictured, plot_with, title}
@@ -109,7 +109,7 @@ abbrev pub game_head : Code → ℕ → Text
 game_head c known = concat (
     head_begin ∷ code_text c ∷ codes ": census of nim-sequences</title>\n" ∷ style_link
     ∷ codes "\n</head>\n<body>\n<nav><a href=\"index.html\">All games</a></nav>\n<main>\n<h1>" ∷ code_text c ∷ codes "</h1>\n<p>"
-    ∷ decimal known ∷ codes " values known: all of them as a <a href=\"" ∷ code_text c ∷ codes ".txt\">b-file</a> and as <a href=\"" ∷ code_text c
+    ∷ decimal known ∷ one_or known (codes " value known: as a <a href=\"") (codes " values known: all of them as a <a href=\"") ∷ code_text c ∷ codes ".txt\">b-file</a> and as <a href=\"" ∷ code_text c
     ∷ codes ".json\">JSON</a></p>\n" ∷ [])
 
 -- the link to the page that computes nim-values in the browser, where it stands beside the tables

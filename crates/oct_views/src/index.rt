@@ -4,7 +4,7 @@
 ghost use Rattle.std.specs.Prelude.{◌≡◌, ◌++◌, IfOk, OnOk, count_by, is_some};
 ghost use Rattle.std.specs.List.{flat_map, fold};
 ghost use Rattle.oct_ops.specs.Growth.{Extends};
-ghost use Rattle.oct_views.specs.Index.{counted_row, game_row, games_caption, games_part, games_table, known_after, link_text, periodic_row, periods_table, refuted_caption, refuted_cells, refuted_count, refuted_table, row_begin, row_head, target, totals};
+ghost use Rattle.oct_views.specs.Index.{counted_row, game_row, games_caption, games_count, games_part, games_table, known_after, link_text, one_or, periodic_row, periods_table, proved_and_known, refuted_caption, refuted_cells, refuted_count, refuted_table, row_begin, row_head, target, totals};
 ghost use Rattle.written.specs.Output.{AppendsFront};
 
 use crate::columns::{Column, append_cells, columns_of, heads};
@@ -70,18 +70,50 @@ fn append_totals<A: Allocator>(out: &mut Vec<u8, A>, rows: &[Summary]) -> Result
     ensures ok { OnOk result (out.new.items ≡ out.old.items ++ totals rows.now) }
     ensures grown { Extends out.old.items out.new.items }
 {
+    append_games_count(out, rows.len() as u64)?;
+    append_proved_and_known(out, with_period(rows), all_known(rows))
+}
+
+// Appends how many games there are.
+fn append_games_count<A: Allocator>(out: &mut Vec<u8, A>, count: u64) -> Result<(), AllocError>
+    ensures ok { OnOk result (out.new.items ≡ out.old.items ++ games_count count) }
+    ensures grown { Extends out.old.items out.new.items }
+{
     append_pieces(
         out,
         &[
             Text(b"<p>"),
-            Number(rows.len() as u64),
-            Text(b" games, "),
-            Number(with_period(rows) as u64),
-            Text(b" with a proved period; "),
-            Number(all_known(rows)),
-            Text(b" values known.</p>\n"),
+            Number(count),
+            Text(one_or(count, b" game, ", b" games, ")),
         ],
     )
+}
+
+// Appends how many games have a proved period, and how many values are known of all.
+fn append_proved_and_known<A: Allocator>(
+    out: &mut Vec<u8, A>,
+    proved: usize,
+    known: u64,
+) -> Result<(), AllocError>
+    ensures ok { OnOk result (out.new.items ≡ out.old.items ++ proved_and_known proved known) }
+    ensures grown { Extends out.old.items out.new.items }
+{
+    append_pieces(
+        out,
+        &[
+            Number(proved as u64),
+            Text(b" with a proved period; "),
+            Number(known),
+            Text(one_or(known, b" value known.</p>\n", b" values known.</p>\n")),
+        ],
+    )
+}
+
+/// The word for one, or that for another number.
+pub(crate) fn one_or<'a>(count: u64, one: &'a [u8], many: &'a [u8]) -> &'a [u8]
+    ensures { result.now ≡ one_or count one.now many.now }
+{
+    if count == 1 { one } else { many }
 }
 
 // How many games have a proved period.

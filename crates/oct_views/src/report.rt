@@ -8,7 +8,7 @@ ghost use Rattle.oct_ops.specs.Operations.{listed};
 ghost use Rattle.oct_ops.specs.Sets.{contains};
 ghost use Rattle.oct_pages.specs.Catalogue.{blocks_of};
 ghost use Rattle.oct_pages.specs.Contents.{game_content};
-ghost use Rattle.oct_pages.specs.GamesIn.{AreGamesIn};
+ghost use Rattle.oct_pages.specs.GamesIn.{AreGamesIn, content_in};
 ghost use Rattle.oct_pages.specs.Sheet.{sheet_by};
 ghost use Rattle.oct_ops.specs.Growth.{Extends};
 ghost use Rattle.oct_store.specs.Summary as summary;
@@ -27,11 +27,11 @@ use crate::kept::Kept;
 use oct_code::Code;
 use oct_join::OpSet;
 use oct_overview::with_least;
-use oct_pages::{GameProgress, GameSheet, Unwatched, game_of};
-use oct_period::Game;
+use oct_pages::{GameProgress, GameSheet, Unwatched, game_after};
+use oct_period::{Game, Leaders};
 use oct_plot::append_plot;
 use oct_record::Record;
-use oct_sheet::{Remarks, Summary};
+use oct_sheet::{Remarks, Summary, told_codes};
 use oct_tables::front_values;
 use oct_text::Piece::{Code as CodeText, Text};
 use oct_text::{Shown, append_pieces};
@@ -129,19 +129,74 @@ fn summaries<'n, A: Allocator + Copy + 'n, P: GameProgress>(
     ensures kept { OnOk result (AreGamesIn said.now.ops kept.new.games) }
     ensures rows { IfOk result (λ rows. rows.items ≡ map (shown_summary remarks.now) (sheet (listed said.now.ops)).games) }
 {
+    let codes = told_codes(said)?;
+    summaries_of(said, &codes, remarks, kept, progress)
+}
+
+// The summaries of the games of these codes, of which some are kept.
+fn summaries_of<'n, A: Allocator + Copy + 'n, P: GameProgress>(
+    said: &Record<A>,
+    codes: &[Code],
+    remarks: &Remarks<'n, A>,
+    kept: &mut Kept<A>,
+    progress: &mut P,
+) -> Result<Vec<Summary, A>, AllocError>
+    requires { AreGamesIn said.now.ops kept.old.games }
+    ensures kept { OnOk result (AreGamesIn said.now.ops kept.new.games) }
+    ensures rows { IfOk result (λ rows. rows.items ≡ map (λ c. shown_summary remarks.now (game_sheet (listed said.now.ops) c)) codes.now) }
+{
     let mut rows = Vec::new(said.allocator());
-    let games = said.games();
-    prove!(games.len() <= usize::MAX);
-    let all = games.len() as u64;
+    let all = codes.len() as u64;
     let mut done = 0_u64;
-    for (code, ops) in games.iter() {
+    let mut leaders = Leaders::new(said.allocator());
+    for code in codes {
         progress.tell(*code, done, all);
-        let game = game_of(said, *code)?;
-        add_summary(&mut rows, said, remarks, &game, ops)?;
+        let game = game_after(said, *code, &mut leaders)?;
+        add_row(&mut rows, said, remarks, *code, &game)?;
         kept.keep(game)?;
         done = done.saturating_add(1);
     }
     Ok(rows)
+}
+
+// Adds the summary of a game of this code.
+fn add_row<'n, A: Allocator + Copy + 'n>(
+    rows: &mut Vec<Summary, A>,
+    said: &Record<A>,
+    remarks: &Remarks<'n, A>,
+    code: Code,
+    game: &Game<A>,
+) -> Result<(), AllocError>
+    requires { game.now ≡ content_in said.now.ops code }
+    ensures { OnOk result (rows.new.items ≡ rows.old.items ++ shown_summary remarks.now (game_sheet (listed said.now.ops) code) ∷ []) }
+{
+    match said.game(code) {
+        Some(ops) => add_known(rows, said, remarks, code, game, ops),
+        None => add_known(
+            rows,
+            said,
+            remarks,
+            code,
+            game,
+            &OpSet::new(said.allocator()),
+        ),
+    }
+}
+
+// Adds the summary of a game of this code, which has these operations.
+fn add_known<'n, A: Allocator + Copy + 'n>(
+    rows: &mut Vec<Summary, A>,
+    said: &Record<A>,
+    remarks: &Remarks<'n, A>,
+    code: Code,
+    game: &Game<A>,
+    ops: &OpSet<A>,
+) -> Result<(), AllocError>
+    requires game { game.now ≡ content_in said.now.ops code }
+    requires its { ops.now ≡ summary.of_game said.now.ops code }
+    ensures { OnOk result (rows.new.items ≡ rows.old.items ++ shown_summary remarks.now (game_sheet (listed said.now.ops) code) ∷ []) }
+{
+    add_summary(rows, said, remarks, game, ops)
 }
 
 // Adds the summary of a game, which holds the blocks of these operations.
@@ -174,17 +229,62 @@ fn stream_sections<'n, A: Allocator + Copy + 'n, W: Write, P: GameProgress>(
     requires { AreGamesIn said.now.ops kept.now }
     ensures { OnOk result (AppendsFront (W.contents out.old) (W.contents out.new) (piece.old.items ++ flat_map (shown_section remarks.now how) (sheet (listed said.now.ops)).games) piece.new.items) }
 {
-    let games = said.games();
-    prove!(games.len() <= usize::MAX);
-    let all = games.len() as u64;
+    let codes = told_codes(said)?;
+    stream_each(said, &codes, kept, remarks, how, progress, piece, out)
+}
+
+// Puts the sections of the games of these codes there.
+fn stream_each<'n, A: Allocator + Copy + 'n, W: Write, P: GameProgress>(
+    said: &Record<A>,
+    codes: &[Code],
+    kept: &BTreeMap<Code, Game<A>, A>,
+    remarks: &Remarks<'n, A>,
+    how: Shown,
+    progress: &mut P,
+    piece: &mut Vec<u8, A>,
+    out: &mut W,
+) -> io::Result<()>
+    requires { AreGamesIn said.now.ops kept.now }
+    ensures { OnOk result (AppendsFront (W.contents out.old) (W.contents out.new) (piece.old.items ++ flat_map (λ c. shown_section remarks.now how (game_sheet (listed said.now.ops) c)) codes.now) piece.new.items) }
+{
+    let all = codes.len() as u64;
     let mut done = 0_u64;
-    for (code, ops) in games.iter() {
+    let mut leaders = Leaders::new(said.allocator());
+    for code in codes {
         progress.tell(*code, done, all);
-        append_game(piece, remarks, how, said, kept, *code, ops)?;
+        append_told(piece, remarks, how, said, kept, *code, &mut leaders)?;
         spill(piece, out)?;
         done = done.saturating_add(1);
     }
     Ok(())
+}
+
+// Appends the section of a game.
+fn append_told<'n, A: Allocator + Copy + 'n>(
+    out: &mut Vec<u8, A>,
+    remarks: &Remarks<'n, A>,
+    how: Shown,
+    said: &Record<A>,
+    kept: &BTreeMap<Code, Game<A>, A>,
+    code: Code,
+    leaders: &mut Leaders<A>,
+) -> Result<(), AllocError>
+    requires { AreGamesIn said.now.ops kept.now }
+    ensures { OnOk result (out.new.items ≡ out.old.items ++ shown_section remarks.now how (game_sheet (listed said.now.ops) code)) }
+{
+    match said.game(code) {
+        Some(ops) => append_game(out, remarks, how, said, kept, code, ops, leaders),
+        None => append_game(
+            out,
+            remarks,
+            how,
+            said,
+            kept,
+            code,
+            &OpSet::new(said.allocator()),
+            leaders,
+        ),
+    }
 }
 
 // Appends the section of a game with these operations. Where it is not kept, it is built, and let go after it.
@@ -196,6 +296,7 @@ fn append_game<'n, A: Allocator + Copy + 'n>(
     kept: &BTreeMap<Code, Game<A>, A>,
     code: Code,
     ops: &OpSet<A>,
+    leaders: &mut Leaders<A>,
 ) -> Result<(), AllocError>
     requires kept { AreGamesIn said.now.ops kept.now }
     requires its { ops.now ≡ summary.of_game said.now.ops code }
@@ -204,7 +305,7 @@ fn append_game<'n, A: Allocator + Copy + 'n>(
     if let Some(game) = kept.get(&code) {
         return append_shown(said.allocator(), out, remarks, how, game, ops);
     }
-    let game = game_of(said, code)?;
+    let game = game_after(said, code, leaders)?;
     append_shown(said.allocator(), out, remarks, how, &game, ops)
 }
 

@@ -14,7 +14,7 @@ use crate::common::{
     HEAD_BEGIN, STYLE_LINK, append_figure_end, append_head, append_html_end, stream_records,
 };
 use crate::game_tables::append_game_tables;
-use crate::index::{Links, stream_games};
+use crate::index::{Links, one_or, stream_games};
 use crate::proved::stream_proved;
 use crate::styles::HTML_STYLE;
 use oct_code::Code;
@@ -132,7 +132,11 @@ fn append_game_head<A: Allocator>(
             CodeText(*code),
             Text(b"</h1>\n<p>"),
             Number(known as u64),
-            Text(b" values known: all of them as a <a href=\""),
+            Text(one_or(
+                known as u64,
+                b" value known: as a <a href=\"",
+                b" values known: all of them as a <a href=\"",
+            )),
             CodeText(*code),
             Text(b".txt\">b-file</a> and as <a href=\""),
             CodeText(*code),

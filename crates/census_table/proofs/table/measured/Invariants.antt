@@ -1,5 +1,5 @@
 use Rattle.std.proofs.Common.{◌≡◌, ◌≤◌, [], drop}
-use Rattle.census_table.specs.Places.{start}
+use Rattle.census_table.specs.LinePlaces.{start}
 use Rattle.census_table.specs.Table.{measured}
 use Rattle.census_table.proofs.table.measured.Given as goal
 

@@ -1,11 +1,11 @@
 //! Where in the line of a game a byte stands.
 
 ghost use Rattle.std.specs.Prelude.{◌≡◌, ◌+◌, ◌^◌, ◌<◌, ◌≤◌, length};
-ghost use Rattle.census_table.specs.Places.{begins, begins_column, behind, is_game, says_period, says_refuted, start, stops};
+ghost use Rattle.census_table.specs.LinePlaces.{begins, begins_column, behind, is_game, says_period, says_refuted, start, stops};
 
 /// Where a byte stands, or the end.
 #[derive(Clone, Copy)]
-pub(crate) struct Place {
+pub(crate) struct LinePlace {
     /// Whether the line is that of a game, which has columns.
     pub(crate) is_game: bool,
     /// How many columns of it are before.
@@ -16,12 +16,12 @@ pub(crate) struct Place {
     pub(crate) is_colored: bool,
 }
 
-impl Place {
+impl LinePlace {
     /// The beginning of the first of these lines.
-    pub(crate) fn start(lines: &[u8]) -> Place
+    pub(crate) fn start(lines: &[u8]) -> LinePlace
         ensures { result ≡ start lines.now }
     {
-        Place {
+        LinePlace {
             is_game: is_game(lines),
             column: 0,
             width: 0,
@@ -48,7 +48,7 @@ impl Place {
 
     #[tactic(auto, using(crate::proofs::Steps::behind_at))]
     /// The place behind it. Colours begin only where they are wanted.
-    pub(crate) fn behind(&self, rest: &[u8], is_colored: bool) -> Place
+    pub(crate) fn behind(&self, rest: &[u8], is_colored: bool) -> LinePlace
         requires some { 0 < length rest.now }
         requires column { self.now.column < 2 ^ 63 }
         requires width { self.now.width < 2 ^ 63 }
@@ -57,17 +57,17 @@ impl Place {
         ensures width { result.width ≤ self.now.width + 1 }
     {
         if rest[0] == b'\n' {
-            return Place::start(&rest[1..]);
+            return LinePlace::start(&rest[1..]);
         }
         if self.begins(rest) {
-            return Place {
+            return LinePlace {
                 is_game: self.is_game,
                 column: self.column + 1,
                 width: 1,
                 is_colored: is_colored && (says_period(rest) || says_refuted(rest)),
             };
         }
-        Place {
+        LinePlace {
             is_game: self.is_game,
             column: self.column,
             width: self.width + 1,

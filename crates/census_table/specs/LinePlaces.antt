@@ -1,7 +1,7 @@
 -- Where in the line of a game a byte stands.
 use Rattle.std.specs.Prelude.{ℕ, ◌+◌, ◌==◌, ◌&&◌, ◌||◌, Bool, false, not, List, [], ◌∷◌, codes, if◌then◌else◌}
 use Rattle.std.specs.List.{starts_with}
-use Rattle.census_table.specs.declared.place.Place.{Place}
+use Rattle.census_table.specs.declared.line_place.LinePlace.{LinePlace}
 
 abbrev pub Text : Type 0
 Text = List ℕ
@@ -28,18 +28,18 @@ begins_column s =
 
 -- ---- places
 
-abbrev pub start : Text → Place
+abbrev pub start : Text → LinePlace
 start s = record { is_game = is_game s; column = 0; width = 0; is_colored = false }
 
-abbrev pub begins : Place → Text → Bool
+abbrev pub begins : LinePlace → Text → Bool
 begins place s = place.is_game && begins_column s
 
 -- what is colored ends there, and no column
-abbrev pub stops : Place → Text → Bool
+abbrev pub stops : LinePlace → Text → Bool
 stops place s = place.is_colored && (fronts s (codes "\n") || (fronts s (codes " unclaimed") || fronts s (codes " withdrawn ")))
 
 -- the place behind the first byte of these; colours begin only where they are wanted
-abbrev pub behind : Bool → Place → Text → Place
+abbrev pub behind : Bool → LinePlace → Text → LinePlace
 behind colored place [] = place
 behind colored place (b ∷ s) =
     if b == 10 then start s

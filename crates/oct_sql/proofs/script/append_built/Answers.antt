@@ -5,7 +5,7 @@ use Rattle.oct_pages.specs.Contents.{game_content}
 use Rattle.oct_pages.proofs.SheetLaws.{group_held, sheet_by-is}
 use Rattle.oct_overview.proofs.Choosing.{least_found}
 use Rattle.oct_sql.specs.Script.{game_rows}
-use Rattle.oct_sql.proofs.script.append_game.Goals as goal
+use Rattle.oct_sql.proofs.script.append_built.Goals as goal
 
 pub of_game-requires : goal.of_game-requires
 of_game-requires g c = group_held c.args.said.now.ops c.args.code c.in_ok-game.game c.args.ops.now c.in_ok-game.ensures c.requires

@@ -7,7 +7,7 @@ use Rattle.oct_pages.specs.Contents.{game_content}
 use Rattle.oct_overview.proofs.Choosing.{least_found}
 use Rattle.serde_json.specs.View.{view}
 use Rattle.oct_pages.proofs.SheetLaws.{group_held, sheet_by-is}
-use Rattle.oct_json.proofs.document.game_value.Goals as goal
+use Rattle.oct_json.proofs.document.built_value.Goals as goal
 
 pub of_game-requires : goal.of_game-requires
 of_game-requires c = group_held c.args.said.now.ops c.args.code c.in_ok-game.game c.args.ops.now c.in_ok-game.ensures c.requires
