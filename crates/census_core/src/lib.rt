@@ -12,10 +12,9 @@
 //! - `check` compares a b-file with computed values, and `find_shift` says whether they are right at other heaps.
 //! - `stream_view` writes all that a state says, in a view, as it is made, and `stream_only` what it says of some games; a
 //!   `GameProgress` is told how far they are.
-//! - `unite` makes one delta of several files, `read_together` writes the catalogue of what several files hold, and `log_together` gives their
-//!   log: a line for each operation that is `Wanted`. `diff` says how two differ, and `diff_of_games` how they do in some games.
-//!   `left_in` gives the games of a list of which several files lack one of the first values, and `own_left` those of which the
-//!   author of a state said not all of them.
+//! - `unite` makes one delta of several files, `read_together` writes the catalogue of what several files hold, and
+//!   `log_together` gives their log: a line for each operation that is `Wanted`. `left_in` gives the games of a list of which
+//!   several files lack one of the first values, and `own_left` those of which the author of a state said not all of them.
 //! - `digest` names the set of operations of a file by 64 digits, and `author_for` gives the number of the author that a text has.
 //! - `status` says in a few lines what a state file holds, and `outcome` how many of its blocks and claims are proved, refuted
 //!   and pending.
@@ -39,8 +38,8 @@ mod progress;
 mod reaching;
 
 pub use census_fold::{
-    Intake, author_for, diff, diff_of_games, digest, fold_intake, fold_lines, left_in,
-    log_together, new_forks, own_left, read_together, record_digest, status, unite,
+    Intake, author_for, digest, fold_intake, fold_lines, left_in, log_together, new_forks,
+    own_left, read_together, record_digest, status, unite,
 };
 pub use census_issue::{NoKeeper, TurnKeeper, check_count, import_block};
 pub use census_judge::{

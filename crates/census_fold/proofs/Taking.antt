@@ -14,10 +14,9 @@ use Rattle.oct_ops.specs.Body.{Operation}
 use Rattle.oct_ops.specs.Operations.{Operations, empty, insert, set_of, union}
 use Rattle.oct_ops.specs.OrderLaws.{op_cmp_total, op_cmp_exact}
 use Rattle.oct_ops.specs.SetLaws.{union-empty, union-insert_left, union_assoc, union_comm}
-use Rattle.oct_record.specs.Content.{RecordContent}
-use Rattle.oct_record.specs.Taking.{LeavesAt}
 use Rattle.oct_record.specs.declared.error.TakeError.{TakeError}
 use Rattle.oct_record.specs.declared.error.TakeError.TheVariants.{Version, Refused, OutOfMemory}
+use Rattle.census_state.specs.Holdings.{LeavesAt}
 use Rattle.census_fold.specs.Folded.{is_refused, operations_of_line, taken_of_line}
 
 union_none : (s : Operations) → union s (set_of []) ≡ s
@@ -57,7 +56,7 @@ nothing_read law bytes are r Version is told version refused = ap (λ f. read_as
 nothing_read law bytes are r Refused is told version refused = read_none law bytes are ((refused.0 is).1)
 nothing_read law bytes are r (OutOfMemory done) is told version refused = absurd told
 
-pub unchanged : (old new : RecordContent) (list : List Operation) (e : TakeError) → IsNoDelta e → LeavesAt old new list e → new ≡ old
+pub unchanged : (old new : Operations) (list : List Operation) (e : TakeError) → IsNoDelta e → LeavesAt old new list e → new ≡ old
 unchanged old new list Version told left = left
 unchanged old new list Refused told left = left
 unchanged old new list (OutOfMemory done) told left = absurd told

@@ -31,7 +31,7 @@ pub fn delta_of_games(alloc: Global, state: &[u8], words: &[Vec<u8>]) -> Result<
     let held = load(alloc, state)?;
     let named = read_codes(alloc, words)?;
     let part = games_alone(alloc, &held, &named)?;
-    part_reply(alloc, &part)
+    part_reply(alloc, part.as_record())
 }
 
 // The reply of what is held as one delta, be it a part.

@@ -7,7 +7,7 @@ ghost use Rattle.oct_delta.specs.Text.{op_bytes};
 ghost use Rattle.oct_record.specs.States.{has_tag};
 ghost use Rattle.census_fold.specs.Digests.{digest_of, digest_of_set, operations_in, text_of};
 
-use census_state::{Fault, load, nothing};
+use census_state::{Fault, Holdings, load};
 use oct_delta::laws::texts_are_read;
 use oct_delta::{encode_each, put_head, put_op};
 use oct_join::Ops;
@@ -29,7 +29,7 @@ pub fn digest(alloc: Global, file: &[u8]) -> Result<Vec<u8>, Fault>
     ensures err { IfErr result (λ e. e ≢ Fault.OutOfMemory → digest_of file.now ≡ Err e) }
 {
     let held = read_held(alloc, file)?;
-    record_digest(alloc, &held)
+    record_digest(alloc, held.as_record())
 }
 
 /// The digest of the operations of a record: that of each file that holds them and no others. The fault is `TooMany`.
@@ -65,16 +65,17 @@ fn hash_of(head: Vec<u8>, ops: Ops<'_, Global>) -> Result<[u8; 32], AllocError>
     Ok(hasher.finalize())
 }
 
-/// What a file holds. The record of a delta issues nothing.
-pub(crate) fn read_held(alloc: Global, file: &[u8]) -> Result<Record<Global>, Fault>
-    ensures ok { IfOk result (λ held. operations_in file.now ≡ Ok held.ops) }
+/// What a file holds.
+pub(crate) fn read_held(alloc: Global, file: &[u8]) -> Result<Holdings<Global>, Fault>
+    ensures ok { IfOk result (λ held. operations_in file.now ≡ Ok held) }
     ensures err { IfErr result (λ e. e ≢ Fault.OutOfMemory → operations_in file.now ≡ Err e) }
 {
     if is_state(file) {
-        return load(alloc, file);
+        let said = load(alloc, file)?;
+        return Ok(Holdings::of(said));
     }
     texts_are_read();
-    let mut held = nothing(alloc);
+    let mut held = Holdings::new(alloc);
     held.take(file)?;
     Ok(held)
 }

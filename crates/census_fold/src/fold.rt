@@ -8,17 +8,16 @@ ghost use Rattle.census_state.specs.Inputs.{IsFoldFault, IsInputFault};
 
 use crate::taken::{Intake, take_lines};
 use census_state::{Fault, INPUT_LIMIT};
-use oct_pages::write_catalogue_of;
+use oct_pages::ready_catalogue;
 use std::alloc::Allocator;
 use std::io::{BufReader, Read, Write};
-use written::write_out;
 
 // How many bytes are asked for at a time.
 const READ_AHEAD: usize = 65_536;
 
 /// Reads the input to its end, a line at a time, takes in each line that is the hexadecimal text of a delta,
 /// writes the catalogue of all their operations, and says how many other lines were not empty. Nothing is written before the
-/// whole input was read; after `Write` a prefix of the catalogue was written.
+/// whole input was read and all memory was asked for; after `Write` a prefix of the catalogue was written.
 pub fn fold_lines<A: Allocator + Copy, R: Read, W: Write>(
     alloc: A,
     reader: &mut R,
@@ -45,7 +44,7 @@ pub fn fold_intake<A: Allocator + Copy, R: Read, W: Write>(
     writer: &mut W,
 ) -> Result<Intake<A>, Fault>
     ensures text { OnOk result (IfSome (R.remaining reader.old) (λ input. Appends (W.contents writer.old) (W.contents writer.new) (folded input))) }
-    ensures taken { IfOk result (λ intake. IfSome (R.remaining reader.old) (λ input. intake.said.ops ≡ taken input)) }
+    ensures taken { IfOk result (λ intake. IfSome (R.remaining reader.old) (λ input. intake.held ≡ taken input)) }
     ensures refused { IfOk result (λ intake. IfSome (R.remaining reader.old) (λ input. intake.refused ≡ refused input)) }
     ensures fits { OnOk result (IfSome (R.remaining reader.old) (λ input. length input ≤ INPUT_LIMIT)) }
     ensures prefix { IsErrOf result Fault.Write → IfSome (R.remaining reader.old) (λ input. AppendsPrefix (W.contents writer.old) (W.contents writer.new) (folded input)) }
@@ -54,15 +53,14 @@ pub fn fold_intake<A: Allocator + Copy, R: Read, W: Write>(
     ensures faults { IfErr result IsFoldFault }
 {
     let intake = read_lines(alloc, reader)?;
-    let mut text = Vec::new(alloc);
-    write_catalogue_of(&intake.said, &mut text)?;
-    write_out(writer, &text)?;
+    let ready = ready_catalogue(intake.held.as_record())?;
+    ready.write(writer)?;
     Ok(intake)
 }
 
 // Goes over the lines of the whole input.
 fn read_lines<A: Allocator + Copy, R: Read>(alloc: A, reader: &mut R) -> Result<Intake<A>, Fault>
-    ensures taken { IfOk result (λ intake. IfSome (R.remaining reader.old) (λ input. intake.said.ops ≡ taken input)) }
+    ensures taken { IfOk result (λ intake. IfSome (R.remaining reader.old) (λ input. intake.held ≡ taken input)) }
     ensures refused { IfOk result (λ intake. IfSome (R.remaining reader.old) (λ input. intake.refused ≡ refused input)) }
     ensures fits { OnOk result (IfSome (R.remaining reader.old) (λ input. length input ≤ INPUT_LIMIT)) }
     ensures too_long { IsErrOf result Fault.TooLong → IfSome (R.remaining reader.old) (λ input. INPUT_LIMIT < length input) }

@@ -4,7 +4,7 @@ ghost use Rattle.std.specs.Prelude.{◌≡◌, ◌≢◌, Ok, Err, IfOk, IfErr, 
 ghost use Rattle.census_fold.specs.Lacking.{left_in, own_left, said_by};
 
 use crate::reading::held_together;
-use census_state::{Fault, load, nothing, read_codes};
+use census_state::{Fault, Holdings, load, read_codes};
 use oct_code::Code;
 use oct_left::left;
 use oct_record::Record;
@@ -23,7 +23,7 @@ pub fn left_in(
     ensures err { IfErr result (λ e. e ≢ Fault.OutOfMemory → left_in (map (λ file. file.items) files.now) codes.now count ≡ Err e) }
 {
     let all = held_together(alloc, files)?;
-    let lacking = left(&all, codes, count)?;
+    let lacking = left(all.as_record(), codes, count)?;
     Ok(lacking)
 }
 
@@ -42,16 +42,16 @@ pub fn own_left(
     let held = load(alloc, state)?;
     let named = read_codes(alloc, words)?;
     let own = said_by_its_author(alloc, &held)?;
-    let lacking = left(&own, &named, count)?;
+    let lacking = left(own.as_record(), &named, count)?;
     Ok(lacking)
 }
 
-// A record of what the record's own author issued, which both share.
-fn said_by_its_author(alloc: Global, held: &Record<Global>) -> Result<Record<Global>, AllocError>
-    ensures { IfOk result (λ own. own.ops ≡ said_by held.now.author held.now.ops) }
+// What the record's own author issued, which both share.
+fn said_by_its_author(alloc: Global, held: &Record<Global>) -> Result<Holdings<Global>, AllocError>
+    ensures { IfOk result (λ own. own ≡ said_by held.now.author held.now.ops) }
 {
     let author = held.author();
-    let mut own = nothing(alloc);
+    let mut own = Holdings::new(alloc);
     for op in held.store().iter_shared() {
         if op.as_ref().dot().author() == author {
             own.share(op)?;

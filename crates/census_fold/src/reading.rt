@@ -8,10 +8,9 @@ ghost use Rattle.oct_log.specs.Log.{log_text};
 ghost use Rattle.census_fold.specs.Reading.{Written, diff_of_files, diff_of_files_in, held_onto, log_together, read_together};
 
 use crate::digests::read_held;
-use census_state::{Fault, nothing, read_codes, write_fault};
+use census_state::{Fault, Holdings, read_codes, write_fault};
 use oct_log::{Wanted, write_diff, write_diff_of, write_log};
 use oct_pages::{GameProgress, stream_catalogue};
-use oct_record::Record;
 use std::alloc::{AllocError, Global};
 use std::io::Write;
 
@@ -35,14 +34,15 @@ pub fn read_together<W: Write, P: GameProgress>(
 
 // Writes the catalogue of what is held. The fault is `Write` or `OutOfMemory`.
 fn write_held<W: Write, P: GameProgress>(
-    held: &Record<Global>,
+    held: &Holdings<Global>,
     progress: &mut P,
     out: &mut W,
 ) -> Result<(), Fault>
-    ensures ok { OnOk result (Appends (W.contents out.old) (W.contents out.new) (catalogue (listed held.now.ops))) }
+    ensures ok { OnOk result (Appends (W.contents out.old) (W.contents out.new) (catalogue (listed held.now))) }
     ensures err { IfErr result (λ e. (e ≡ Fault.Write) ⊎ (e ≡ Fault.OutOfMemory)) }
 {
-    match stream_catalogue(held, held, progress, out) {
+    let said = held.as_record();
+    match stream_catalogue(said, said, progress, out) {
         Ok(()) => Ok(()),
         Err(error) => Err(write_fault(&error)),
     }
@@ -58,7 +58,7 @@ pub fn log_together(
     ensures err { IfErr result (λ e. e ≢ Fault.OutOfMemory → log_together wanted.now (map (λ file. file.items) files.now) ≡ Err e) }
 {
     let all = held_together(alloc, files)?;
-    let text = write_log(&all, wanted)?;
+    let text = write_log(all.as_record(), wanted)?;
     Ok(text)
 }
 
@@ -71,7 +71,11 @@ pub fn diff(alloc: Global, one: &[u8], other: &[u8]) -> Result<Vec<u8>, Fault>
     let one = read_held(alloc, one)?;
     let other = read_held(alloc, other)?;
     let all = both(alloc, &one, &other)?;
-    let text = write_diff(one.store(), other.store(), &all)?;
+    let text = write_diff(
+        one.as_record().store(),
+        other.as_record().store(),
+        all.as_record(),
+    )?;
     Ok(text)
 }
 
@@ -90,30 +94,35 @@ pub fn diff_of_games(
     let second = read_held(alloc, other)?;
     let named = read_codes(alloc, words)?;
     let all = both(alloc, &first, &second)?;
-    let text = write_diff_of(first.store(), second.store(), &all, &named)?;
+    let text = write_diff_of(
+        first.as_record().store(),
+        second.as_record().store(),
+        all.as_record(),
+        &named,
+    )?;
     Ok(text)
 }
 
-// The operations of both records.
+// The operations of both.
 fn both(
     alloc: Global,
-    one: &Record<Global>,
-    other: &Record<Global>,
-) -> Result<Record<Global>, AllocError>
-    ensures { IfOk result (λ all. all.ops ≡ union one.now.ops other.now.ops) }
+    one: &Holdings<Global>,
+    other: &Holdings<Global>,
+) -> Result<Holdings<Global>, AllocError>
+    ensures { IfOk result (λ all. all ≡ union one.now other.now) }
 {
-    let mut all = nothing(alloc);
+    let mut all = Holdings::new(alloc);
     all.join(one)?;
     all.join(other)?;
     Ok(all)
 }
 
 /// What the files hold.
-pub(crate) fn held_together(alloc: Global, files: &[Vec<u8>]) -> Result<Record<Global>, Fault>
-    ensures ok { IfOk result (λ all. held_onto empty (map (λ file. file.items) files.now) ≡ Ok all.ops) }
+pub(crate) fn held_together(alloc: Global, files: &[Vec<u8>]) -> Result<Holdings<Global>, Fault>
+    ensures ok { IfOk result (λ all. held_onto empty (map (λ file. file.items) files.now) ≡ Ok all) }
     ensures err { IfErr result (λ e. e ≢ Fault.OutOfMemory → held_onto empty (map (λ file. file.items) files.now) ≡ Err e) }
 {
-    let mut all = nothing(alloc);
+    let mut all = Holdings::new(alloc);
     for file in files {
         let held = read_held(alloc, file)?;
         all.join(&held)?;

@@ -11,18 +11,18 @@ ghost use Rattle.census_state.specs.Inputs.{IsInputFault};
 
 use crate::hexadecimal::decode_text;
 use crate::lines::text_of_line;
-use census_state::{Fault, nothing, read_fault};
+use census_state::{Fault, Holdings, read_fault};
 use memchr::memchr;
 use oct_delta::laws::texts_are_read;
-use oct_record::{Record, TakeError};
+use oct_record::TakeError;
 use std::alloc::Allocator;
 use std::io::{BufRead, ErrorKind};
 
 /// What the lines of an input come to.
 #[derive(Drop)]
 pub struct Intake<A: Allocator + Copy> {
-    /// What they said. Its author issues nothing, and no catalogue shows it.
-    pub said: Record<A>,
+    /// What they said.
+    pub held: Holdings<A>,
     /// How many filled lines it did not take.
     pub refused: u64,
 }
@@ -33,14 +33,14 @@ pub(crate) fn take_lines<A: Allocator + Copy, B: BufRead>(
     input: &mut B,
     limit: u64,
 ) -> Result<Intake<A>, Fault>
-    ensures taken { IfOk result (λ intake. IfSome (B.remaining input.old) (λ x. intake.said.ops ≡ taken x)) }
+    ensures taken { IfOk result (λ intake. IfSome (B.remaining input.old) (λ x. intake.held ≡ taken x)) }
     ensures refused { IfOk result (λ intake. IfSome (B.remaining input.old) (λ x. intake.refused ≡ refused x)) }
     ensures fits { OnOk result (IfSome (B.remaining input.old) (λ x. length x ≤ limit)) }
     ensures too_long { IsErrOf result Fault.TooLong → IfSome (B.remaining input.old) (λ x. limit < length x) }
     ensures faults { IfErr result IsInputFault }
 {
     let mut intake = Intake {
-        said: nothing(alloc),
+        held: Holdings::new(alloc),
         refused: 0,
     };
     let mut line = Vec::new(alloc);
@@ -112,7 +112,7 @@ fn take_line<A: Allocator + Copy>(
     bytes: &mut Vec<u8, A>,
 ) -> Result<(), Fault>
     requires { intake.old.refused + 1 < 2 ^ 64 }
-    ensures taken { OnOk result (intake.new.said.ops ≡ union intake.old.said.ops (set_of (taken_of_line line.now))) }
+    ensures taken { OnOk result (intake.new.held ≡ union intake.old.held (set_of (taken_of_line line.now))) }
     ensures counted { OnOk result (intake.new.refused ≡ cond (is_refused line.now) (intake.old.refused + 1) intake.old.refused) }
     ensures kind { IfErr result (λ e. e ≡ Fault.OutOfMemory) }
 {
@@ -120,20 +120,20 @@ fn take_line<A: Allocator + Copy>(
         intake.refused += 1;
         return Ok(());
     }
-    if !take_bytes(&mut intake.said, bytes)? {
+    if !take_bytes(&mut intake.held, bytes)? {
         intake.refused += 1;
     }
     Ok(())
 }
 
 // Takes the operations that the bytes spell, and says whether they are a delta.
-fn take_bytes<A: Allocator + Copy>(said: &mut Record<A>, bytes: &[u8]) -> Result<bool, Fault>
-    ensures taken { OnOk result (said.new.ops ≡ union said.old.ops (operations_of bytes.now)) }
+fn take_bytes<A: Allocator + Copy>(held: &mut Holdings<A>, bytes: &[u8]) -> Result<bool, Fault>
+    ensures taken { OnOk result (held.new ≡ union held.old (operations_of bytes.now)) }
     ensures spelled { IfOk result (λ is_delta. is_delta ≡ is_some (read_delta bytes.now)) }
     ensures kind { IfErr result (λ e. e ≡ Fault.OutOfMemory) }
 {
     texts_are_read();
-    match said.take(bytes) {
+    match held.take(bytes) {
         Ok(_) => Ok(true),
         Err(TakeError::Version | TakeError::Refused) => Ok(false),
         Err(TakeError::OutOfMemory { done: _ }) => Err(Fault::OutOfMemory),

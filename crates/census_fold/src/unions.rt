@@ -10,10 +10,10 @@ ghost use Rattle.census_state.specs.States.{delta_refusal};
 ghost use Rattle.census_fold.specs.Unions.{first_refused, united_files};
 
 use crate::deltas::delta_reply;
-use census_state::{Fault, Reply, nothing};
+use census_state::{Fault, Holdings, Reply};
 use oct_delta::laws::texts_are_read;
 use oct_delta::{DeltaFault, read_ops};
-use oct_record::{Record, TakeError};
+use oct_record::TakeError;
 use std::alloc::{AllocError, Allocator, Global};
 
 /// The union of delta files as one delta, and a text that counts its operations. No file gives the delta of no operation.
@@ -27,11 +27,11 @@ pub fn unite(alloc: Global, files: &[Vec<u8>]) -> Result<Reply, Fault>
     ensures union { IfSome (first_refused 1 (map (λ file. file.items) files.now)) (λ e. result ≡ Err e) }
 {
     check_files(files)?;
-    let mut all = nothing(alloc);
+    let mut all = Holdings::new(alloc);
     for file in files {
         take_file(&mut all, file)?;
     }
-    delta_reply(alloc, &all)
+    delta_reply(alloc, all.as_record())
 }
 
 // Refuses the first file that is no delta.
@@ -62,9 +62,9 @@ fn check_file(file: &[u8]) -> Result<(), TakeError>
 }
 
 // Takes in the operations of a file that is a delta.
-fn take_file(all: &mut Record<Global>, file: &[u8]) -> Result<(), AllocError>
+fn take_file(all: &mut Holdings<Global>, file: &[u8]) -> Result<(), AllocError>
     requires { IsSome (read_delta file.now) }
-    ensures taken { OnOk result (all.new.ops ≡ union all.old.ops (operations_of file.now)) }
+    ensures taken { OnOk result (all.new ≡ union all.old (operations_of file.now)) }
     ensures valid { OnOk result (AreValid (operations_of file.now)) }
 {
     texts_are_read();

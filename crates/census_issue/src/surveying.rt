@@ -5,6 +5,7 @@ ghost use Rattle.oct_code.specs.declared.limits.TheConstants.{LIMIT};
 ghost use Rattle.census_issue.specs.Extending.{in_turns, stages_in_turns, wanted};
 ghost use Rattle.census_issue.specs.Finding.{turn_of};
 ghost use Rattle.census_state.specs.Replies.{answer_of};
+ghost use Rattle.oct_pages.specs.GamesIn.{content_in};
 ghost use Rattle.census_issue.specs.Turns.{Kept, KeptSome, in_turn, stages};
 
 use crate::extending::{check_count, extend_game};
@@ -13,7 +14,8 @@ use crate::texts::extended_line;
 use crate::turn_keeper::TurnKeeper;
 use census_state::{Fault, Reply, load, read_codes, save};
 use oct_code::Code;
-use oct_pages::game_of;
+use oct_pages::game_after;
+use oct_period::{Game, Leaders};
 use oct_record::Record;
 use oct_text::Form;
 use oct_window::Progress;
@@ -70,8 +72,9 @@ fn turns<P: Progress, K: TurnKeeper<P>>(
     ensures stands { IfErr result (λ e. e ≢ Fault.File → KeptSome K.keeps keeper.old (stages (turn_of aim count) codes.now (record { replica = said.old; text = [] })) keeper.new) }
 {
     let mut text = Vec::new(alloc);
+    let mut leaders = Leaders::new(alloc);
     for code in codes {
-        let line = turn(alloc, said, count, *code, aim, progress)?;
+        let line = turn(alloc, said, count, *code, &mut leaders, aim, progress)?;
         text.extend_from_slice(&line)?;
         let Ok(()) = keeper.keep(said, &text, progress) else {
             return Err(Fault::File);
@@ -80,12 +83,14 @@ fn turns<P: Progress, K: TurnKeeper<P>>(
     Ok(text)
 }
 
-// Gives a game its turn. It is built, and dropped at the end.
+// Gives a game its turn. It is built, goes on with the values of games before it as far as they are its own, and is dropped at
+// the end.
 fn turn<P: Progress>(
     alloc: Global,
     said: &mut Record<Global>,
     count: u32,
     code: Code,
+    leaders: &mut Leaders<Global>,
     aim: Aim,
     progress: &mut P,
 ) -> Result<Vec<u8>, Fault>
@@ -93,10 +98,31 @@ fn turn<P: Progress>(
     ensures ok { IfOk result (λ text. turn_of aim count code said.old ≡ Ok (record { replica = said.new; text = text.items })) }
     ensures err { IfErr result (λ e. e ≢ Fault.OutOfMemory → turn_of aim count code said.old ≡ Err e) }
 {
-    let mut game = game_of(said, code)?;
-    let issued = extend_game(said, &mut game, code, count, progress)?;
+    let mut game = game_after(said, code, leaders)?;
+    game.follow(leaders, count)?;
+    let text = turn_with(alloc, said, &mut game, count, code, aim, progress)?;
+    game.lead(leaders);
+    Ok(text)
+}
+
+// Gives its turn to a game that is that of what was said.
+fn turn_with<P: Progress>(
+    alloc: Global,
+    said: &mut Record<Global>,
+    game: &mut Game<Global>,
+    count: u32,
+    code: Code,
+    aim: Aim,
+    progress: &mut P,
+) -> Result<Vec<u8>, Fault>
+    requires count { count ≤ LIMIT }
+    requires game { game.old ≡ content_in said.old.ops code }
+    ensures ok { IfOk result (λ text. turn_of aim count code said.old ≡ Ok (record { replica = said.new; text = text.items })) }
+    ensures err { IfErr result (λ e. e ≢ Fault.OutOfMemory → turn_of aim count code said.old ≡ Err e) }
+{
+    let issued = extend_game(said, game, code, count, progress)?;
     match aim {
         Aim::Extend => Ok(extended_line(alloc, code, game.ledger().known(), issued)?),
-        Aim::Survey(form) => survey_known(alloc, said, &mut game, code, form),
+        Aim::Survey(form) => survey_known(alloc, said, game, code, form),
     }
 }

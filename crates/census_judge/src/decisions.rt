@@ -19,8 +19,8 @@ use crate::verdicts::{
 use oct_code::Code;
 use oct_join::OpSet;
 use oct_ops::{Block, Body, Op};
-use oct_pages::{codes_of, game_of};
-use oct_period::{Game, PeriodClaim};
+use oct_pages::{codes_of, game_after};
+use oct_period::{Game, Leaders, PeriodClaim};
 use oct_record::Record;
 use std::alloc::{AllocError, Global};
 
@@ -49,8 +49,9 @@ fn decide_each(
     ensures { IfOk result (λ all. all.items ≡ flat_map (decided_in before.now.ops later.now.ops) codes.now) }
 {
     let mut all = Vec::new(alloc);
+    let mut leaders = Leaders::new(alloc);
     for code in codes {
-        decide_game(&mut all, before, later, *code)?;
+        decide_game(&mut all, before, later, *code, &mut leaders)?;
     }
     Ok(all)
 }
@@ -61,11 +62,12 @@ fn decide_game(
     before: &Record<Global>,
     later: &Record<Global>,
     code: Code,
+    leaders: &mut Leaders<Global>,
 ) -> Result<(), AllocError>
     ensures { OnOk result (all.new.items ≡ all.old.items ++ decided_in before.now.ops later.now.ops code) }
 {
     match later.game(code) {
-        Some(ops) => decide_held(all, before, later, code, ops),
+        Some(ops) => decide_held(all, before, later, code, ops, leaders),
         None => Ok(()),
     }
 }
@@ -78,6 +80,7 @@ fn decide_held(
     later: &Record<Global>,
     code: Code,
     ops: &OpSet<Global>,
+    leaders: &mut Leaders<Global>,
 ) -> Result<(), AllocError>
     requires { ops.now ≡ summary.of_game later.now.ops code }
     ensures { OnOk result (all.new.items ≡ all.old.items ++ decided_in before.now.ops later.now.ops code) }
@@ -85,11 +88,11 @@ fn decide_held(
     if !has_new(before, ops) {
         return Ok(());
     }
-    let old = game_of(before, code)?;
+    let old = game_after(before, code, leaders)?;
     if !had_pending(before, &old, ops) {
         return Ok(());
     }
-    let game = game_of(later, code)?;
+    let game = game_after(later, code, leaders)?;
     decide_ops(all, before, &old, &game, ops)
 }
 

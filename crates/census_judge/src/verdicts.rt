@@ -17,8 +17,8 @@ ghost use Rattle.census_judge.specs.Verdicts.{block_verdict, broken, claim_verdi
 use oct_code::Code;
 use oct_join::OpSet;
 use oct_ops::{Body, Dot, Op, Period};
-use oct_pages::{codes_of, game_of};
-use oct_period::{Game, PeriodClaim, PeriodStatus, period_status};
+use oct_pages::{codes_of, game_after};
+use oct_period::{Game, Leaders, PeriodClaim, PeriodStatus, period_status};
 use oct_record::Record;
 use oct_sheet::Tally;
 use oct_verify::Status;
@@ -89,8 +89,9 @@ fn judge_each(
     ensures { IfOk result (λ all. all.items ≡ flat_map (judged_in before.now.ops later.now.ops) codes.now) }
 {
     let mut all = Vec::new(alloc);
+    let mut leaders = Leaders::new(alloc);
     for code in codes {
-        judge_game(&mut all, before, later, *code)?;
+        judge_game(&mut all, before, later, *code, &mut leaders)?;
     }
     Ok(all)
 }
@@ -166,11 +167,12 @@ fn judge_game(
     before: &Record<Global>,
     later: &Record<Global>,
     code: Code,
+    leaders: &mut Leaders<Global>,
 ) -> Result<(), AllocError>
     ensures { OnOk result (all.new.items ≡ all.old.items ++ judged_in before.now.ops later.now.ops code) }
 {
     match later.game(code) {
-        Some(ops) => judge_held(all, before, later, code, ops),
+        Some(ops) => judge_held(all, before, later, code, ops, leaders),
         None => Ok(()),
     }
 }
@@ -182,6 +184,7 @@ fn judge_held(
     later: &Record<Global>,
     code: Code,
     ops: &OpSet<Global>,
+    leaders: &mut Leaders<Global>,
 ) -> Result<(), AllocError>
     requires { ops.now ≡ summary.of_game later.now.ops code }
     ensures { OnOk result (all.new.items ≡ all.old.items ++ judged_in before.now.ops later.now.ops code) }
@@ -189,7 +192,7 @@ fn judge_held(
     if !has_new(before, ops) {
         return Ok(());
     }
-    let game = game_of(later, code)?;
+    let game = game_after(later, code, leaders)?;
     judge_ops(all, before, &game, ops)
 }
 

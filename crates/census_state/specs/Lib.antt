@@ -1,6 +1,7 @@
 pub mod Alone
 pub mod Codes
 pub mod FaultTexts
+pub mod Holdings
 pub mod Inputs
 pub mod Lines
 pub mod PeriodTexts

@@ -4,7 +4,7 @@
 //!   under another author, and `merge` takes the operations of a delta into it.
 //! - `rejoin` gives what a state file is to hold after a session. Where the file need not be read, `rejoined_text` and
 //!   `unchanged` give what is said then, and `write_state` writes the state, piece by piece; `is_too_long` says whether it may.
-//! - `games_alone` gives what is said of some games.
+//! - `Holdings` are operations under no author, as those of files and of parts of a state; `games_alone` gives those of some games.
 //! - A `Request` is one command over the bytes of its files, and a `Reply` what it gives.
 //! - `Fault` says why a run ended early. Its text is what the program prints; `status` is the exit status.
 //! - `read_whole` reads all of a stream, `number` a word of the command line, and `read_code` one that spells a code.
@@ -13,9 +13,9 @@
 
 mod alone;
 mod codes;
-mod empty_record;
 mod fault;
 mod fault_text;
+mod holdings;
 mod import_error;
 mod input;
 pub mod laws;
@@ -31,8 +31,8 @@ mod written_states;
 
 pub use alone::games_alone;
 pub use codes::{read_code, read_codes};
-pub use empty_record::nothing;
 pub use fault::Fault;
+pub use holdings::Holdings;
 pub use import_error::ImportError;
 pub use input::{INPUT_LIMIT, read_fault, read_whole, write_fault};
 pub use period_texts::{append_period, append_vain_line, append_vain_words, needs};

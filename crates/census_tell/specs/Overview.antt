@@ -3,7 +3,7 @@ use Rattle.std.specs.Prelude.{List, [], ◌∷◌, Result, Ok}
 use Rattle.oct_code.specs.Code.{Code}
 use Rattle.oct_delta.specs.Text.{Bytes}
 use Rattle.oct_ops.specs.Operations.{Operations, listed}
-use Rattle.oct_pages.specs.Catalogue as catalogue
+use Rattle.oct_sheet.specs.Sheet.{told_games}
 use Rattle.oct_text.specs.Words.{Text}
 use Rattle.oct_overview.specs.Line.{listing_of, selected}
 use Rattle.oct_overview.specs.Overview.{overview}
@@ -25,9 +25,9 @@ abbrev pub named_or : List Code → List Code → List Code
 named_or [] all = all
 named_or (c ∷ named) all = c ∷ named
 
--- what is listed of those for which each of the conditions holds
+-- what is listed of those for which each of the conditions holds, of all that have a block or a claim, or of which a live note says a long period, where none is named
 abbrev pub games_in : Operations → List Code → List Condition → Listing → Text
-games_in ops named which listing = overview listing (listed ops) (selected which (listed ops) (named_or named (catalogue.games (listed ops))))
+games_in ops named which listing = overview listing (listed ops) (selected which (listed ops) (named_or named (told_games (listed ops))))
 
 -- ---- the commands
 

@@ -3,7 +3,7 @@
 ghost use Rattle.std.specs.Prelude.{◌≡◌, ◌≢◌, Ok, Err, IfOk, IfErr, OnOk, map};
 ghost use Rattle.std.specs.Io.KnownBytes.{Keeps};
 ghost use Rattle.oct_ops.specs.Operations.{listed};
-ghost use Rattle.oct_pages.specs.Catalogue as catalogue;
+ghost use Rattle.oct_sheet.specs.Sheet.{told_games};
 ghost use Rattle.census_tell.specs.Overview.{games, games_in, list_games, named_or, only};
 ghost use Rattle.census_tell.specs.Questions.{Written};
 ghost use Rattle.census_state.specs.Replies.{answer_of};
@@ -12,13 +12,15 @@ use crate::viewing::{view_text, write_view};
 use census_state::{Fault, Reply, View, games_alone, load, read_codes};
 use oct_code::Code;
 use oct_overview::{Condition, Listing, write_overview};
-use oct_pages::{GameProgress, Unwatched, codes_of};
+use oct_pages::{GameProgress, Unwatched};
 use oct_record::Record;
+use oct_sheet::told_codes;
 use oct_text::{Form, Told};
 use std::alloc::{AllocError, Global};
 use std::io::Write;
 
-/// What is told in lines of the games that are named, or of all where none is. One game is built at a time.
+/// What is told in lines of the games that are named, or where none is of all that have a block or a claim, and of those of which a
+/// live note says a long period. One game is built at a time.
 pub fn games(
     alloc: Global,
     state: &[u8],
@@ -75,12 +77,12 @@ fn games_text<P: GameProgress>(
     Ok(text)
 }
 
-// The games that are named, or all of the record where none is.
+// The games that are named, or all that views tell of where none is.
 fn named_or_all(held: &Record<Global>, named: Vec<Code>) -> Result<Vec<Code>, AllocError>
-    ensures { IfOk result (λ codes. codes.items ≡ named_or named.items (catalogue.games (listed held.now.ops))) }
+    ensures { IfOk result (λ codes. codes.items ≡ named_or named.items (told_games (listed held.now.ops))) }
 {
     if named.is_empty() {
-        return codes_of(held);
+        return told_codes(held);
     }
     Ok(named)
 }
@@ -93,7 +95,7 @@ pub fn show_only(alloc: Global, state: &[u8], words: &[Vec<u8>], view: View) -> 
     let held = load(alloc, state)?;
     let named = read_codes(alloc, words)?;
     let part = games_alone(alloc, &held, &named)?;
-    let text = view_text(alloc, &part, &held, view)?;
+    let text = view_text(alloc, part.as_record(), &held, view)?;
     Ok(Reply::text_alone(text))
 }
 
@@ -115,5 +117,5 @@ pub fn stream_only<W: Write, P: GameProgress>(
     let held = load(alloc, state)?;
     let named = read_codes(alloc, words)?;
     let part = games_alone(alloc, &held, &named)?;
-    write_view(alloc, &part, &held, view, progress, out)
+    write_view(alloc, part.as_record(), &held, view, progress, out)
 }

@@ -17,11 +17,12 @@ use oct_code::Code;
 use oct_join::OpSet;
 use oct_json::write_game_json;
 use oct_overview::{LeastPeriod, with_least};
-use oct_pages::{GameSheet, game_of};
+use oct_pages::{GameSheet, game_after};
+use oct_period::Leaders;
 use oct_plot::write_plot;
 use oct_proved::ProvedPeriods;
 use oct_record::Record;
-use oct_sheet::{Remarks, Summary};
+use oct_sheet::{Remarks, Summary, told_codes};
 use oct_views::{Beside, write_game_html, write_index, write_style};
 use std::alloc::Global;
 
@@ -109,25 +110,88 @@ fn put_games<S: Folder>(
     ensures put { OnOk result (Filled S.puts folder.old (flat_map (shown_files beside proved.now remarks.now) (sheet (listed held.now.ops)).games) folder.new) }
     ensures err { IfErr result (IsPutFault S.refuses) }
 {
-    let games = held.games();
-    let all = games.len() as u64;
+    let codes = told_codes(held)?;
+    put_each(alloc, held, &codes, beside, proved, remarks, rows, folder)
+}
+
+// Puts the files of the games of these codes there, and adds their summaries.
+fn put_each<S: Folder>(
+    alloc: Global,
+    held: &Record<Global>,
+    codes: &[Code],
+    beside: Beside,
+    proved: &ProvedPeriods<Global>,
+    remarks: &Remarks<'_, Global>,
+    rows: &mut Vec<Summary>,
+    folder: &mut S,
+) -> Result<(), Fault>
+    ensures rows { OnOk result (rows.new.items ≡ rows.old.items ++ map (λ c. shown_summary remarks.now (game_sheet (listed held.now.ops) c)) codes.now) }
+    ensures put { OnOk result (Filled S.puts folder.old (flat_map (λ c. shown_files beside proved.now remarks.now (game_sheet (listed held.now.ops) c)) codes.now) folder.new) }
+    ensures err { IfErr result (IsPutFault S.refuses) }
+{
+    let all = codes.len() as u64;
     let mut done = 0;
-    for (code, ops) in games.iter() {
+    let mut leaders = Leaders::new(alloc);
+    for code in codes {
         folder.tell(*code, done, all);
         put_game(
-            alloc, held, *code, ops, beside, proved, remarks, rows, folder,
+            alloc,
+            held,
+            *code,
+            &mut leaders,
+            beside,
+            proved,
+            remarks,
+            rows,
+            folder,
         )?;
         done = done.saturating_add(1);
     }
     Ok(())
 }
 
-// Puts the files of a game with these operations there, and adds its summary.
+// Puts the files of a game there, and adds its summary.
 fn put_game<S: Folder>(
     alloc: Global,
     held: &Record<Global>,
     code: Code,
+    leaders: &mut Leaders<Global>,
+    beside: Beside,
+    proved: &ProvedPeriods<Global>,
+    remarks: &Remarks<'_, Global>,
+    rows: &mut Vec<Summary>,
+    folder: &mut S,
+) -> Result<(), Fault>
+    ensures rows { OnOk result (rows.new.items ≡ rows.old.items ++ shown_summary remarks.now (game_sheet (listed held.now.ops) code) ∷ []) }
+    ensures put { OnOk result (Filled S.puts folder.old (shown_files beside proved.now remarks.now (game_sheet (listed held.now.ops) code)) folder.new) }
+    ensures err { IfErr result (IsPutFault S.refuses) }
+{
+    match held.game(code) {
+        Some(ops) => put_built(
+            alloc, held, code, ops, leaders, beside, proved, remarks, rows, folder,
+        ),
+        None => put_built(
+            alloc,
+            held,
+            code,
+            &OpSet::new(alloc),
+            leaders,
+            beside,
+            proved,
+            remarks,
+            rows,
+            folder,
+        ),
+    }
+}
+
+// Puts the files of a game with these operations there, which is built for it, and adds its summary.
+fn put_built<S: Folder>(
+    alloc: Global,
+    held: &Record<Global>,
+    code: Code,
     ops: &OpSet<Global>,
+    leaders: &mut Leaders<Global>,
     beside: Beside,
     proved: &ProvedPeriods<Global>,
     remarks: &Remarks<'_, Global>,
@@ -139,7 +203,7 @@ fn put_game<S: Folder>(
     ensures put { OnOk result (Filled S.puts folder.old (shown_files beside proved.now remarks.now (game_sheet (listed held.now.ops) code)) folder.new) }
     ensures err { IfErr result (IsPutFault S.refuses) }
 {
-    let game = game_of(held, code)?;
+    let game = game_after(held, code, leaders)?;
     let sheet = GameSheet::of_game(alloc, &game, ops)?;
     let found = game.find_period();
     let least = LeastPeriod::of(&sheet, &found);

@@ -1,5 +1,5 @@
 use Rattle.std.proofs.lemmas.Result.{IfErr-weaker, IfOk-weaker, err_from_is_err_and}
-use Rattle.std.specs.Prelude.{Ok, Err}
+use Rattle.std.proofs.Common.{Ok, Err, sym, ap, ◌∙◌}
 use Rattle.census_fold.proofs.Digested.{as_its_set, not_read}
 use Rattle.census_fold.proofs.digests.digest.Goals as goal
 
@@ -9,7 +9,7 @@ returns-in_err-held-clause-err c =
     rw (p.1, p.2) (λ other. not_read c.args.file.now _ (c.in_err-held.ensures.err other))
 
 pub returns-clause-ok : goal.returns-clause-ok
-returns-clause-ok c = IfOk-weaker c.record_digest.result _ _ (λ digits done. as_its_set c.args.file.now c.in_ok-held.held.ops (Ok digits.items) c.in_ok-held.ensures.ok done) c.record_digest.ensures.ok
+returns-clause-ok c = IfOk-weaker c.record_digest.result _ _ (λ digits done. as_its_set c.args.file.now c.as_record.result.now.ops (Ok digits.items) (c.in_ok-held.ensures.ok ∙ ap Ok (sym c.as_record.ensures)) done) c.record_digest.ensures.ok
 
 pub returns-clause-err : goal.returns-clause-err
-returns-clause-err c = IfErr-weaker c.record_digest.result _ _ (λ e done other. as_its_set c.args.file.now c.in_ok-held.held.ops (Err e) c.in_ok-held.ensures.ok (done other)) c.record_digest.ensures.err
+returns-clause-err c = IfErr-weaker c.record_digest.result _ _ (λ e done other. as_its_set c.args.file.now c.as_record.result.now.ops (Err e) (c.in_ok-held.ensures.ok ∙ ap Ok (sym c.as_record.ensures)) (done other)) c.record_digest.ensures.err

@@ -1,4 +1,4 @@
-use Rattle.std.proofs.Common.{◌≡◌, ◌++◌, ap, ◌∙◌, subst, IfSome, Option, Some, None}
+use Rattle.std.proofs.Common.{◌≡◌, ap, ◌∙◌, subst, IfSome, Option, Some, None}
 use Rattle.std.specs.Io.KnownBytes.{Appends}
 use Rattle.oct_delta.specs.Text.{Bytes}
 use Rattle.oct_ops.specs.Operations.{Operations, listed}
@@ -15,10 +15,10 @@ told Holds (Some x) ops text whole same holds = subst Holds (same ∙ ap (λ o. 
 
 pub returns-clause-text : goal.returns-clause-text
 returns-clause-text g c =
-    let same = c.deref.ensures.value ∙ c.in_ok-write_catalogue_of.ensures.ok ∙ ap (λ front. front ++ catalogue (listed c.in_ok-intake.intake.said.ops)) c.new-text.ensures.items in
-    told (λ text. Appends (g.W.Write.contents c.args.writer.now) (g.W.Write.contents c.write_out.new.writer) text) _ _ _ c.in_ok-intake.ensures.taken same c.in_ok-write_out.ensures.ok
+    let same = c.in_ok-ready.ensures ∙ ap (λ (ops : Operations). catalogue (listed ops)) c.as_record.ensures in
+    told (λ text. Appends (g.W.Write.contents c.args.writer.now) (g.W.Write.contents c.write.new.out) text) _ _ _ c.in_ok-intake.ensures.taken same c.in_ok-write.ensures.ok
 
-pub returns-in_err-write_out-clause-prefix : goal.returns-in_err-write_out-clause-prefix
-returns-in_err-write_out-clause-prefix g c _ =
-    let same = c.deref.ensures.value ∙ c.in_ok-write_catalogue_of.ensures.ok ∙ ap (λ front. front ++ catalogue (listed c.in_ok-intake.intake.said.ops)) c.new-text.ensures.items in
-    told (λ text. AppendsPrefix (g.W.Write.contents c.args.writer.now) (g.W.Write.contents c.write_out.new.writer) text) _ _ _ c.in_ok-intake.ensures.taken same c.in_err-write_out.ensures.err
+pub returns-in_err-write-clause-prefix : goal.returns-in_err-write-clause-prefix
+returns-in_err-write-clause-prefix g c _ =
+    let same = c.in_ok-ready.ensures ∙ ap (λ (ops : Operations). catalogue (listed ops)) c.as_record.ensures in
+    told (λ text. AppendsPrefix (g.W.Write.contents c.args.writer.now) (g.W.Write.contents c.write.new.out) text) _ _ _ c.in_ok-intake.ensures.taken same c.in_err-write.ensures.err

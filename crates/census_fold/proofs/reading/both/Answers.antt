@@ -6,7 +6,7 @@ use Rattle.census_fold.proofs.reading.both.Goals as goal
 
 pub returns : goal.returns
 returns c =
-    let one = c.args.one.now.ops in
-    let other = c.args.other.now.ops in
-    let first = c.in_ok-join.ensures.ok ∙ ap (λ (held : Operations). union held one) c.nothing-all.ensures ∙ union_comm op_cmp_total op_cmp_exact empty one ∙ union-empty op_cmp_total op_cmp_exact one in
+    let one = c.args.one.now in
+    let other = c.args.other.now in
+    let first = c.in_ok-join.ensures.ok ∙ ap (λ (held : Operations). union held one) c.new-all.ensures ∙ union_comm op_cmp_total op_cmp_exact empty one ∙ union-empty op_cmp_total op_cmp_exact one in
     c.in_ok-join-2.ensures.ok ∙ ap (λ (held : Operations). union held other) first

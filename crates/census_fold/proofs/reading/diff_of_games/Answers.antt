@@ -9,6 +9,6 @@ pub returns-clause-ok : goal.returns-clause-ok
 returns-clause-ok c =
     let words = map (λ word. word.items) c.args.words.now in
     ap (λ found. found >>= λ a. operations_in c.args.other.now >>= λ b. codes_of words >>= λ named. Ok (diff_of_games a b named)) c.in_ok-first.ensures.ok
-    ∙ ap (λ found. found >>= λ b. codes_of words >>= λ named. Ok (diff_of_games c.in_ok-first.first.ops b named)) c.in_ok-second.ensures.ok
-    ∙ ap (λ found. found >>= λ named. Ok (diff_of_games c.in_ok-first.first.ops c.in_ok-second.second.ops named)) c.in_ok-named.ensures.ok
-    ∙ (λ i. Ok (diff_of_games (sym c.store.ensures i) (sym c.store-2.ensures i) (sym c.deref.ensures.value i))) ∙ sym (ap Ok c.in_ok-text.ensures)
+    ∙ ap (λ found. found >>= λ b. codes_of words >>= λ named. Ok (diff_of_games c.in_ok-first.first b named)) c.in_ok-second.ensures.ok
+    ∙ ap (λ found. found >>= λ named. Ok (diff_of_games c.in_ok-first.first c.in_ok-second.second named)) c.in_ok-named.ensures.ok
+    ∙ (λ i. Ok (diff_of_games (sym (c.store.ensures ∙ c.as_record.ensures) i) (sym (c.store-2.ensures ∙ c.as_record-2.ensures) i) (sym c.deref.ensures.value i))) ∙ sym (ap Ok c.in_ok-text.ensures)

@@ -3,7 +3,6 @@ use Rattle.std.proofs.lemmas.Grind.{common_steps}
 use Rattle.std.specs.Prelude.{is_some}
 use Rattle.oct_ops.specs.Operations.{listed}
 use Rattle.oct_delta.specs.Taken.{operations_of}
-use Rattle.oct_record.specs.Content.{RecordContent}
 use Rattle.census_fold.proofs.Taking.{IsNoDelta, none_of, nothing_read, unchanged}
 use Rattle.census_fold.proofs.taken.take_bytes.Goals as goal
 
@@ -13,8 +12,8 @@ returns-in-Err-Version g c =
     let none = nothing_read c.texts_are_read.ensures c.args.bytes.now (λ i. omega (arith, c.type_inv.bytes i)) c.take.result c.in-Err-Version.field-0 c.in-Err-Version.is told c.take.ensures.version c.take.ensures.refused in
     record {
       taken =
-          ap (λ (r : RecordContent). r.ops) (unchanged c.args.said.now c.take.new.self (listed (operations_of c.args.bytes.now)) c.in-Err-Version.field-0 told c.in-Err-Version.ensures.err)
-          ∙ none_of c.args.said.now.ops c.args.bytes.now none;
+          unchanged c.args.held.now c.take.new.self (listed (operations_of c.args.bytes.now)) c.in-Err-Version.field-0 told c.in-Err-Version.ensures.err
+          ∙ none_of c.args.held.now c.args.bytes.now none;
       spelled = ap is_some (sym none);
       kind = search rules;
     }

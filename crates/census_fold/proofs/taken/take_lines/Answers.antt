@@ -8,34 +8,34 @@ use Rattle.census_fold.proofs.taken.take_lines.Goals as goal
 
 pub loop-bytes-init : goal.loop-bytes-init
 loop-bytes-init g c = record {
-  underway = begun (g.B.Read.remaining c.args.input.now) c.nothing.result.ops c.args.limit c.nothing.ensures;
+  underway = begun (g.B.Read.remaining c.args.input.now) c.new.result c.args.limit c.new.ensures;
   bounded = omega arith;
 }
 
 pub returns-then-count-eq0-clause-taken : goal.returns-then-count-eq0-clause-taken
 returns-then-count-eq0-clause-taken g c =
     IfSome_then (g.B.Read.remaining c.args.input.now)
-    (ended _ (g.B.Read.remaining c.loop-bytes.input) c.next_line.new.line.items c.loop-bytes.intake.said.ops c.loop-bytes.intake.refused c.args.limit c.loop-bytes.left
+    (ended _ (g.B.Read.remaining c.loop-bytes.input) c.next_line.new.line.items c.loop-bytes.intake.held c.loop-bytes.intake.refused c.args.limit c.loop-bytes.left
     c.loop-bytes.invariant.underway c.in_ok-count.ensures.line (omega (arith, c.in_ok-count.ensures.count, c.if-count-eq0.true)))
     (λ x whole. whole.0)
 
 pub returns-then-count-eq0-clause-refused : goal.returns-then-count-eq0-clause-refused
 returns-then-count-eq0-clause-refused g c =
     IfSome_then (g.B.Read.remaining c.args.input.now)
-    (ended _ (g.B.Read.remaining c.loop-bytes.input) c.next_line.new.line.items c.loop-bytes.intake.said.ops c.loop-bytes.intake.refused c.args.limit c.loop-bytes.left
+    (ended _ (g.B.Read.remaining c.loop-bytes.input) c.next_line.new.line.items c.loop-bytes.intake.held c.loop-bytes.intake.refused c.args.limit c.loop-bytes.left
     c.loop-bytes.invariant.underway c.in_ok-count.ensures.line (omega (arith, c.in_ok-count.ensures.count, c.if-count-eq0.true)))
     (λ x whole. whole.1)
 
 pub returns-then-count-eq0-clause-fits : goal.returns-then-count-eq0-clause-fits
 returns-then-count-eq0-clause-fits g c =
     IfSome_then (g.B.Read.remaining c.args.input.now)
-    (ended _ (g.B.Read.remaining c.loop-bytes.input) c.next_line.new.line.items c.loop-bytes.intake.said.ops c.loop-bytes.intake.refused c.args.limit c.loop-bytes.left
+    (ended _ (g.B.Read.remaining c.loop-bytes.input) c.next_line.new.line.items c.loop-bytes.intake.held c.loop-bytes.intake.refused c.args.limit c.loop-bytes.left
     c.loop-bytes.invariant.underway c.in_ok-count.ensures.line (omega (arith, c.in_ok-count.ensures.count, c.if-count-eq0.true)))
     (λ x whole. whole.2)
 
 pub returns-then-count-left-clause-too_long : goal.returns-then-count-left-clause-too_long
 returns-then-count-left-clause-too_long g c = λ _.
-    too_long _ (g.B.Read.remaining c.loop-bytes.input) c.next_line.new.line.items c.loop-bytes.intake.said.ops c.loop-bytes.intake.refused c.args.limit c.loop-bytes.left
+    too_long _ (g.B.Read.remaining c.loop-bytes.input) c.next_line.new.line.items c.loop-bytes.intake.held c.loop-bytes.intake.refused c.args.limit c.loop-bytes.left
     c.loop-bytes.invariant.underway c.in_ok-count.ensures.line (omega (arith, c.in_ok-count.ensures.count, c.if-count-left.true))
 
 pub loop-bytes-preserved-in-Continue-branch-2 : goal.loop-bytes-preserved-in-Continue-branch-2
@@ -49,11 +49,11 @@ loop-bytes-preserved-in-Continue-branch-2 g c =
     let once = at_most_one_more (is_refused c.text_of_line-text.result.now) c.loop-bytes.intake.refused c.take_line.new.intake.refused c.in_ok-take_line.ensures.counted in
     record {
       underway =
-          subst (λ n. IsUnderway (g.B.Read.remaining c.args.input.now) (g.B.Read.remaining c.next_line.new.input) c.take_line.new.intake.said.ops c.take_line.new.intake.refused c.args.limit (c.loop-bytes.left - n))
+          subst (λ n. IsUnderway (g.B.Read.remaining c.args.input.now) (g.B.Read.remaining c.next_line.new.input) c.take_line.new.intake.held c.take_line.new.intake.refused c.args.limit (c.loop-bytes.left - n))
           (sym count)
-          (went_on _ (g.B.Read.remaining c.loop-bytes.input) _ line c.loop-bytes.intake.said.ops _ c.loop-bytes.intake.refused _ c.args.limit c.loop-bytes.left
+          (went_on _ (g.B.Read.remaining c.loop-bytes.input) _ line c.loop-bytes.intake.held _ c.loop-bytes.intake.refused _ c.args.limit c.loop-bytes.left
           c.loop-bytes.invariant.underway c.in_ok-count.ensures.line c.in_ok-count.ensures.rest some fits filled
-          (c.in_ok-take_line.ensures.taken ∙ ap (λ t. union c.loop-bytes.intake.said.ops (set_of (taken_of_line t))) text)
+          (c.in_ok-take_line.ensures.taken ∙ ap (λ t. union c.loop-bytes.intake.held (set_of (taken_of_line t))) text)
           (c.in_ok-take_line.ensures.counted ∙ ap (λ t. cond (is_refused t) (c.loop-bytes.intake.refused + 1) c.loop-bytes.intake.refused) text));
       bounded = omega (arith, once, some, fits, count, c.loop-bytes.invariant.bounded);
     }
@@ -68,9 +68,9 @@ loop-bytes-preserved g c =
     let fits : length line ≤ c.loop-bytes.left = omega (arith, count, c.if-count-left.false) in
     record {
       underway =
-          subst (λ n. IsUnderway (g.B.Read.remaining c.args.input.now) (g.B.Read.remaining c.next_line.new.input) c.loop-bytes.intake.said.ops c.loop-bytes.intake.refused c.args.limit (c.loop-bytes.left - n))
+          subst (λ n. IsUnderway (g.B.Read.remaining c.args.input.now) (g.B.Read.remaining c.next_line.new.input) c.loop-bytes.intake.held c.loop-bytes.intake.refused c.args.limit (c.loop-bytes.left - n))
           (sym count)
-          (skipped _ (g.B.Read.remaining c.loop-bytes.input) _ line c.loop-bytes.intake.said.ops c.loop-bytes.intake.refused c.args.limit c.loop-bytes.left
+          (skipped _ (g.B.Read.remaining c.loop-bytes.input) _ line c.loop-bytes.intake.held c.loop-bytes.intake.refused c.args.limit c.loop-bytes.left
           c.loop-bytes.invariant.underway c.in_ok-count.ensures.line c.in_ok-count.ensures.rest some fits unfilled);
       bounded = omega (arith, c.loop-bytes.invariant.bounded);
     }

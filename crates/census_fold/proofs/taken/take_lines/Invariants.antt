@@ -4,7 +4,7 @@ use Rattle.census_fold.proofs.taken.take_lines.Given as goal
 
 abbrev pub invariant-loop-bytes : goal.invariant-loop-bytes
 invariant-loop-bytes g l = record {
-  underway : IsUnderway (g.B.Read.remaining l.fn.input) (g.B.Read.remaining l.input) l.intake.said.ops l.intake.refused l.fn.limit l.left;
+  underway : IsUnderway (g.B.Read.remaining l.fn.input) (g.B.Read.remaining l.input) l.intake.held l.intake.refused l.fn.limit l.left;
   bounded : l.intake.refused + l.left ≤ l.fn.limit;
 }
 

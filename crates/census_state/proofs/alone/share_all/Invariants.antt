@@ -3,4 +3,4 @@ use Rattle.oct_join.proofs.SetMerging.{JoinsAlong}
 use Rattle.census_state.proofs.alone.share_all.Given as goal
 
 abbrev pub invariant-loop-op : goal.invariant-loop-op
-invariant-loop-op l = JoinsAlong op_cmp_total op_cmp_exact l.fn.part.ops l.ops l.part.ops l.op-iterator
+invariant-loop-op l = JoinsAlong op_cmp_total op_cmp_exact l.fn.part l.ops l.part l.op-iterator

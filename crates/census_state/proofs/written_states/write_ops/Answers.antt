@@ -1,5 +1,4 @@
 use Rattle.std.proofs.Common.{◌++◌, refl, sym, ap, ◌∙◌, subst}
-use Rattle.std.specs.Io.KnownBytes.{Appends}
 use Rattle.std.specs.List.{flat_map}
 use Rattle.oct_delta.proofs.Written.{written}
 use Rattle.oct_delta.specs.Text.{op_bytes}

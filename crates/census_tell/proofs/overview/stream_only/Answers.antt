@@ -9,10 +9,10 @@ use Rattle.census_tell.proofs.overview.stream_only.Goals as goal
 pub returns-clause-ok : goal.returns-clause-ok
 returns-clause-ok g c =
     let ops = c.in_ok-held.held.ops in
-    let part = c.in_ok-part.ensures ∙ ap (λ codes. only_of codes ops) c.deref.ensures.value in
+    let part = c.as_record.ensures ∙ c.in_ok-part.ensures ∙ ap (λ codes. only_of codes ops) c.deref.ensures.value in
     on_ok_weaker c.write_view.result
     (λ wrote. (
-      shown_among c.args.view c.in_ok-part.part.ops ops,
+      shown_among c.args.view c.as_record.result.now.ops ops,
       then_with _ _ _ c.in_ok-held.ensures.ok ∙ then_with _ _ _ c.in_ok-named.ensures.ok ∙ ap (λ p. Ok (text_alone (shown_among c.args.view p ops))) (sym part),
       wrote,
     ))

@@ -7,7 +7,7 @@ use Rattle.oct_pages.specs.Contents.{game_content}
 use Rattle.oct_pages.proofs.SheetLaws.{group_held, sheet_by-is}
 use Rattle.oct_sheet.specs.Summary.{summary_of}
 use Rattle.census_tell.specs.Site.{Filled, files_of}
-use Rattle.census_tell.proofs.site.put_game.Goals as goal
+use Rattle.census_tell.proofs.site.put_built.Goals as goal
 
 pub of_game-requires : goal.of_game-requires
 of_game-requires g c = group_held c.args.held.now.ops c.args.code c.in_ok-game.game c.args.ops.now c.in_ok-game.ensures c.requires
