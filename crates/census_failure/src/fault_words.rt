@@ -21,7 +21,7 @@ pub struct FaultWords {
 }
 
 // What is said of a fault, as one value.
-const fn said(subject: &'static str, meaning: &'static str, remedy: &'static str) -> FaultWords {
+const fn words(subject: &'static str, meaning: &'static str, remedy: &'static str) -> FaultWords {
     FaultWords {
         subject,
         meaning,
@@ -287,12 +287,12 @@ const MEMORY: FaultWords = FaultWords {
 
 fn of_load(cause: LoadError) -> FaultWords {
     match cause {
-        LoadError::Version => said(
+        LoadError::Version => words(
             "the state file",
             "does not begin as a state does",
             "census init --draw STATE makes a state, and census merge STATE DELTA takes a delta in",
         ),
-        LoadError::Refused => said(
+        LoadError::Refused => words(
             "the state file",
             "begins as a state, and is damaged",
             "put a whole copy back, and go on under a new number: census renumber STATE",
@@ -303,12 +303,12 @@ fn of_load(cause: LoadError) -> FaultWords {
 
 fn of_take(cause: TakeError) -> FaultWords {
     match cause {
-        TakeError::Version => said(
+        TakeError::Version => words(
             "the delta file",
             "does not begin as a delta does",
             "census delta STATE DELTA writes a delta",
         ),
-        TakeError::Refused => said(
+        TakeError::Refused => words(
             "the delta file",
             "begins as a delta, and is damaged",
             "have it written and sent again: census delta STATE DELTA",
@@ -319,12 +319,12 @@ fn of_take(cause: TakeError) -> FaultWords {
 
 fn of_union(cause: TakeError) -> FaultWords {
     match cause {
-        TakeError::Version => said(
+        TakeError::Version => words(
             "the file of this place",
             "does not begin as a delta does; places are counted from 1",
             "census delta STATE DELTA writes a delta",
         ),
-        TakeError::Refused => said(
+        TakeError::Refused => words(
             "the file of this place",
             "begins as a delta, and is damaged; places are counted from 1",
             "have it written and sent again; the other files are as they were",
@@ -335,37 +335,37 @@ fn of_union(cause: TakeError) -> FaultWords {
 
 fn of_import(cause: ImportError) -> FaultWords {
     match cause {
-        ImportError::Shape => said(
+        ImportError::Shape => words(
             "the JSON file",
             "is no object with exactly the keys code, start and values",
             "the form is {\"code\":\"0.77\",\"start\":0,\"values\":[0,1,2,3,1]}",
         ),
-        ImportError::Code => said(
+        ImportError::Code => words(
             "the JSON file",
             "has a code that is no text of an octal code",
             "write it as \"0.77\": 0 or 4, a point, and digits 0 to 7",
         ),
-        ImportError::Start => said(
+        ImportError::Start => words(
             "the JSON file",
             "has a start that is no whole number below 4294967296",
             "start is the heap of the first value, as 0",
         ),
-        ImportError::Values => said(
+        ImportError::Values => words(
             "the JSON file",
             "has values that are no list of whole numbers below 4294967296",
             "write it as [0,1,2,3,1], from heap start on",
         ),
-        ImportError::Empty => said(
+        ImportError::Empty => words(
             "the JSON file",
             "has no value",
             "give at least one, from heap start on",
         ),
-        ImportError::TooMany => said(
+        ImportError::TooMany => words(
             "the JSON file",
             "has over 1024 values",
             "cut it into several files; or claim a b-file, of any length: census claim STATE CODE FILE",
         ),
-        ImportError::PastLimit => said(
+        ImportError::PastLimit => words(
             "the JSON file",
             "has values beyond heap 65535",
             "a state keeps the heaps 0 to 65535; start and the number of values come to 65536 at most",
@@ -376,22 +376,22 @@ fn of_import(cause: ImportError) -> FaultWords {
 
 fn of_bfile(cause: BfileError) -> FaultWords {
     match cause {
-        BfileError::Form { .. } => said(
+        BfileError::Form { .. } => words(
             "the b-file",
             "has, at this line, no number and value below 4294967296",
             "a line is as `0 0`; empty ones, and those that begin with #, are passed over",
         ),
-        BfileError::Order { .. } => said(
+        BfileError::Order { .. } => words(
             "the b-file",
             "has, at this line, a number that is not the one before plus one",
             "the numbers rise by one from line to line, and none is left out",
         ),
-        BfileError::PastLimit { .. } => said(
+        BfileError::PastLimit { .. } => words(
             "the b-file",
             "has, at this line, a number above 65535",
             "a state keeps the heaps 0 to 65535: head -n 65536 cuts a file that begins with 0",
         ),
-        BfileError::Empty => said(
+        BfileError::Empty => words(
             "the b-file",
             "has no line with a number and a value",
             "a line is as `0 0`, a heap and its value",
@@ -402,17 +402,17 @@ fn of_bfile(cause: BfileError) -> FaultWords {
 
 fn of_saved(cause: SavedError) -> FaultWords {
     match cause {
-        SavedError::Version => said(
+        SavedError::Version => words(
             "the file",
             "is no saved search",
             "name another file for --save; where there is none, the search begins anew",
         ),
-        SavedError::Refused => said(
+        SavedError::Refused => words(
             "the saved search",
             "is damaged",
             "take a copy of it that is whole, or name another file, and the search begins anew",
         ),
-        SavedError::Game => said(
+        SavedError::Game => words(
             "the saved search",
             "is of another game",
             "give the CODE of its game, or name another file for --save",
@@ -422,22 +422,22 @@ fn of_saved(cause: SavedError) -> FaultWords {
 
 fn of_code(cause: CodeError) -> FaultWords {
     match cause {
-        CodeError::Form => said(
+        CodeError::Form => words(
             "the code",
             "has no point, more than one sign before it, or nothing after it",
             "a code is 0 or 4, a point, and digits 0 to 7, as 0.77",
         ),
-        CodeError::Head => said(
+        CodeError::Head => words(
             "the code",
             "has neither 0 nor 4 before its point",
             "a code is 0 or 4, a point, and digits 0 to 7, as 0.77",
         ),
-        CodeError::Digit => said(
+        CodeError::Digit => words(
             "the code",
             "has a sign after its point that is none of the digits 0 to 7",
             "a code is 0 or 4, a point, and digits 0 to 7, as 0.77",
         ),
-        CodeError::Long => said(
+        CodeError::Long => words(
             "the code",
             "has over 16 digits, those zeros that end it left out",
             "no game of a longer code is kept",
@@ -447,17 +447,17 @@ fn of_code(cause: CodeError) -> FaultWords {
 
 fn of_compute(cause: ComputeError) -> FaultWords {
     match cause {
-        ComputeError::Zero => said(
+        ComputeError::Zero => words(
             "COUNT",
             "is 0, and no value would be computed",
             "give COUNT from 1 to 1024",
         ),
-        ComputeError::TooMany => said(
+        ComputeError::TooMany => words(
             "COUNT",
             "is over 1024, the most values that one operation holds",
             "census extend STATE COUNT CODE has no such limit: it makes the first COUNT values known",
         ),
-        ComputeError::AtLimit => said(
+        ComputeError::AtLimit => words(
             "COUNT",
             "is in vain: all values up to heap 65535 are known",
             "census search COUNT CODE goes on beyond it, and keeps nothing",
@@ -468,12 +468,12 @@ fn of_compute(cause: ComputeError) -> FaultWords {
 
 fn of_period(cause: PeriodError) -> FaultWords {
     match cause {
-        PeriodError::Zero => said(
+        PeriodError::Zero => words(
             "E or P",
             "is 0",
             "E, from which heap on the values repeat, and P, the period, are 1 to 65536",
         ),
-        PeriodError::PastLimit => said(
+        PeriodError::PastLimit => words(
             "E or P",
             "is above 65536",
             "census search COUNT CODE proves longer periods, and keeps nothing",
@@ -483,12 +483,12 @@ fn of_period(cause: PeriodError) -> FaultWords {
 
 fn of_note(cause: NoteError) -> FaultWords {
     match cause {
-        NoteError::Name => said(
+        NoteError::Name => words(
             "the note",
             "has a name that is no 1 to 32 bytes of a-z, 0-9 and -",
             "a name is as kayles or dawson-7",
         ),
-        NoteError::Text => said(
+        NoteError::Text => words(
             "the note",
             "has a text with over 200 bytes, or with one that is no printable ASCII",
             "printable are the letters, digits, signs and blanks of an English keyboard",
@@ -499,12 +499,12 @@ fn of_note(cause: NoteError) -> FaultWords {
 
 fn of_removal(cause: RemovalError) -> FaultWords {
     match cause {
-        RemovalError::NoNote => said(
+        RemovalError::NoNote => words(
             "the name",
             "is that of no note in the state",
             "census show STATE lists the notes",
         ),
-        RemovalError::TooMany => said(
+        RemovalError::TooMany => words(
             "the name",
             "is that of over 1024 notes",
             "nothing can take so many back at once",
@@ -515,7 +515,7 @@ fn of_removal(cause: RemovalError) -> FaultWords {
 
 fn of_issue(cause: IssueError) -> FaultWords {
     match cause {
-        IssueError::LastNumber => said(
+        IssueError::LastNumber => words(
             "the author",
             "has used the last number, 4294967295",
             "go on under a new one: census renumber STATE",
@@ -526,48 +526,48 @@ fn of_issue(cause: IssueError) -> FaultWords {
 
 fn of_sync(cause: SyncError) -> FaultWords {
     match cause {
-        SyncError::Frame => said(
+        SyncError::Frame => words(
             "the other side",
             "sends something that is no frame of a session",
             "see that census serve or census hub runs at the address",
         ),
-        SyncError::Order => said(
+        SyncError::Order => words(
             "the other side",
             "sends a frame that is not due",
             "see that one side is census sync, and the other census serve or census hub",
         ),
-        SyncError::Clock => said(
+        SyncError::Clock => words(
             "the other side",
             "sends a damaged clock",
             "what came before it is saved; see that census runs there",
         ),
-        SyncError::Delta => said(
+        SyncError::Delta => words(
             "the other side",
             "sends damaged operations",
             "what came before them is saved; see that census runs there",
         ),
         SyncError::OutOfMemory => MEMORY,
-        SyncError::Failed => said(
+        SyncError::Failed => words(
             "the other side",
             "had failed before",
             "what came before is saved; run the command again",
         ),
-        SyncError::Cut => said(
+        SyncError::Cut => words(
             "the other side",
             "closed the connection before the session was done",
             "what came is saved; run the command again, and see what the other side says",
         ),
-        SyncError::Read => said(
+        SyncError::Read => words(
             "the other side",
             "could not be read from any more",
             "what came is saved; run the command again, with a longer --patience where the other side is slow",
         ),
-        SyncError::Write => said(
+        SyncError::Write => words(
             "the other side",
             "could not be written to any more",
             "what came is saved; run the command again",
         ),
-        SyncError::Turns => said(
+        SyncError::Turns => words(
             "the other side",
             "sent so little at a time that over 1000000 reads were needed",
             "what came is saved; run the command again",

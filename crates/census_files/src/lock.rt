@@ -141,7 +141,7 @@ impl Lock {
             if let Some(mut lock) = opened(rt, path, locked)? {
                 match waiting.wait(&lock.file) {
                     Ok(()) if is_at(rt, &lock.file, path) => {
-                        left = lock.said()?.or(left);
+                        left = lock.content()?.or(left);
                         lock.left = left;
                         if lock.is_good()? || fs::remove_file(rt, path).is_err() {
                             return Ok(lock);
@@ -158,7 +158,7 @@ impl Lock {
     }
 
     // What the lock file says. The hindrance is `Occupied` where that is something else than a lock says.
-    fn said(&self) -> Result<Option<[u8; NAMING]>, Hindrance> {
+    fn content(&self) -> Result<Option<[u8; NAMING]>, Hindrance> {
         let there = self.file.metadata()?;
         if !there.is_file() {
             return Err(Hindrance::System(io::Error::from(ErrorKind::InvalidInput)));
@@ -166,15 +166,15 @@ impl Lock {
         if there.len() == 0 {
             return Ok(None);
         }
-        let mut said = [0; NAMING];
+        let mut content = [0; NAMING];
         if there.len() != NAMING as u64 {
             return Err(Hindrance::Occupied);
         }
-        self.file.read_exact_at(&mut said, 0)?;
-        if !said.starts_with(&TAG) {
+        self.file.read_exact_at(&mut content, 0)?;
+        if !content.starts_with(&TAG) {
             return Err(Hindrance::Occupied);
         }
-        Ok(Some(said))
+        Ok(Some(content))
     }
 
     // Whether the lock file may be written, and has one name.

@@ -1,10 +1,10 @@
 //! The file of a state, or of a delta, as one command at a time may change it.
 
+use crate::file_stamp::FileStamp;
 use crate::files::{beside, check_length, real_path, standing};
 use crate::hindrance::{Hindrance, unlocked, unreplaced, unwritten};
 use crate::lock::{Lock, Silent, Telling, Waiting, is_locked};
 use crate::new_text::{NewText, remove_left};
-use crate::seen::Seen;
 use census_failure::{Advice, Failure, shown};
 use census_state::Fault;
 use std::alloc::{AllocError, Global};
@@ -125,10 +125,10 @@ impl StateFile {
         self.path.as_str()
     }
 
-    /// What stands there, as it is now; none where nothing does. The fault is `File`.
-    pub fn seen<R: Files + AllocGlobal>(&self, rt: &R) -> Result<Option<Seen>, Failure> {
+    /// The stamp of the file that stands there now; none where nothing does. The fault is `File`.
+    pub fn stamp<R: Files + AllocGlobal>(&self, rt: &R) -> Result<Option<FileStamp>, Failure> {
         match standing(rt, self.path.as_str()) {
-            Ok(there) => Ok(there.map(|there| Seen::of(&there))),
+            Ok(there) => Ok(there.map(|there| FileStamp::of(&there))),
             Err(error) => Err(unwritten(rt.alloc(), self.path.as_str(), error)),
         }
     }

@@ -1,10 +1,9 @@
 //! Where a state meets its peers.
 
 use crate::allowance::Allowance;
-use crate::connection::Patience;
-use crate::sockets::{Listener, Stream};
 use census_diagnosis::{unbound, unbound_at, unconnected, unconnected_at, unmet, unserved};
 use census_failure::{Failure, Reason};
+use census_transport::{Listener, Patience, Stream};
 use std::fs::{self, Permissions};
 use std::io::{self, ErrorKind};
 use std::net::{Net, TcpListener, TcpStream, ToSocketAddrs};
@@ -27,47 +26,47 @@ const PAUSE: u64 = 100;
 
 /// Where peers are met.
 #[derive(Clone, Copy)]
-pub enum Place<'a> {
+pub enum Location<'a> {
     /// An address of the network, with its port.
     Address(&'a str),
     /// The path of a socket of this machine, and who may connect to it where it is made: the permissions of its file.
     Socket { path: &'a str, mode: u32 },
 }
 
-impl<'a> Place<'a> {
+impl<'a> Location<'a> {
     /// What it is called.
     pub fn name(self) -> &'a str {
         match self {
-            Place::Address(address) => address,
-            Place::Socket { path, .. } => path,
+            Location::Address(address) => address,
+            Location::Socket { path, .. } => path,
         }
     }
 }
 
-/// A state, the place at which it meets its peers, how long it waits for them there, and how much it takes of each.
+/// A state, the location at which it meets its peers, how long it waits for them there, and how much it takes of each.
 #[derive(Clone, Copy)]
 pub struct Endpoint<'a> {
     /// The path of the state file.
     pub state: &'a str,
-    /// The place.
-    pub place: Place<'a>,
+    /// The location.
+    pub location: Location<'a>,
     /// How long a peer is waited for.
     pub patience: Patience,
     /// How much one peer may bring.
     pub allowance: Allowance,
 }
 
-/// Listens at the place. The fault is `Net`.
-pub(crate) fn bound<R>(rt: &R, place: Place<'_>) -> Result<Listener, Failure>
+/// Listens at the location. The fault is `Net`.
+pub(crate) fn bound<R>(rt: &R, location: Location<'_>) -> Result<Listener, Failure>
 where
     R: Files + AllocGlobal + Net<Stream = TcpStream, Listener = TcpListener>,
 {
-    match place {
-        Place::Address(address) => match TcpListener::bind(rt, address) {
+    match location {
+        Location::Address(address) => match TcpListener::bind(rt, address) {
             Ok(listener) => Ok(Listener::Network(listener)),
             Err(error) => Err(unbound(rt.alloc(), address, error)),
         },
-        Place::Socket { path, mode } => match bound_at(rt, path, mode) {
+        Location::Socket { path, mode } => match bound_at(rt, path, mode) {
             Ok(listener) => Ok(Listener::Local(listener)),
             Err(error) => Err(unbound_at(rt.alloc(), path, error)),
         },
@@ -112,60 +111,64 @@ where
     }
 }
 
-/// Takes the socket away again that was made at the place, where it is one.
-pub(crate) fn leave<R: Files>(rt: &R, place: Place<'_>) {
-    if let Place::Socket { path, .. } = place {
+/// Takes the socket away again that was made at the location, where it is one.
+pub(crate) fn leave<R: Files>(rt: &R, location: Location<'_>) {
+    if let Location::Socket { path, .. } = location {
         let _ = fs::remove_file(rt, path);
     }
 }
 
-/// Connects to what is at the place, or to the first of an address's places that answers within the peer's patience. Where nobody
-/// listens, it is tried again for two seconds, since a server may be just starting. The fault is `Net`.
-pub(crate) fn connected<R>(rt: &R, place: Place<'_>, patience: Patience) -> Result<Stream, Failure>
+/// Connects to what is at the location, or to the first of an address's places that answers within the peer's patience. Where
+/// nobody listens, it is tried again for two seconds, since a server may be just starting. The fault is `Net`.
+pub(crate) fn connected<R>(
+    rt: &R,
+    location: Location<'_>,
+    patience: Patience,
+) -> Result<Stream, Failure>
 where
     R: AllocGlobal + Net<Stream = TcpStream, Listener = TcpListener> + Clock,
 {
     for _ in 0..TRIES {
-        let tried = met(rt, place, patience);
-        if !is_absent(place, &tried) {
+        let tried = met(rt, location, patience);
+        if !is_absent(location, &tried) {
             return tried;
         }
         thread::sleep(rt, Duration::from_millis(PAUSE));
     }
-    met(rt, place, patience)
+    met(rt, location, patience)
 }
 
-// Whether nobody listens at the place, as the attempt to connect has shown.
-fn is_absent(place: Place<'_>, tried: &Result<Stream, Failure>) -> bool {
+// Whether nobody listens at the location, as the attempt to connect has shown.
+fn is_absent(location: Location<'_>, tried: &Result<Stream, Failure>) -> bool {
     match tried {
         Ok(_) => false,
         Err(failure) => match &failure.reason {
-            Reason::System(error) => is_absence(place, error.kind()),
+            Reason::System(error) => is_absence(location, error.kind()),
             _ => false,
         },
     }
 }
 
-// Whether the system says by this that nobody listens at the place.
-fn is_absence(place: Place<'_>, kind: ErrorKind) -> bool {
+// Whether the system says by this that nobody listens at the location.
+fn is_absence(location: Location<'_>, kind: ErrorKind) -> bool {
     match kind {
         ErrorKind::ConnectionRefused => true,
-        ErrorKind::NotFound => matches!(place, Place::Socket { .. }),
+        ErrorKind::NotFound => matches!(location, Location::Socket { .. }),
         _ => false,
     }
 }
 
 // Connects once.
-fn met<R>(rt: &R, place: Place<'_>, patience: Patience) -> Result<Stream, Failure>
+fn met<R>(rt: &R, location: Location<'_>, patience: Patience) -> Result<Stream, Failure>
 where
     R: AllocGlobal + Net<Stream = TcpStream, Listener = TcpListener>,
 {
-    match place {
-        Place::Address(address) => match dialled(rt, address, patience) {
+    match location {
+        Location::Address(address) => match dialled(rt, address, patience) {
             Ok(stream) => Ok(Stream::Network(stream)),
             Err(failure) => Err(failure),
         },
-        Place::Socket { path, .. } => match UnixStream::connect(rt, path) {
+        Location::Socket { path, .. } => match UnixStream::connect(rt, path) {
             Ok(stream) => Ok(Stream::Local(stream)),
             Err(error) => Err(unconnected_at(rt.alloc(), path, error)),
         },
@@ -195,7 +198,7 @@ where
 pub(crate) fn accepted<R: AllocGlobal>(
     rt: &R,
     listener: &Listener,
-    place: Place<'_>,
+    location: Location<'_>,
 ) -> Result<Stream, Failure> {
     let mut last = io::Error::from(ErrorKind::Interrupted);
     for _ in 0..ATTEMPTS {
@@ -204,5 +207,5 @@ pub(crate) fn accepted<R: AllocGlobal>(
             Err(error) => last = error,
         }
     }
-    Err(unserved(rt.alloc(), place.name(), last))
+    Err(unserved(rt.alloc(), location.name(), last))
 }

@@ -1,14 +1,11 @@
 //! One session of a hub, which goes on when its connection is ready.
 
 use crate::allowance::Allowance;
-use crate::connection::Patience;
 use crate::kept::{Kept, Settled};
-use crate::sockets::Peer;
-use crate::visitors::Visitor;
-use crate::ways::HEAD;
 use census_failure::Failure;
 use census_fold::{Refusal, closing_frame, refusal_frame};
 use census_state::Fault;
+use census_transport::{HEAD, Patience, PeerAddress, Visitor};
 use mio::{Registry, Token};
 use oct_answer::Missing;
 use oct_delta::decode_clock;
@@ -34,7 +31,7 @@ pub(crate) struct Bounds {
 #[derive(Drop)]
 pub(crate) struct Guest {
     /// Who it is.
-    pub(crate) peer: Peer,
+    pub(crate) peer: PeerAddress,
     stream: Visitor,
     bounds: Bounds,
     session: Session<Global>,
@@ -68,7 +65,7 @@ impl Guest {
     pub(crate) fn new(
         alloc: Global,
         stream: Visitor,
-        peer: Peer,
+        peer: PeerAddress,
         bounds: Bounds,
         brought: Record<Global>,
         now: Instant,
@@ -127,7 +124,7 @@ impl Guest {
 
     /// Whether it came over a socket of this machine, and said nothing: as one who sees whether a hub listens there.
     pub(crate) fn is_caller(&self) -> bool {
-        matches!(self.peer, Peer::Local) && self.came == 0
+        matches!(self.peer, PeerAddress::Local) && self.came == 0
     }
 
     /// When it last took or sent something.

@@ -1,13 +1,11 @@
 //! Sessions over TCP, or a socket of this machine.
 
-use crate::bounded::Bounded;
-use crate::connection::Connection;
 use crate::endpoint::{Endpoint, accepted, bound, connected, leave};
 use crate::record_file::Loaded;
-use crate::session::{Outcome, Streams};
-use crate::sockets::Stream;
+use crate::session::{Agreement, Streams};
 use census_failure::{Advice, Failure};
 use census_state::Fault;
+use census_transport::{Bounded, Connection, Stream};
 use oct_sync::Role;
 use std::fs::File;
 use std::io::Write;
@@ -15,7 +13,7 @@ use std::net::{Net, TcpListener, TcpStream};
 use std::rt::Files;
 use std::time::Clock;
 
-/// Waits for one connection to the place, without end, and serves its session. Its last frame, by which the other side is
+/// Waits for one connection to the location, without end, and serves its session. Its last frame, by which the other side is
 /// done, is sent once the state is saved. The state is saved also where the session ended early. The fault is that of the
 /// state, as it is read first; then `Net`; then that of the session, `Sync` or `TooLong` where the other side sends more than it
 /// may, or else `Authors`, where it brings too many, or that of the state, as it is saved; then that of the last frame.
@@ -29,14 +27,14 @@ where
     E: Write,
 {
     let (mut loaded, _) = Loaded::read(rt, endpoint.state)?;
-    let listener = bound(rt, endpoint.place)?;
-    let taken = accepted(rt, &listener, endpoint.place);
-    leave(rt, endpoint.place);
+    let listener = bound(rt, endpoint.location)?;
+    let taken = accepted(rt, &listener, endpoint.location);
+    leave(rt, endpoint.location);
     let stream = taken?;
     both_ways(rt, endpoint, &stream)?.answer(rt, endpoint.state, &mut loaded, advice)
 }
 
-/// Connects to the place, and has one session with what serves there, as this kind of client, over what the state said,
+/// Connects to the location, and has one session with what serves there, as this kind of client, over what the state said,
 /// which takes what the session brings. The state is saved once the session is done, and also where it ended early. The outcome
 /// is what the server says behind its last frame, if it says so. The fault is `Net`; then that of the session, `Sync` or
 /// `TooLong` where the other side sends more than it may, or else `Authors`, where it brings too many, or that of the state, as
@@ -47,12 +45,12 @@ pub fn sync<R, E>(
     role: Role,
     loaded: &mut Loaded,
     advice: &mut Advice<'_, E>,
-) -> Result<Outcome, Failure>
+) -> Result<Agreement, Failure>
 where
     R: Files<File = File> + AllocGlobal + Net<Stream = TcpStream, Listener = TcpListener> + Clock,
     E: Write,
 {
-    let stream = connected(rt, endpoint.place, endpoint.patience)?;
+    let stream = connected(rt, endpoint.location, endpoint.patience)?;
     both_ways(rt, endpoint, &stream)?.ask(rt, endpoint.state, role, loaded, advice)
 }
 
@@ -67,11 +65,11 @@ fn both_ways<'a, R: AllocGlobal + Clock>(
         Connection::new(rt, stream, endpoint.patience),
     ) {
         (Ok(input), Ok(output)) => Ok(Streams {
-            name: endpoint.place.name(),
+            name: endpoint.location.name(),
             input: Bounded::new(input, endpoint.allowance.most),
             output,
             allowance: endpoint.allowance,
         }),
-        _ => Err(Failure::of(rt.alloc(), Fault::Net, endpoint.place.name())),
+        _ => Err(Failure::of(rt.alloc(), Fault::Net, endpoint.location.name())),
     }
 }

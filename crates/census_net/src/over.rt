@@ -1,11 +1,10 @@
 //! Sessions over two streams that are lent, as a shell and `ssh` lend standard input and output.
 
 use crate::allowance::Allowance;
-use crate::bounded::Bounded;
 use crate::record_file::Loaded;
-use crate::session::{Outcome, Streams};
-use crate::ways::{LentInput, LentOutput};
+use crate::session::{Agreement, Streams};
 use census_failure::{Advice, Failure, INPUT_NAME};
+use census_transport::{Bounded, LentInput, LentOutput};
 use oct_sync::Role;
 use std::fs::File;
 use std::io::{Read, Write};
@@ -24,7 +23,7 @@ pub fn sync_over<R, I, O, E>(
     input: &mut I,
     output: &mut O,
     advice: &mut Advice<'_, E>,
-) -> Result<Outcome, Failure>
+) -> Result<Agreement, Failure>
 where
     R: Files<File = File> + AllocGlobal + Net,
     I: Read,

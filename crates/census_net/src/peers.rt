@@ -1,16 +1,13 @@
 //! A hub: many sessions at once, in one thread.
 
-use crate::endpoint::{Endpoint, Place, bound, leave};
+use crate::endpoint::{Endpoint, Location, bound, leave};
 use crate::guest::{Bounds, Guest, sooner};
 use crate::kept::{Kept, Settled};
-use crate::moment::Moment;
-use crate::room::{OUTPUT, has_room};
-use crate::sockets::{Listener, Peer};
 use crate::unsaved::{is_of_peer, unsaved};
-use crate::visitors::{Door, Visitor};
 use census_diagnosis::unserved;
 use census_failure::{Failure, escaped, explanation, foreign_text};
 use census_state::Fault;
+use census_transport::{Door, Listener, Moment, OUTPUT, PeerAddress, Visitor, has_room};
 use mio::{Events, Poll, Token};
 use oct_ops::Dot;
 use slab::Slab;
@@ -72,7 +69,7 @@ struct Host<'a, R> {
     dropped: u64,
 }
 
-/// Serves so many connections to the place, and says where it listens and how each session ended. Many sessions go
+/// Serves so many connections to the location, and says where it listens and how each session ended. Many sessions go
 /// on at once, each whenever its connection is ready; further connections wait, but the peer that was silent longest, for
 /// ten seconds or more, gives way to one. What ends a session early does not end the hub. What the state says is kept in
 /// memory: its file is read again where another stands in its place, and written before the last frame of a session that
@@ -93,7 +90,7 @@ where
 {
     let mut host = Host::open(rt, endpoint, limits)?;
     let ended = host.serve(output, errors);
-    leave(rt, endpoint.place);
+    leave(rt, endpoint.location);
     ended
 }
 
@@ -104,7 +101,7 @@ where
     // Reads the state, and then listens at the address.
     fn open(rt: &'a R, endpoint: Endpoint<'a>, limits: Limits) -> Result<Host<'a, R>, Failure> {
         let kept = Kept::read(rt, endpoint.state)?;
-        let (door, poll) = listening(rt, endpoint.place)?;
+        let (door, poll) = listening(rt, endpoint.location)?;
         Ok(Host {
             rt,
             endpoint,
@@ -140,7 +137,7 @@ where
         let line = match self.door.address() {
             Ok(Some(address)) => format!(in alloc; "listening on {address}\n")?,
             Ok(None) => {
-                let path = escaped(alloc, self.endpoint.place.name())?;
+                let path = escaped(alloc, self.endpoint.location.name())?;
                 format!(in alloc; "listening on {path}\n")?
             }
             Err(error) => return Err(self.unserved(error)),
@@ -176,7 +173,7 @@ where
 
     // The failure to go on at the address.
     fn unserved(&self, error: io::Error) -> Failure {
-        unserved(self.rt.alloc(), self.endpoint.place.name(), error)
+        unserved(self.rt.alloc(), self.endpoint.location.name(), error)
     }
 
     // Whether a connection may wait for which there is room, or a guest that gives way.
@@ -248,7 +245,7 @@ where
     }
 
     // Begins the session of a connection. The fault is `Net`, and `OutOfMemory`.
-    fn seat(&mut self, stream: Visitor, peer: Peer, now: Instant) -> Result<(), Failure> {
+    fn seat(&mut self, stream: Visitor, peer: PeerAddress, now: Instant) -> Result<(), Failure> {
         let bounds = Bounds {
             patience: self.endpoint.patience,
             allowance: self.endpoint.allowance,
@@ -372,7 +369,7 @@ where
     // The line of a session that was done: when and whose it was, how many operations are new and how many there are, the first
     // digits of their digest, by whom the new ones are, and which dots are used twice since, as far as a line may be long; and how
     // many authors are left out of its clock.
-    fn line(&mut self, peer: Peer, settled: &Settled) -> Result<Vec<u8>, Failure> {
+    fn line(&mut self, peer: PeerAddress, settled: &Settled) -> Result<Vec<u8>, Failure> {
         let alloc = self.rt.alloc();
         let mut line = Vec::new(alloc);
         let front = format!(in alloc; "{} peer {peer} ", Moment::now(self.rt))?;
@@ -446,15 +443,15 @@ fn way_given(heard: Instant) -> Option<Instant> {
     heard.checked_add(Duration::from_secs(SILENCE))
 }
 
-// Listens at the place without waiting, and reports each connection under the token of the listener. The fault is `Net`.
-fn listening<R>(rt: &R, place: Place<'_>) -> Result<(Door, Poll), Failure>
+// Listens at the location without waiting, and reports each connection under the token of the listener. The fault is `Net`.
+fn listening<R>(rt: &R, location: Location<'_>) -> Result<(Door, Poll), Failure>
 where
     R: Files + AllocGlobal + Net<Stream = TcpStream, Listener = TcpListener>,
 {
-    let listener = bound(rt, place)?;
+    let listener = bound(rt, location)?;
     match polled(rt, listener) {
         Ok(both) => Ok(both),
-        Err(error) => Err(unserved(rt.alloc(), place.name(), error)),
+        Err(error) => Err(unserved(rt.alloc(), location.name(), error)),
     }
 }
 
@@ -470,7 +467,7 @@ where
 }
 
 // Says why a session ended early, and what that means.
-fn say_failure<R, E>(rt: &R, errors: &mut E, peer: Peer, failure: Failure)
+fn say_failure<R, E>(rt: &R, errors: &mut E, peer: PeerAddress, failure: Failure)
 where
     R: AllocGlobal + Clock,
     E: Write,

@@ -2,7 +2,7 @@
 
 use census_diagnosis::{Given, of_state};
 use census_failure::Failure;
-use census_files::{Seen, StateFile, Text, open_file, read_open, read_state, stateless};
+use census_files::{FileStamp, StateFile, Text, open_file, read_open, read_state, stateless};
 use census_state::{Fault, Reply, is_too_long, rejoin, rejoined_text, unchanged, write_state};
 use oct_ops::{Dot, Op};
 use oct_record::Record;
@@ -27,7 +27,7 @@ pub(crate) struct Saved {
 #[derive(Drop)]
 pub(crate) struct Standing {
     file: File,
-    seen: Seen,
+    stamp: FileStamp,
 }
 
 impl Standing {
@@ -43,7 +43,7 @@ impl Standing {
         match file.metadata() {
             Ok(there) => Ok(Standing {
                 file,
-                seen: Seen::of(&there),
+                stamp: FileStamp::of(&there),
             }),
             Err(error) => Err(Failure::of(rt.alloc(), Fault::File, state).because(error)),
         }
@@ -57,7 +57,7 @@ impl Standing {
     /// Whether it stands at the path still, and was not changed since. Nothing of it is read.
     pub(crate) fn stands<R: Files>(&self, rt: &R, state: &str) -> bool {
         match fs::metadata(rt, state) {
-            Ok(there) => Seen::of(&there) == self.seen,
+            Ok(there) => FileStamp::of(&there) == self.stamp,
             Err(_) => false,
         }
     }

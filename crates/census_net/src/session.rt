@@ -1,17 +1,16 @@
 //! One session over two streams: the frames, what is saved after them, and what a server says behind them.
 
 use crate::allowance::Allowance;
-use crate::bounded::Bounded;
 use crate::record_file::Loaded;
 use crate::refused::{refused_text, remedy_text};
 use crate::unsaved::{is_of_peer, unsaved};
-use crate::ways::{HEAD, Source, Way};
 use census_failure::{Advice, Failure};
 use census_fold::{
     CLOSING_LENGTH, REFUSAL_LENGTH, Refusal, author_count, check_authors, closing_digits,
     closing_frame, is_apart, new_forks, read_refusal, record_digest, refusal_frame,
 };
 use census_state::Fault;
+use census_transport::{Bounded, HEAD, Source, Way};
 use oct_record::Record;
 use oct_store::Fork;
 use oct_sync::{Role, SyncError, converse, drive};
@@ -23,7 +22,7 @@ use written::write_out;
 
 /// How the two sides stand after a session that is done.
 #[derive(Clone, Copy, PartialEq, Eq)]
-pub enum Outcome {
+pub enum Agreement {
     /// The other side holds the same operations, or does not say what it holds.
     Together,
     /// The other side holds other operations: a number was used twice.
@@ -126,7 +125,7 @@ impl<I: Source, O: Write + Way> Streams<'_, I, O> {
         role: Role,
         loaded: &mut Loaded,
         advice: &mut Advice<'_, E>,
-    ) -> Result<Outcome, Failure>
+    ) -> Result<Agreement, Failure>
     where
         R: Files<File = File> + AllocGlobal,
         E: Write,
@@ -140,7 +139,7 @@ impl<I: Source, O: Write + Way> Streams<'_, I, O> {
                 let own = digits_of(alloc, role, loaded.said());
                 let closing = read_behind(alloc, &mut self.input, CLOSING_LENGTH);
                 self.keep(rt, state, loaded, before, advice)?;
-                Ok(outcome_of(own.as_deref(), &closing))
+                Ok(agreement_of(own.as_deref(), &closing))
             }
             Err(cause) => {
                 let failure = self.explained(alloc, cause);
@@ -279,10 +278,10 @@ fn digits_of(alloc: Global, role: Role, said: &Record<Global>) -> Option<Vec<u8>
 }
 
 // What the server says of what is held, by its digest; nothing where either is not known.
-fn outcome_of(own: Option<&[u8]>, closing: &[u8]) -> Outcome {
+fn agreement_of(own: Option<&[u8]>, closing: &[u8]) -> Agreement {
     match (own, closing_digits(closing)) {
-        (Some(own), Some(digits)) if is_apart(own, digits) => Outcome::Apart,
-        _ => Outcome::Together,
+        (Some(own), Some(digits)) if is_apart(own, digits) => Agreement::Apart,
+        _ => Agreement::Together,
     }
 }
 

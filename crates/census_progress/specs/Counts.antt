@@ -4,11 +4,11 @@ use Rattle.oct_code.specs.Code.{Code, code_eq}
 use Rattle.census_progress.specs.declared.count.Count.{Count}
 use Rattle.census_progress.specs.declared.count.Turns.{Turns}
 use Rattle.census_progress.specs.declared.line_text.Pace.{Pace}
-use Rattle.census_progress.specs.declared.line_text.Told.{Told}
-use Rattle.census_progress.specs.declared.line_text.Told.TheVariants.{Values, Turn, Games, Files}
+use Rattle.census_progress.specs.declared.line_text.Work.{Work}
+use Rattle.census_progress.specs.declared.line_text.Work.TheVariants.{Values, Turn, Games, Files}
 
 -- the nim-values of a game; of games that have their turns, those whose turn is over; of files, those before the one that is next
-abbrev pub count_of : Told → Count
+abbrev pub count_of : Work → Count
 count_of (Values c known wanted) = record { code = Some c; done = known; all = wanted }
 count_of (Turn c known wanted number all) = record { code = None; done = number - 1; all = all }
 count_of (Games c done all) = record { code = None; done = done; all = all }

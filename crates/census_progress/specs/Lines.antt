@@ -4,8 +4,8 @@ use Rattle.oct_code.specs.Code.{Code}
 use Rattle.oct_code.specs.CodeText.{code_text}
 use Rattle.oct_text.specs.Words.{Text, labelled}
 use Rattle.census_progress.specs.declared.line_text.Pace.{Pace}
-use Rattle.census_progress.specs.declared.line_text.Told.{Told}
-use Rattle.census_progress.specs.declared.line_text.Told.TheVariants.{Values, Turn, Games, Files}
+use Rattle.census_progress.specs.declared.line_text.Work.{Work}
+use Rattle.census_progress.specs.declared.line_text.Work.TheVariants.{Values, Turn, Games, Files}
 
 -- how often the second number goes into the first, rounded up
 abbrev pub times : ℕ → ℕ → ℕ
@@ -35,13 +35,13 @@ left_text pace =
 abbrev pub values_text : Code → ℕ → ℕ → Text
 values_text c known wanted = code_text c ++ labelled (codes " ") known ++ labelled (codes " of ") wanted
 
--- what is told, and how many are done a second where it is values
-abbrev pub told_text : Told → Pace → Text
-told_text (Values c known wanted) pace = values_text c known wanted ++ rate_text pace
-told_text (Turn c known wanted number all) pace = values_text c known wanted ++ labelled (codes ", game ") number ++ labelled (codes " of ") all
-told_text (Games c done all) pace = codes "games " ++ code_text c ++ labelled (codes ", ") done ++ labelled (codes " of ") all
-told_text (Files number all) pace = labelled (codes "file ") number ++ labelled (codes " of ") all
+-- what is worked on, and how many are done a second where it is values
+abbrev pub work_text : Work → Pace → Text
+work_text (Values c known wanted) pace = values_text c known wanted ++ rate_text pace
+work_text (Turn c known wanted number all) pace = values_text c known wanted ++ labelled (codes ", game ") number ++ labelled (codes " of ") all
+work_text (Games c done all) pace = codes "games " ++ code_text c ++ labelled (codes ", ") done ++ labelled (codes " of ") all
+work_text (Files number all) pace = labelled (codes "file ") number ++ labelled (codes " of ") all
 
 -- it stands in place of what stood on the line of the terminal before: a carriage return, the text, and ESC [ K
-abbrev pub line_text : Told → Pace → Text
-line_text told pace = (13 ∷ []) ++ told_text told pace ++ left_text pace ++ (27 ∷ 91 ∷ 75 ∷ [])
+abbrev pub line_text : Work → Pace → Text
+line_text work pace = (13 ∷ []) ++ work_text work pace ++ left_text pace ++ (27 ∷ 91 ∷ 75 ∷ [])

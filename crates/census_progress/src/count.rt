@@ -3,7 +3,7 @@
 ghost use Rattle.std.specs.Prelude.{◌≡◌, ◌-◌};
 ghost use Rattle.census_progress.specs.Counts.{count_of, is_same, leads_to, next_turn, pace_to, turns_of};
 
-use crate::line_text::{Pace, Told};
+use crate::line_text::{Pace, Work};
 use oct_code::Code;
 
 /// How many are done, of how many.
@@ -18,12 +18,12 @@ pub(crate) struct Count {
 }
 
 impl Count {
-    /// What is counted where this is told. Games that have their turns are counted, and not the nim-values of one.
-    pub(crate) fn of(told: &Told) -> Count
-        ensures { result ≡ count_of told.now }
+    /// What is counted of this work. Games that have their turns are counted, and not the nim-values of one.
+    pub(crate) fn of(work: &Work) -> Count
+        ensures { result ≡ count_of work.now }
     {
-        match told {
-            Told::Values {
+        match work {
+            Work::Values {
                 code,
                 known,
                 wanted,
@@ -32,13 +32,13 @@ impl Count {
                 done: *known,
                 all: *wanted,
             },
-            Told::Turn { number, all, .. } => Count::without_last(*number, *all),
-            Told::Games { done, all, .. } => Count {
+            Work::Turn { number, all, .. } => Count::without_last(*number, *all),
+            Work::Games { done, all, .. } => Count {
                 code: None,
                 done: *done,
                 all: *all,
             },
-            Told::Files { number, all } => Count::without_last(*number, *all),
+            Work::Files { number, all } => Count::without_last(*number, *all),
         }
     }
 

@@ -1,7 +1,7 @@
 //! The text of the line that says how far a command is.
 
 ghost use Rattle.std.specs.Prelude.{◌≡◌, ◌++◌, IfOk, OnOk};
-ghost use Rattle.census_progress.specs.Lines.{left_text, line_text, rate_text, time_text, told_text, values_text};
+ghost use Rattle.census_progress.specs.Lines.{left_text, line_text, rate_text, time_text, work_text, values_text};
 
 use oct_code::Code;
 use oct_text::{append_labelled, append_text};
@@ -17,9 +17,9 @@ const HOUR: u128 = 3_600;
 
 const DAY: u128 = 86_400;
 
-/// What is told: how many are done, of how many in all.
+/// What a command works on: how many are done, of how many in all.
 #[derive(Clone, Copy)]
-pub(crate) enum Told {
+pub(crate) enum Work {
     /// Nim-values of a game.
     Values {
         code: Code,
@@ -59,22 +59,22 @@ pub(crate) struct Pace {
 }
 
 /// The line in place of the one that stands there.
-pub(crate) fn line_of(alloc: Global, told: &Told, pace: Pace) -> Result<Vec<u8>, AllocError>
-    ensures { IfOk result (λ line. line.items ≡ line_text told.now pace) }
+pub(crate) fn line_of(alloc: Global, work: &Work, pace: Pace) -> Result<Vec<u8>, AllocError>
+    ensures { IfOk result (λ line. line.items ≡ line_text work.now pace) }
 {
     let mut line = Vec::from_slice(alloc, b"\r")?;
-    append_told(&mut line, told, pace)?;
+    append_work(&mut line, work, pace)?;
     append_left(&mut line, pace)?;
     append_text(&mut line, b"\x1b[K")?;
     Ok(line)
 }
 
-// Appends what is told.
-fn append_told(line: &mut Vec<u8>, told: &Told, pace: Pace) -> Result<(), AllocError>
-    ensures { OnOk result (line.new.items ≡ line.old.items ++ told_text told.now pace) }
+// Appends what is worked on.
+fn append_work(line: &mut Vec<u8>, work: &Work, pace: Pace) -> Result<(), AllocError>
+    ensures { OnOk result (line.new.items ≡ line.old.items ++ work_text work.now pace) }
 {
-    match told {
-        Told::Values {
+    match work {
+        Work::Values {
             code,
             known,
             wanted,
@@ -82,7 +82,7 @@ fn append_told(line: &mut Vec<u8>, told: &Told, pace: Pace) -> Result<(), AllocE
             append_values(line, *code, *known, *wanted)?;
             append_rate(line, pace)
         }
-        Told::Turn {
+        Work::Turn {
             code,
             known,
             wanted,
@@ -93,13 +93,13 @@ fn append_told(line: &mut Vec<u8>, told: &Told, pace: Pace) -> Result<(), AllocE
             append_labelled(line, b", game ", *number)?;
             append_labelled(line, b" of ", *all)
         }
-        Told::Games { code, done, all } => {
+        Work::Games { code, done, all } => {
             append_text(line, b"games ")?;
             code.append_text(line)?;
             append_labelled(line, b", ", *done)?;
             append_labelled(line, b" of ", *all)
         }
-        Told::Files { number, all } => {
+        Work::Files { number, all } => {
             append_labelled(line, b"file ", *number)?;
             append_labelled(line, b" of ", *all)
         }

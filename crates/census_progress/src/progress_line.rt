@@ -4,7 +4,7 @@ ghost use Rattle.std.specs.Prelude.{◌≡◌};
 ghost use Rattle.census_progress.specs.Counts.{next_turns, turns_of};
 
 use crate::count::{Count, Turns};
-use crate::line_text::{Pace, Told, line_of};
+use crate::line_text::{Pace, Work, line_of};
 use census_failure::{Advice, Audience};
 use oct_code::Code;
 use oct_pages::GameProgress;
@@ -77,11 +77,11 @@ impl<'a, R: AllocGlobal + Clock, E: Write> ProgressLine<'a, R, E> {
 
     /// The file of this number, from 1 on, is next, of so many in all. It is said after a second.
     pub fn tell_file(&mut self, number: usize, all: usize) {
-        let told = Told::Files {
+        let work = Work::Files {
             number: number as u64,
             all: all as u64,
         };
-        self.write(told, self.first_pause());
+        self.write(work, self.first_pause());
     }
 
     /// Takes the line away.
@@ -98,14 +98,14 @@ impl<'a, R: AllocGlobal + Clock, E: Write> ProgressLine<'a, R, E> {
         &mut self.advice
     }
 
-    // Writes the line of what is told, where the last one, or the command, has stood for so many milliseconds.
-    fn write(&mut self, told: Told, pause: u64) {
+    // Writes the line of the work, where the last one, or the command, has stood for so many milliseconds.
+    fn write(&mut self, work: Work, pause: u64) {
         let Some(last) = self.last else {
             return;
         };
-        let pace = self.pace(Count::of(&told));
+        let pace = self.pace(Count::of(&work));
         if self.has_passed(last, pause) {
-            if let Ok(line) = line_of(self.rt.alloc(), &told, pace) {
+            if let Ok(line) = line_of(self.rt.alloc(), &work, pace) {
                 self.last = Instant::now(self.rt).ok();
                 self.is_shown = true;
                 let _ = write_out(self.advice.errors(), &line);
@@ -153,19 +153,19 @@ impl<'a, R: AllocGlobal + Clock, E: Write> ProgressLine<'a, R, E> {
 
 impl<'a, R: AllocGlobal + Clock, E: Write> GameProgress for ProgressLine<'a, R, E> {
     fn tell(&mut self, code: Code, done: u64, all: u64) {
-        self.write(Told::Games { code, done, all }, self.first_pause());
+        self.write(Work::Games { code, done, all }, self.first_pause());
     }
 }
 
 impl<'a, R: AllocGlobal + Clock, E: Write> Progress for ProgressLine<'a, R, E> {
     fn tell(&mut self, code: Code, known: u64, wanted: u64) {
-        let told = match self.turns {
-            None => Told::Values {
+        let work = match self.turns {
+            None => Work::Values {
                 code,
                 known,
                 wanted,
             },
-            Some(turns) => Told::Turn {
+            Some(turns) => Work::Turn {
                 code,
                 known,
                 wanted,
@@ -173,6 +173,6 @@ impl<'a, R: AllocGlobal + Clock, E: Write> Progress for ProgressLine<'a, R, E> {
                 all: turns.all,
             },
         };
-        self.write(told, PAUSE);
+        self.write(work, PAUSE);
     }
 }

@@ -7,7 +7,7 @@ use crate::pause::Pause;
 use crate::progress_line::ProgressLine;
 use census_diagnosis::{Given, of_saved};
 use census_failure::{Failure, shown};
-use census_files::{Seen, StateFile, check_apart, exists, read_file};
+use census_files::{FileStamp, StateFile, check_apart, exists, read_file};
 use census_search::{read_search, resume_in_windows, search_in_windows};
 use census_state::Fault;
 use oct_code::Code;
@@ -71,7 +71,7 @@ where
     let alloc = rt.alloc();
     file.check_held(alloc)?;
     check_apart(rt, file.path())?;
-    let seen = file.seen(rt)?;
+    let stamp = file.stamp(rt)?;
     let place = saved_place(rt, sought.code, file.path())?;
     if let Some(place) = &place {
         tell_start(alloc, place, file.path(), progress);
@@ -80,7 +80,7 @@ where
         rt,
         file,
         progress,
-        seen,
+        stamp,
         pause: Pause::over(PAUSE),
         failure: None,
     };
@@ -170,7 +170,7 @@ struct Saver<'a, R, P> {
     file: &'a StateFile,
     progress: &'a mut P,
     /// The file as it was read or last written; none where there was none.
-    seen: Option<Seen>,
+    stamp: Option<FileStamp>,
     pause: Pause,
     /// Why a place was not saved.
     failure: Option<Failure>,
@@ -190,12 +190,12 @@ impl<R: Files<File = File> + AllocGlobal + Clock, P: Progress> Saver<'_, R, P> {
         ensures { self.new.failure ≡ self.old.failure }
     {
         let text = write_place(self.rt.alloc(), place)?;
-        let there = self.file.seen(self.rt)?;
-        if there.is_some() && there != self.seen {
+        let there = self.file.stamp(self.rt)?;
+        if there.is_some() && there != self.stamp {
             return Err(foreign(self.rt.alloc(), self.file.path()));
         }
         self.file.replace(self.rt, &text)?;
-        self.seen = self.file.seen(self.rt)?;
+        self.stamp = self.file.stamp(self.rt)?;
         self.check_own(&text)?;
         self.pause.begin(self.rt);
         Ok(())

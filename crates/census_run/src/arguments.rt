@@ -1,7 +1,7 @@
 //! The program over the words that it was called with.
 
 use crate::program::{report, run_watched};
-use crate::readers::Readers;
+use census_commands::Readers;
 use census_core::Fault;
 use census_failure::{Audience, Failure};
 use std::alloc::Global;
@@ -19,9 +19,13 @@ const EXPLAIN: &str = "CENSUS_EXPLAIN";
 // The variable that is set and not empty where no colours are wanted, as https://no-color.org has it.
 const NO_COLOR: &str = "NO_COLOR";
 
+// The variable that says how many columns a terminal has, where a shell hands it on.
+const COLUMNS: &str = "COLUMNS";
+
 /// Does the command line that the program was called with, as `run` does its words, and says on a terminal how far it
 /// is. Advice is given there, and where the variable `CENSUS_EXPLAIN` of the environment is `1`. Colours are shown on a terminal
-/// alone, and not where the variable `NO_COLOR` is set and not empty. The fault is `Words` where a word is not UTF-8.
+/// alone, and not where the variable `NO_COLOR` is set and not empty, and lines in columns are there as wide as the variable `COLUMNS`
+/// says. The fault is `Words` where a word is not UTF-8.
 pub fn run_called<R, I, O, E>(rt: &R, input: &mut I, output: &mut O, errors: &mut E) -> u8
 where
     R: Env
@@ -44,6 +48,7 @@ where
     let readers = Readers {
         audience,
         is_plain: is_plain(rt),
+        columns: columns(rt),
     };
     match words_of(rt) {
         Ok(words) => run_watched(rt, &words, input, output, errors, readers),
@@ -64,6 +69,15 @@ fn is_plain<R: Env + AllocGlobal>(rt: &R) -> bool {
     match env::var(rt, NO_COLOR) {
         Ok(value) => !value.is_empty(),
         Err(_) => false,
+    }
+}
+
+// How wide the environment says a terminal is; nothing where it says no number, or 0.
+fn columns<R: Env + AllocGlobal>(rt: &R) -> Option<usize> {
+    let said = env::var(rt, COLUMNS).ok()?;
+    match said.as_str().parse::<usize>() {
+        Ok(0) | Err(_) => None,
+        Ok(columns) => Some(columns),
     }
 }
 

@@ -1,12 +1,11 @@
 //! The program over any three streams.
 
-use crate::commands::{chapters, done, hub};
-use crate::readers::Readers;
-use crate::system::System;
 use crate::task::read_task;
+use census_commands::{Readers, chapters, done, is_unwatched};
 use census_core::Fault;
 use census_failure::{Advice, Audience, Failure, INPUT_NAME, OUTPUT_NAME, escaped_lines};
 use census_files::Noted;
+use census_requests::System;
 use census_words::words::EXPLAIN;
 use census_words::{command, first_screen};
 use clap::ArgMatches;
@@ -46,6 +45,7 @@ where
     let readers = Readers {
         audience,
         is_plain: true,
+        columns: None,
     };
     run_watched(rt, words, input, output, errors, readers)
 }
@@ -99,11 +99,11 @@ where
 
 // Whether faults are explained also where nobody watches: that is asked for, or the command is `hub`.
 fn is_explained(matches: &ArgMatches<'_>) -> bool {
-    let is_hub = match matches.subcommand() {
-        Some((name, _)) => name == hub::ROW.name,
+    let is_unwatched = match matches.subcommand() {
+        Some((name, _)) => is_unwatched(name),
         None => false,
     };
-    is_hub || matches.get_flag(EXPLAIN.name)
+    is_unwatched || matches.get_flag(EXPLAIN.name)
 }
 
 // The failure, with what the system said where a stream failed.

@@ -1,9 +1,9 @@
 //! What a command line asks for.
 
-use crate::commands::{Task, chapters, task_of};
+use census_commands::{Task, chapters, task_of};
 use census_core::Fault;
 use census_failure::{Failure, Reason};
-use census_words::{Row, row_named, words_text};
+use census_words::{CommandRow, row_named, words_text};
 use clap::ArgMatches;
 use std::alloc::{AllocError, Global};
 use std::io::Read;
@@ -35,7 +35,7 @@ where
 }
 
 // The failure of a word, with the order in which the words of its command stand.
-fn in_order(alloc: Global, failure: Failure, row: &Row) -> Failure {
+fn in_order(alloc: Global, failure: Failure, row: &CommandRow) -> Failure {
     if failure.fault != Fault::Number && failure.fault != Fault::Words {
         return failure;
     }
@@ -48,7 +48,7 @@ fn in_order(alloc: Global, failure: Failure, row: &Row) -> Failure {
     failure.found(text).advise(advice)
 }
 
-fn order_text(alloc: Global, found: &str, row: &Row) -> Result<String, AllocError> {
+fn order_text(alloc: Global, found: &str, row: &CommandRow) -> Result<String, AllocError> {
     let words = words_text(alloc, row.words)?;
     format!(in alloc; "{found}; the order is{words}")
 }

@@ -1,6 +1,6 @@
 //! The command line of the program, made from the table of the commands.
 
-use crate::table::{Chapter, Row};
+use crate::table::{Chapter, CommandRow};
 use crate::words::{self, Choice, Takes, Times, Word};
 use clap::{Arg, ArgAction, Command};
 use std::alloc::{AllocError, Global};
@@ -13,7 +13,7 @@ pub fn command<'a>(
 ) -> Result<Command<'a>, AllocError> {
     let mut command = Command::new(alloc, "census")
         .bin_name("census")?
-        .version("2.6.0")
+        .version("2.7.0")
         .override_help(screen)
         .no_binary_name(true)
         .subcommand_required(true)
@@ -27,7 +27,7 @@ pub fn command<'a>(
 }
 
 // The command of this row.
-fn command_of<'a>(alloc: Global, row: &Row) -> Result<Command<'a>, AllocError> {
+fn command_of<'a>(alloc: Global, row: &CommandRow) -> Result<Command<'a>, AllocError> {
     let mut command = Command::new(alloc, row.name)
         .about(row.about)
         .after_help(row.after);

@@ -1,6 +1,6 @@
 //! How shells complete the words of a command line, made from the table of the commands.
 
-use crate::table::{Chapter, Row};
+use crate::table::{Chapter, CommandRow};
 use crate::words::{self, Choice, Takes};
 use std::alloc::AllocError;
 
@@ -43,7 +43,7 @@ pub fn append_completions(
 const SHELLS: &str = "bash zsh fish";
 
 // The words that a command takes, where these are known: names of faults or of shells.
-fn known_words<'a>(row: &Row, faults: &'a str) -> Option<&'a str> {
+fn known_words<'a>(row: &CommandRow, faults: &'a str) -> Option<&'a str> {
     for word in row.words {
         if word.name == words::FAULT.name {
             return Some(faults);
@@ -103,7 +103,7 @@ fn append_bash(text: &mut String, chapters: &[Chapter], faults: &str) -> Result<
 }
 
 // The options of a command and the words that it is known to take, for bash.
-fn append_bash_row(text: &mut String, row: &Row, faults: &str) -> Result<(), AllocError> {
+fn append_bash_row(text: &mut String, row: &CommandRow, faults: &str) -> Result<(), AllocError> {
     append_all(text, &["  ", row.name, ") options='"])?;
     for word in row.words {
         for option in word.times.instead() {
@@ -170,7 +170,7 @@ fn append_zsh(text: &mut String, chapters: &[Chapter], faults: &str) -> Result<(
 }
 
 // The options of a command and the words that it is known to take, for zsh.
-fn append_zsh_row(text: &mut String, row: &Row, faults: &str) -> Result<(), AllocError> {
+fn append_zsh_row(text: &mut String, row: &CommandRow, faults: &str) -> Result<(), AllocError> {
     append_all(text, &["  ", row.name, ") options=("])?;
     for word in row.words {
         for option in word.times.instead() {
@@ -223,7 +223,7 @@ fn append_fish(text: &mut String, chapters: &[Chapter], faults: &str) -> Result<
 }
 
 // A command, its options and the words that it is known to take, for fish.
-fn append_fish_row(text: &mut String, row: &Row, faults: &str) -> Result<(), AllocError> {
+fn append_fish_row(text: &mut String, row: &CommandRow, faults: &str) -> Result<(), AllocError> {
     let front = "complete -c census -f -n __fish_use_subcommand -a ";
     append_all(text, &[front, row.name, " -d '"])?;
     append_quoted(text, row.line, "\\'")?;

@@ -1,6 +1,6 @@
 //! The first screen of the help, made from the table of the commands.
 
-use crate::table::{Chapter, Row};
+use crate::table::{Chapter, CommandRow};
 use crate::words::{Times, Word};
 use std::alloc::{AllocError, Global};
 
@@ -60,7 +60,7 @@ pub fn first_screen(alloc: Global, chapters: &[Chapter]) -> Result<String, Alloc
 }
 
 // The line of a command.
-fn append_line(alloc: Global, screen: &mut String, row: &Row) -> Result<(), AllocError> {
+fn append_line(alloc: Global, screen: &mut String, row: &CommandRow) -> Result<(), AllocError> {
     let called = called(alloc, row)?;
     screen.push_str("  ")?;
     screen.push_str(&called)?;
@@ -72,7 +72,7 @@ fn append_line(alloc: Global, screen: &mut String, row: &Row) -> Result<(), Allo
 }
 
 // The command and its words.
-fn called(alloc: Global, row: &Row) -> Result<String, AllocError> {
+fn called(alloc: Global, row: &CommandRow) -> Result<String, AllocError> {
     let words = words_text(alloc, row.words)?;
     let name = row.name;
     format!(in alloc; "{name}{words}")

@@ -4,7 +4,7 @@
 //! made from the rows that are handed in, so that a command is added by a row and is then parsed, helped, listed in the manual
 //! and completed by shells:
 //!
-//! - `Row` is a row, and `Chapter` some rows under a title; `words` has the words and options that rows share.
+//! - `CommandRow` is such a row, and `Chapter` some rows under a title; `words` has the words and options that rows share.
 //! - `command` makes the command line that `clap` parses, and `first_screen` the first screen of the help.
 //! - `manual_page` makes the page of the manual; its list of faults, each an `Entry`, is handed in too.
 //! - `append_completions` makes what a `Shell` completes words by.
@@ -26,4 +26,4 @@ pub use completion::{Shell, append_completions};
 pub use entry::Entry;
 pub use help::{first_screen, words_text};
 pub use manual::manual_page;
-pub use table::{Chapter, Row, row_named};
+pub use table::{Chapter, CommandRow, row_named};

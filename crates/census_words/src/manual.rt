@@ -3,7 +3,7 @@
 use crate::entry::Entry;
 use crate::help::{EXAMPLE, TITLE, words_text};
 use crate::manual_texts::{DESCRIPTION, FAULTS, FILES, SEE_ALSO};
-use crate::table::{Chapter, Row};
+use crate::table::{Chapter, CommandRow};
 use crate::words::{self, Choice, Takes, Word};
 use std::alloc::{AllocError, Global};
 
@@ -79,7 +79,7 @@ fn append_back(page: &mut String) -> Result<(), AllocError> {
 }
 
 // What is said of a command.
-fn append_command(alloc: Global, page: &mut String, row: &Row) -> Result<(), AllocError> {
+fn append_command(alloc: Global, page: &mut String, row: &CommandRow) -> Result<(), AllocError> {
     let name = row.name;
     let about = row.about;
     let words = words_text(alloc, row.words)?;

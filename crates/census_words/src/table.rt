@@ -2,9 +2,9 @@
 
 use crate::words::{Choice, Word};
 
-/// A command: what it is called, what it takes, and what is said of it.
+/// The row of a command: what it is called, what it takes, and what is said of it.
 #[derive(Clone, Copy)]
-pub struct Row {
+pub struct CommandRow {
     /// What it is called on the command line.
     pub name: &'static str,
     /// Its words, in the order in which they stand.
@@ -25,11 +25,11 @@ pub struct Chapter {
     /// The title.
     pub title: &'static str,
     /// Their rows, in the order in which the help has them.
-    pub rows: &'static [Row],
+    pub rows: &'static [CommandRow],
 }
 
 /// The first row of the command that is called so; none where no command is.
-pub fn row_named(chapters: &[Chapter], name: &str) -> Option<Row> {
+pub fn row_named(chapters: &[Chapter], name: &str) -> Option<CommandRow> {
     for chapter in chapters {
         for row in chapter.rows {
             if row.name == name {

@@ -1,0 +1,34 @@
+//! `census bfile`: the known values of a game.
+
+use crate::commands::Task;
+use census_arguments::bytes;
+use census_core::Request;
+use census_failure::Failure;
+use census_requests::ask::asking;
+use census_words::{CommandRow, words};
+use clap::ArgMatches;
+use std::alloc::Global;
+
+/// Its row in the table.
+pub(crate) const ROW: CommandRow = CommandRow {
+    name: "bfile",
+    words: &[words::STATE, words::CODE],
+    options: &[],
+    line: "The known values as a b-file",
+    about: "Prints the known values of a game as a b-file, as the OEIS takes it",
+    after: "\
+A line for each heap from 0 on, with the heap, a space and its nim-value.
+
+Exit status: 0 done, 1 refused: Load (the state), Code; 2 command line, 3 file, 4 memory
+
+Example:
+  census bfile anna.state 0.77 > b002186.txt",
+};
+
+/// What its words ask for.
+pub(crate) fn task<'a>(alloc: Global, found: &ArgMatches<'a>) -> Result<Task<'a>, Failure> {
+    let request = Request::Bfile {
+        code: bytes(alloc, found, words::CODE)?,
+    };
+    Ok(Task::Ask(asking(found, None, request)?))
+}
