@@ -10,7 +10,7 @@ ghost use Rattle.page.specs.Answers.{catalogued, reported};
 ghost use Rattle.page.specs.Files.{held_in, is_tagged, refused_in};
 
 use census_fold::fold_intake;
-use census_state::{Fault, INPUT_LIMIT, nothing};
+use census_state::{Fault, Holdings, INPUT_LIMIT};
 use oct_delta::laws::texts_are_read;
 use oct_pages::write_catalogue_of;
 use oct_record::Record;
@@ -29,9 +29,9 @@ pub(crate) fn report<A: Allocator + Copy>(
     ensures err { IfErr result (λ e. e ≢ Fault.OutOfMemory → reported file.now ≡ Err e) }
     ensures refused { OnOk result (left_out.new ≡ refused_in file.now) }
 {
-    let said = read_file(alloc, file, left_out)?;
+    let held = read_file(alloc, file, left_out)?;
     let mut text = Vec::new(alloc);
-    write_report(&said, Shown::Brief, &mut text)?;
+    write_report(held.as_record(), Shown::Brief, &mut text)?;
     Ok(text)
 }
 
@@ -45,9 +45,9 @@ pub(crate) fn catalogue<A: Allocator + Copy>(
     ensures err { IfErr result (λ e. e ≢ Fault.OutOfMemory → catalogued file.now ≡ Err e) }
     ensures refused { OnOk result (left_out.new ≡ refused_in file.now) }
 {
-    let said = read_file(alloc, file, left_out)?;
+    let held = read_file(alloc, file, left_out)?;
     let mut text = Vec::new(alloc);
-    write_catalogue_of(&said, &mut text)?;
+    write_catalogue_of(held.as_record(), &mut text)?;
     Ok(text)
 }
 
@@ -57,8 +57,8 @@ fn read_file<A: Allocator + Copy>(
     alloc: A,
     file: &[u8],
     left_out: &mut u64,
-) -> Result<Record<A>, Fault>
-    ensures ok { IfOk result (λ said. held_in file.now ≡ Ok said.ops) }
+) -> Result<Holdings<A>, Fault>
+    ensures ok { IfOk result (λ held. held_in file.now ≡ Ok held) }
     ensures err { IfErr result (λ e. e ≢ Fault.OutOfMemory → held_in file.now ≡ Err e) }
     ensures refused { OnOk result (left_out.new ≡ refused_in file.now) }
 {
@@ -87,12 +87,13 @@ fn is_state(file: &[u8]) -> bool
 }
 
 // What a state or a delta holds.
-fn read_tagged<A: Allocator + Copy>(alloc: A, file: &[u8]) -> Result<Record<A>, Fault>
-    ensures ok { IfOk result (λ said. operations_in file.now ≡ Ok said.ops) }
+fn read_tagged<A: Allocator + Copy>(alloc: A, file: &[u8]) -> Result<Holdings<A>, Fault>
+    ensures ok { IfOk result (λ held. operations_in file.now ≡ Ok held) }
     ensures err { IfErr result (λ e. e ≢ Fault.OutOfMemory → operations_in file.now ≡ Err e) }
 {
     if is_state(file) {
-        return read_state(alloc, file);
+        let said = read_state(alloc, file)?;
+        return Ok(Holdings::of(said));
     }
     read_delta(alloc, file)
 }
@@ -107,15 +108,15 @@ fn read_state<A: Allocator + Copy>(alloc: A, file: &[u8]) -> Result<Record<A>, F
     Ok(said)
 }
 
-// What a delta says, as a record that issues nothing.
-fn read_delta<A: Allocator + Copy>(alloc: A, file: &[u8]) -> Result<Record<A>, Fault>
-    ensures ok { IfOk result (λ said. delta_of file.now ≡ Ok said.ops) }
+// What a delta says.
+fn read_delta<A: Allocator + Copy>(alloc: A, file: &[u8]) -> Result<Holdings<A>, Fault>
+    ensures ok { IfOk result (λ held. delta_of file.now ≡ Ok held) }
     ensures err { IfErr result (λ e. e ≢ Fault.OutOfMemory → delta_of file.now ≡ Err e) }
 {
     texts_are_read();
-    let mut said = nothing(alloc);
-    said.take(file)?;
-    Ok(said)
+    let mut held = Holdings::new(alloc);
+    held.take(file)?;
+    Ok(held)
 }
 
 // What lines of deltas hold, and how many are none.
@@ -123,9 +124,9 @@ fn read_lines<A: Allocator + Copy>(
     alloc: A,
     file: &[u8],
     left_out: &mut u64,
-) -> Result<Record<A>, Fault>
+) -> Result<Holdings<A>, Fault>
     requires { length file.now ≤ INPUT_LIMIT }
-    ensures ops { IfOk result (λ said. said.ops ≡ taken file.now) }
+    ensures ops { IfOk result (λ held. held ≡ taken file.now) }
     ensures refused { OnOk result (left_out.new ≡ refused file.now) }
     ensures err { IfErr result (λ e. e ≡ Fault.OutOfMemory) }
 {
@@ -133,7 +134,7 @@ fn read_lines<A: Allocator + Copy>(
     match fold_intake(alloc, &mut reader, &mut sink()) {
         Ok(intake) => {
             *left_out = intake.refused;
-            Ok(intake.said)
+            Ok(intake.held)
         }
         Err(_) => Err(Fault::OutOfMemory),
     }

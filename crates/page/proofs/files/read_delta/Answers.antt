@@ -14,4 +14,4 @@ returns-in_err-take-clause-err g c =
 
 pub returns-clause-ok : goal.returns-clause-ok
 returns-clause-ok g c =
-    of_delta c.args.file.now c.take.new.self.ops c.in_ok-take.ensures.text (rw c.in_ok-take.ensures.ok (from_none c.nothing-said.result.ops (operations_of c.args.file.now) c.nothing-said.ensures))
+    of_delta c.args.file.now c.take.new.self c.in_ok-take.ensures.text (rw c.in_ok-take.ensures.ok (from_none c.new-held.result (operations_of c.args.file.now) c.new-held.ensures))
