@@ -95,6 +95,34 @@ census site carl checked --recheck 2>told
 cmp told /dev/null
 grep -qxF "$proved" checked/0.16.html
 
+# A game of which a note alone says a long period has its line, its row and its page; one of a short period has none.
+census init dora 3 >/dev/null
+census note dora author-name 'Anna Berg' >/dev/null
+census note dora period-0-16 '0.16 period 149459 from 105351' >/dev/null
+census note dora period-0-77 '0.77 period 12 from 71' >/dev/null
+census games dora >said
+cmp said - <<'END'
+0.16 known 1 no period blocks proved 0 refuted 0 pending 0 claims proved 0 refuted 0 pending 0
+0.16 said: period 149459 from 105351, by 3 (Anna Berg)
+END
+census games dora --no-period --csv | tail -n 1 | tr -d '\r' | cmp - <(echo 0.16,1,,,,0,0,0,0,0,0)
+census games dora --period 149459 | cmp - /dev/null
+census json dora | grep -qF '"games":[{"blocks":[],"code":"0.16","known":1,"least_period":null,"periods":[],"said":[{"author":3,"name":"Anna Berg","period":149459,"start":105351}],"values":[0]}],'
+census sqlite dora | grep -cF "INTO games VALUES('0.16',1,NULL,NULL,NULL);" | cmp - <(echo 1)
+census report dora >page
+grep -cF '<p>1 game, 0 with a proved period; 1 value known.</p>' page | cmp - <(echo 1)
+grep -cF 'said: period 149459 from 105351, by 3' page | cmp - <(echo 2)
+census site dora pages
+grep -qF 'href="0.16.html"' pages/index.html
+grep -qF '<p>1 value known: as a <a href="0.16.txt">b-file</a>' pages/0.16.html
+grep -qF 'said: period 149459 from 105351, by 3' pages/0.16.html
+census show dora | grep -v '^note\|^author' | cmp - <(printf '%s\n' 'census 2' end)
+census extend dora 200 0.07 0.77 >/dev/null
+census games dora | cut -d ' ' -f 1 | cmp - <(printf '%s\n' 0.07 0.16 0.16 0.77)
+census json dora --only 0.16 | grep -qF '"games":[],'
+census unnote dora period-0-16 >/dev/null
+census games dora | cut -d ' ' -f 1 | cmp - <(printf '%s\n' 0.07 0.77)
+
 # What is refused: before anything is searched, what is no state.
 refused() {
   local due=$1 status=0

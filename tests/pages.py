@@ -342,6 +342,11 @@ def is_table_of_games(what, root, summary):
         same(f"{what}: regions of games", [part.get("aria-label") for part in root.iter(HTML + "div") if table in part and part.get("role")], [caption])
 
 
+def counted(count, word):
+    """So many of what a word names."""
+    return f"{count} {word if count == 1 else word + 's'}"
+
+
 def is_index(what, root, games, notes, forks, authors, names):
     summary = []
     for code, game in games.items():
@@ -354,7 +359,7 @@ def is_index(what, root, games, notes, forks, authors, names):
     by_period = sorted((int(row[2]), int(row[3]), list(games).index(row[0])) for row in summary if row[2])
     same(f"{what}: by period", rows(root, "Games by period"), [(str(p), str(start), list(games)[at]) for p, start, at in by_period])
     known = sum(len(game["values"]) for game in games.values())
-    totals = f"{len(games)} games, {len(by_period)} with a proved period; {known} values known."
+    totals = f"{counted(len(games), 'game')}, {len(by_period)} with a proved period; {counted(known, 'value')} known."
     if totals not in [element.text for element in root.iter(HTML + "p")]:
         fail(f"{what} does not say {totals}")
     same(f"{what}: notes", rows(root, "Notes"), [(name, called(dot, names), text) for name, dot, text in notes])

@@ -29,7 +29,19 @@ by 2 2
 END
 
 # What became of the blocks and periods, which is said where it is asked for: one of four is a claim that does not hold.
-census status anna --full | cmp - <(due 0 free; printf '%s\n' 'proved 2' 'refuted 1' 'pending 1')
+census status anna --full | cmp - <(due 0 free; printf '%s\n' 'proved 2' 'refuted 1, of them 1 of yours' 'pending 1')
+
+# Where another author's claim is refuted, it is not counted as one's own.
+cp ben other
+census delta anna anna.delta >/dev/null
+census merge other anna.delta >/dev/null
+census status other --full | grep '^proved\|^refuted\|^pending' >said
+cmp said - <<'END'
+proved 2
+refuted 1, of them 0 of yours
+pending 1
+END
+census status ben --full | tail -n 2 | cmp - <(printf '%s\n' 'refuted 0' 'pending 1')
 
 # The lock that another command holds, or nobody.
 : >anna.lock

@@ -12,11 +12,12 @@ from lib import THREE_DIGITS, done, folder, need, start
 COUNT = 65536
 KILLED = 40  # seconds after the beginning
 SECONDS = 300  # that all may take
+GAMES = [code + digit for digit in ("", *"1234567") for code in THREE_DIGITS]  # more than are done by then
 
 
 def killed(state):
     """The lines that a survey printed which was killed."""
-    with start("survey", state, str(COUNT), *THREE_DIGITS, stderr=subprocess.DEVNULL, text=True) as survey:
+    with start("survey", state, str(COUNT), *GAMES, stderr=subprocess.DEVNULL, text=True) as survey:
         time.sleep(KILLED)
         survey.kill()
         return survey.stdout.read().splitlines()
@@ -27,9 +28,9 @@ def main():
     begun = time.monotonic()
     lines = killed("state")
     need(lines, f"no game was kept in {KILLED} seconds")
-    need(len(lines) < len(THREE_DIGITS), "the survey was over before it was killed")
+    need(len(lines) < len(GAMES), "the survey was over before it was killed")
     codes = [line.split(" ")[0] for line in lines]
-    need(codes == THREE_DIGITS[: len(codes)], "the lines are not those of the first games")
+    need(codes == GAMES[: len(codes)], "the lines are not those of the first games")
     need(all(line.endswith((f" known {COUNT}", f" in {COUNT} values")) for line in lines), "a line is of a game that is not whole")
     some = lines[:20] + lines[-5:]
     found = done("find", "state", *(line.split(" ")[0] for line in some), seconds=SECONDS)

@@ -54,6 +54,14 @@ census merge other all.delta >told
 prints 'left out 0
 0.6 known 1100 issued 0' extend other 1100 0.6 --skip-done
 
+# Of all games of three digits, many of which have the values of one before them, each has its own: those that a search computes of
+# it alone.
+census init many 9 >told
+census survey many 4096 $(printf '0.%s ' {0..7}{0..7}{1..7}) >told
+for code in $(printf '0.%s ' {0..7}{0..7}{1..7}); do
+  census bfile many "$code" | diff - <(census search --bfile 4096 "$code")
+done
+
 # A fault changes nothing.
 changes_nothing 1 'Code Digit' extend state 1200 0.6 0.8
 changes_nothing 1 'Code Head' survey state 1200 0.6 5.7 0.8

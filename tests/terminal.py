@@ -11,7 +11,7 @@ import time
 
 from lib import PROGRAM, QUIET, done, expect, finish, folder, need, read, read_terminal, run, same, write
 
-COLORLESS = {name: value for name, value in QUIET.items() if name != "NO_COLOR"}
+COLORLESS = {name: value for name, value in QUIET.items() if name not in ("NO_COLOR", "COLUMNS")}
 RED, GREEN = "\x1b[31m", "\x1b[32m"
 DEAR = "4.3746474646463667"  # a game whose values take seconds
 
@@ -88,6 +88,30 @@ def games():
         same(f"{form} with colours", done("games", "a.state", form, "--color", "always"), plain)
     answer = run("games", "a.state", "--color", "blue", "--explain")
     need(answer.status == 2 and "--color must be always, never or auto, and is blue" in answer.err, f"blue: {answer}")
+
+
+def cut(line, width):
+    """What is left of a line: never less than what stands before the counts, or before who says it."""
+    room = max(width, re.search(r" blocks |, by ", line).start() + 2)
+    return line if len(line) <= room else line[: room - 2] + ".."
+
+
+def widths():
+    """Lines that do not fit a terminal are cut, by the option or by the variable, but never the code, the known length or the period."""
+    columns = without_colors(shown("games", "a.state")).splitlines()
+    for width in (1, 20, 60, 80, len(columns[0]) - 1, len(columns[0]), 1000):
+        due = [cut(line, width) for line in columns]
+        narrow = dict(COLORLESS, COLUMNS=str(width))
+        same(f"--width {width}", without_colors(shown("games", "a.state", "--width", str(width))).splitlines(), due)
+        same(f"COLUMNS={width}", without_colors(shown("games", "a.state", env=narrow)).splitlines(), due)
+        same("--width before COLUMNS", without_colors(shown("games", "a.state", "--width", "1000", env=narrow)).splitlines(), columns)
+        same("no terminal", done("games", "a.state", "--width", str(width), env=narrow), done("games", "a.state"))
+        same("colours and no terminal", without_colors(done("games", "a.state", "--color", "always", env=narrow)).splitlines(), columns)
+        same("colours and a width", without_colors(done("games", "a.state", "--color", "always", "--width", str(width))).splitlines(), due)
+    for strange in ("", "0", "wide", "-5"):
+        same(f"COLUMNS={strange}", without_colors(shown("games", "a.state", env=dict(COLORLESS, COLUMNS=strange))).splitlines(), columns)
+    answer = run("games", "a.state", "--width", "0", "--explain")
+    need(answer.status == 2, f"no width: {answer}")
 
 
 def said():
@@ -168,6 +192,7 @@ def main():
         table()
         games()
         said()
+        widths()
         searches()
         turns()
         rechecks()

@@ -120,7 +120,7 @@ test "$(count '"said":[{"author":3,"name":"C & \"D\"","period":149459,"start":10
 test "$(count '<p>said: period 149459 from 105351, by 3 (C &amp; &quot;D&quot;)</p>' report carl)" = 1
 test "$(count '<br/>said: period 149459 from 105351, by 3 (C &amp; &quot;D&quot;)</th>' report carl)" = 1
 test "$(count 'with a proved period' report carl)" = 1
-census report carl | grep -qF '1 games, 0 with a proved period'
+census report carl | grep -qF '1 game, 0 with a proved period'
 census site carl pages >/dev/null
 test "$(grep -oF '<p>said: period 149459' pages/0.16.html | wc -l)" = 1
 census games carl --no-period | head -n 1 | grep -qF '0.16 known 5 no period'

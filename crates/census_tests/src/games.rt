@@ -12,7 +12,7 @@ use metered::Metered;
 use oct_ops::{Block, Dot, Period};
 use oct_period::Outcome::{NextLoses, NextWins};
 use oct_period::{
-    Game, Outcome, PeriodClaim, PeriodStatus, Unknown, heap_value, outcome, period_status,
+    Game, Leaders, Outcome, PeriodClaim, PeriodStatus, Unknown, heap_value, outcome, period_status,
     position_value,
 };
 use oct_verify::{Ledger, Status};
@@ -363,4 +363,22 @@ fn a_proved_period_settles_far_blocks(rt: HostRuntime) {
 fn kayles_repeats_from_heap_71_on(rt: HostRuntime) {
     let heap = Metered::new(rt.alloc());
     are_settled(&rt, &heap, LONGER);
+}
+
+// The values that follow what is known, 1,024 of them.
+fn next<A: Allocator + Copy>(rt: &impl Abort, game: &mut Game<A>) -> Vec<u32, A> {
+    assert!(rt; game.ledger().known() == 1, "more is known");
+    game.compute_next(1_024).ok().expect(rt, "memory")
+}
+
+// The next values of a game are those of the game that it follows, which has the same code.
+#[test]
+fn games_lead_and_follow(rt: HostRuntime) {
+    let mut kayles = Game::new(rt.alloc(), code(&rt, "0.77"));
+    let due = next(&rt, &mut kayles);
+    let mut leaders = Leaders::new(rt.alloc());
+    kayles.lead(&mut leaders);
+    let mut game = Game::new(rt.alloc(), code(&rt, "0.77"));
+    game.follow(&leaders, 1_025).ok().expect(&rt, "memory");
+    check_equal(&rt, next(&rt, &mut game), due, "the next values");
 }

@@ -4,7 +4,7 @@ use crate::answers::{check, check_equal, code};
 use crate::vectors::KAYLES_VALUES;
 use metered::Metered;
 use oct_code::{Code, LIMIT};
-use oct_mex::{Values, first_difference};
+use oct_mex::{Leaders, Values, first_difference};
 use std::alloc::{Allocator, Global};
 use std::process::Abort;
 
@@ -41,6 +41,26 @@ fn known_games_have_their_values(rt: HostRuntime) {
     for &(text, wanted) in GAMES {
         come_to(&rt, &mut Values::new(rt.alloc(), code(&rt, text)), wanted);
     }
+}
+
+// A game goes on with the values of Kayles as long as they are its own.
+fn follows(rt: &(impl Abort + AllocGlobal), leaders: &Leaders<Global>, text: &str, wanted: &[u32]) {
+    let mut values = Values::new(rt.alloc(), code(rt, text));
+    values.room_to(84).ok().expect(rt, "room");
+    values.follow(leaders, 84);
+    check_equal(rt, values.as_slice(), wanted, text);
+}
+
+// In 0.137 two heaps may be left by another digit.
+#[test]
+fn games_follow_others(rt: HostRuntime) {
+    let mut kayles = Values::new(rt.alloc(), code(&rt, "0.77"));
+    come_to(&rt, &mut kayles, eighty_four());
+    let mut leaders = Leaders::new(rt.alloc());
+    follows(&rt, &leaders, "0.77", &[]);
+    leaders.keep(rt.alloc(), &kayles);
+    follows(&rt, &leaders, "0.77", eighty_four());
+    follows(&rt, &leaders, "0.137", &[]);
 }
 
 // A copy of the first eight values of Kayles becomes 84 on its own.
