@@ -1,7 +1,8 @@
 -- Sets whose numbers are turned by the bits of a number.
-use Rattle.std.proofs.Common.{List, Bool, true, slice_index, ◌≡◌, ℕ, ◌+◌, ◌-◌, ◌/◌, ◌%◌, ◌^◌, ◌<◌, ◌⊎◌, ◌↔◌, ◌&&◌, ◌||◌, nat_eq, nat_lt, inl, inr, arith, bit_xor, subst, sym, ◌∙◌, refl, ap}
-use Rattle.std.proofs.lemmas.Bool.{cases_eq, eqb-true, ltb-true}
+use Rattle.std.proofs.Common.{List, Bool, true, slice_index, ◌≡◌, ℕ, ◌+◌, ◌-◌, ◌/◌, ◌%◌, ◌^◌, ◌<◌, ◌≤◌, ◌⊎◌, ◌↔◌, ◌&&◌, ◌||◌, nat_eq, inl, inr, arith, bit_xor, subst, sym, ◌∙◌, refl, ap}
+use Rattle.std.proofs.lemmas.Bool.{cases_eq, eqb-true}
 use Rattle.std.proofs.lemmas.Nat.{xor_comm, xor_lt}
+use Rattle.std.proofs.Math.Pow.{pow-lt, pow_mono}
 use Rattle.std.specs.Int.Bits.{xor_assoc, xor_self, xor_zero_r}
 use Rattle.bitsets.specs.Sets.{AddsSmall, Has, IsMadeBehind}
 use Rattle.bitsets.proofs.Turned.{all_below, and_both, at_below, or_cases}
@@ -13,9 +14,6 @@ is_next k x =
 
 all_next : all_below (λ k. all_below (is_next k) 64) 6 ≡ true
 all_next = refl
-
-all_small : all_below (λ j. nat_lt (2 ^ j) 64) 6 ≡ true
-all_small = refl
 
 -- one more bit of a number
 pub next_bit : (x k : ℕ) → x < 64 → k < 6 → ((x / 2 ^ k % 2 ≡ 1) × (x % 2 ^ (k + 1) ≡ bit_xor (x % 2 ^ k) (2 ^ k))) ⊎ ((x / 2 ^ k % 2 ≡ 0) × (x % 2 ^ (k + 1) ≡ x % 2 ^ k))
@@ -30,18 +28,16 @@ next_bit x k small few =
       | inr e ↦ let b = and_both none none_is e in inr (eqb-true (x / 2 ^ k % 2) 0 b.0, eqb-true (x % 2 ^ (k + 1)) (x % 2 ^ k) b.1)
     ]
 
-pub xor_small : (v x : ℕ) → v < 64 → x < 64 → bit_xor v x < 64
-xor_small v x a b = xor_lt 6 v x a b
-
-pow_small : (k : ℕ) → k < 6 → 2 ^ k < 64
-pow_small k few = omega (arith, ltb-true (2 ^ k) 64 (at_below (λ j. nat_lt (2 ^ j) 64) 6 all_small k few))
+-- a number of few bits
+pub is_small : (d x : ℕ) → d ≤ 6 → x < 2 ^ d → x < 64
+is_small d x few small = let most : 2 ^ d ≤ 2 ^ 6 = pow_mono few in omega (arith, small, most)
 
 -- a set that is turned by one more bit, where the number has it
-pub turned_more : (old mid new x k v : ℕ) → k < 6 → v < 64 → x % 2 ^ (k + 1) ≡ bit_xor (x % 2 ^ k) (2 ^ k)
-    → ((u : ℕ) → u < 64 → Has mid u ↔ Has old (bit_xor u (x % 2 ^ k))) → Has new v ↔ Has mid (bit_xor v (2 ^ k)) → Has new v ↔ Has old (bit_xor v (x % 2 ^ (k + 1)))
-turned_more old mid new x k v few small e inner outer =
+pub turned_more : (d old mid new x k v : ℕ) → k < d → v < 2 ^ d → x % 2 ^ (k + 1) ≡ bit_xor (x % 2 ^ k) (2 ^ k)
+    → ((u : ℕ) → u < 2 ^ d → Has mid u ↔ Has old (bit_xor u (x % 2 ^ k))) → Has new v ↔ Has mid (bit_xor v (2 ^ k)) → Has new v ↔ Has old (bit_xor v (x % 2 ^ (k + 1)))
+turned_more d old mid new x k v few small e inner outer =
     let u = bit_xor v (2 ^ k) in
-    let in_mid = inner u (xor_small v (2 ^ k) small (pow_small k few)) in
+    let in_mid = inner u (xor_lt d v (2 ^ k) small (pow-lt few)) in
     let same : bit_xor u (x % 2 ^ k) ≡ bit_xor v (x % 2 ^ (k + 1)) = xor_assoc v (2 ^ k) (x % 2 ^ k) ∙ ap (bit_xor v) (xor_comm (2 ^ k) (x % 2 ^ k) ∙ sym e) in
     ((λ h. subst (Has old) same (in_mid.0 (outer.0 h))), (λ h. outer.1 (in_mid.1 (subst (Has old) (sym same) h))))
 
@@ -51,10 +47,10 @@ twice v f = xor_assoc v f f ∙ ap (bit_xor v) (xor_self f) ∙ xor_zero_r v
 reframed : (v f g : ℕ) → bit_xor (bit_xor v (bit_xor f g)) f ≡ bit_xor v g
 reframed v f g = xor_assoc v (bit_xor f g) f ∙ ap (bit_xor v) (ap (λ y. bit_xor y f) (xor_comm f g) ∙ twice g f)
 
-module _ (sets : List ℕ) (place : ℕ) (offsets values : List ℕ) where
+module _ (d : ℕ) (sets : List ℕ) (place : ℕ) (offsets values : List ℕ) where
   -- in the frame f, the set has what it had, and what the first steps make
   abbrev pub InFrame : ℕ → ℕ → ℕ → ℕ → Type 0
-  InFrame old set f end = (v : ℕ) → v < 64 → Has set v ↔ (Has old (bit_xor v f) ⊎ IsMadeBehind sets place offsets values end (bit_xor v f))
+  InFrame old set f end = (v : ℕ) → v < 2 ^ d → Has set v ↔ (Has old (bit_xor v f) ⊎ IsMadeBehind sets place offsets values end (bit_xor v f))
 
   pub frame_first : (old : ℕ) → InFrame old old 0 0
   frame_first old v small = (
@@ -63,10 +59,10 @@ module _ (sets : List ℕ) (place : ℕ) (offsets values : List ℕ) where
   )
 
   -- from one frame to another
-  pub frame_turned : (old set new f g end : ℕ) → f < 64 → g < 64 → InFrame old set f end → ((v : ℕ) → v < 64 → Has new v ↔ Has set (bit_xor v (bit_xor f g))) → InFrame old new g end
+  pub frame_turned : (old set new f g end : ℕ) → f < 2 ^ d → g < 2 ^ d → InFrame old set f end → ((v : ℕ) → v < 2 ^ d → Has new v ↔ Has set (bit_xor v (bit_xor f g))) → InFrame old new g end
   frame_turned old set new f g end small_f small_g in_f turned v small =
       let u = bit_xor v (bit_xor f g) in
-      let inner = in_f u (xor_small v (bit_xor f g) small (xor_small f g small_f small_g)) in
+      let inner = in_f u (xor_lt d v (bit_xor f g) small (xor_lt d f g small_f small_g)) in
       let back = λ (P : ℕ → Type 0). (λ (h : P (bit_xor u f)). subst P (reframed v f g) h) in
       let forth = λ (P : ℕ → Type 0). (λ (h : P (bit_xor v g)). subst P (sym (reframed v f g)) h) in
       let made = IsMadeBehind sets place offsets values end in (
@@ -93,9 +89,9 @@ module _ (sets : List ℕ) (place : ℕ) (offsets values : List ℕ) where
       )
 
   -- back in the frame 0
-  pub frame_last : (old set new f end : ℕ) → f < 64 → InFrame old set f end → ((v : ℕ) → v < 64 → Has new v ↔ Has set (bit_xor v f)) → AddsSmall old new (IsMadeBehind sets place offsets values end)
+  pub frame_last : (old set new f end : ℕ) → f < 2 ^ d → InFrame old set f end → ((v : ℕ) → v < 2 ^ d → Has new v ↔ Has set (bit_xor v f)) → AddsSmall d old new (IsMadeBehind sets place offsets values end)
   frame_last old set new f end small_f in_f turned v small =
-      let inner = in_f (bit_xor v f) (xor_small v f small small_f) in
+      let inner = in_f (bit_xor v f) (xor_lt d v f small small_f) in
       let made = IsMadeBehind sets place offsets values end in (
         (λ h. elim (inner.0 ((turned v small).0 h)) [ inl o ↦ inl (subst (Has old) (twice v f) o) | inr m ↦ inr (subst made (twice v f) m) ]),
         (λ c. (turned v small).1 (inner.1 (elim c [ inl o ↦ inl (subst (Has old) (sym (twice v f)) o) | inr m ↦ inr (subst made (sym (twice v f)) m) ]))),

@@ -1,3 +1,4 @@
 pub mod Bits
 mod Framing
 mod Turned
+pub mod Words

@@ -1,5 +1,5 @@
 -- Sets of small numbers in the bits of words.
-use Rattle.std.specs.Prelude.{◌≡◌, ℕ, ◌-◌, ◌<◌, ◌⊎◌, ◌↔◌, List, slice_index, bit_xor}
+use Rattle.std.specs.Prelude.{◌≡◌, ℕ, ◌-◌, ◌^◌, ◌<◌, ◌⊎◌, ◌↔◌, List, slice_index, bit_xor}
 use Rattle.std.specs.Int.{bit_at}
 
 -- v is in the set
@@ -16,6 +16,6 @@ pub record IsMadeBehind (sets : List ℕ) (place : ℕ) (offsets values : List �
   pub within : at < end
   pub has : Has (slice_index sets (place - slice_index offsets at)) (bit_xor v (slice_index values at))
 
--- the numbers below 64 that P holds of are in the set besides
-abbrev pub AddsSmall : ℕ → ℕ → (ℕ → Type 0) → Type 0
-AddsSmall old new P = (v : ℕ) → v < 64 → Has new v ↔ (Has old v ⊎ P v)
+-- the numbers of so many bits that P holds of are in the set besides
+abbrev pub AddsSmall : ℕ → ℕ → ℕ → (ℕ → Type 0) → Type 0
+AddsSmall digits old new P = (v : ℕ) → v < 2 ^ digits → Has new v ↔ (Has old v ⊎ P v)

@@ -1,26 +1,27 @@
 //! What steps make of the sets before a block.
 
-ghost use Rattle.std.specs.Prelude.{◌≡◌, ℕ, ◌+◌, ◌^◌, ◌<◌, ◌≤◌, length, slice_index};
+ghost use Rattle.std.specs.Prelude.{◌≡◌, ℕ, ◌+◌, ◌^◌, ◌<◌, ◌≤◌, length, map, slice_index};
 ghost use Rattle.bitsets.specs.Sets.{Has, Adds, AddsSmall, IsMadeBehind};
 
 use crate::turning::turn_by;
+use crate::word::Word;
 
 /// Adds to each set of a block, the first of which is that of the place `place`, what the steps make: the exclusive ors of each
 /// step's value and the numbers of the set that stands before it by the step's offset. Best with equal values side by side.
-pub fn unite_steps(
-    block: &mut [u64],
-    sets: &[u64],
+pub fn unite_steps<W: Word>(
+    block: &mut [W],
+    sets: &[W],
     place: usize,
     offsets: &[usize],
     values: &[usize],
 )
     requires beside { length values.now ≡ length offsets.now }
-    requires few { (k : ℕ) → k < length values.now → slice_index values.now k < 64 }
+    requires few { (k : ℕ) → k < length values.now → slice_index values.now k < 2 ^ W.digits }
     requires before { (k : ℕ) → k < length offsets.now → slice_index offsets.now k ≤ place }
     requires behind { (k : ℕ) → k < length offsets.now → place + length block.old ≤ length sets.now + slice_index offsets.now k }
     requires small { place + length block.old < 2 ^ 63 }
     ensures len { length block.new ≡ length block.old }
-    ensures adds { (i : ℕ) → i < length block.old → AddsSmall (slice_index block.old i) (slice_index block.new i) (IsMadeBehind sets.now (place + i) offsets.now values.now (length offsets.now)) }
+    ensures adds { (i : ℕ) → i < length block.old → AddsSmall W.digits (slice_index (map W.number block.old) i) (slice_index (map W.number block.new) i) (IsMadeBehind (map W.number sets.now) (place + i) offsets.now values.now (length offsets.now)) }
 {
     // Each number in the block stands xored with the value of the last step.
     let mut frame = 0;
@@ -34,12 +35,12 @@ pub fn unite_steps(
 }
 
 // Adds to each set the numbers of another one.
-fn unite(sets: &mut [u64], others: &[u64])
+fn unite<W: Word>(sets: &mut [W], others: &[W])
     requires { length others.now ≡ length sets.old }
     ensures len { length sets.new ≡ length sets.old }
-    ensures adds { (i : ℕ) → i < length sets.old → Adds (slice_index sets.old i) (slice_index sets.new i) (Has (slice_index others.now i)) }
+    ensures adds { (i : ℕ) → i < length sets.old → Adds (slice_index (map W.number sets.old) i) (slice_index (map W.number sets.new) i) (Has (slice_index (map W.number others.now) i)) }
 {
     for at in 0..sets.len() {
-        sets[at] |= others[at];
+        sets[at] = sets[at].united(others[at]);
     }
 }

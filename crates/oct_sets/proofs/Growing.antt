@@ -54,13 +54,13 @@ each_push xs ys x P is each last k low = elim (cases_lt k (length xs)) [
       subst P (sym (ap (λ zs. slice_index zs k) is ∙ get-end xs x k end)) last
 ]
 
-pub steps_more : {A : Type 0} (low high o v : ℕ) (old new : Steps A) → IsShapedSteps low high old → new.offsets.items ≡ old.offsets.items ++ o ∷ [] → new.values.items ≡ old.values.items ++ v ∷ [] → low ≤ o → o ≤ high → v < 64
-    → IsShapedSteps low high new
-steps_more low high o v old new shaped offsets values least most small = record {
+pub steps_more : {A : Type 0} (limit low high o v : ℕ) (old new : Steps A) → IsShapedSteps limit low high old → new.offsets.items ≡ old.offsets.items ++ o ∷ [] → new.values.items ≡ old.values.items ++ v ∷ [] → low ≤ o → o ≤ high → v < limit
+    → IsShapedSteps limit low high new
+steps_more limit low high o v old new shaped offsets values least most small = record {
   beside = omega (arith, shaped.beside, ap length offsets, ap length values, length-append old.offsets.items (o ∷ []), length-append old.values.items (v ∷ []));
   from = each_push old.offsets.items new.offsets.items o (λ d. low ≤ d) offsets shaped.from least;
   to = each_push old.offsets.items new.offsets.items o (λ d. d ≤ high) offsets shaped.to most;
-  small = each_push old.values.items new.values.items v (λ x. x < 64) values shaped.small small;
+  small = each_push old.values.items new.values.items v (λ x. x < limit) values shaped.small small;
 }
 
 -- ---- a plan with one more step
@@ -188,8 +188,8 @@ on_both (Err e) P Q R p q f = tt
 
 -- ---- an empty plan
 
-pub shaped_none : {A : Type 0} (p : Plan A) → p.far.offsets.items ≡ [] → p.far.values.items ≡ [] → p.near.offsets.items ≡ [] → p.near.values.items ≡ [] → (reach width : ℕ) → IsShapedPlan reach width p
-shaped_none p fo fv noffs nvals reach width = record {
+pub shaped_none : {A : Type 0} (p : Plan A) → p.far.offsets.items ≡ [] → p.far.values.items ≡ [] → p.near.offsets.items ≡ [] → p.near.values.items ≡ [] → (limit reach width : ℕ) → IsShapedPlan limit reach width p
+shaped_none p fo fv noffs nvals limit reach width = record {
   far = record {
     beside = ap length fv ∙ sym (ap length fo);
     from = λ k low. absurd (omega (arith, low, ap length fo));

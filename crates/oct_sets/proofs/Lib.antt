@@ -1,3 +1,4 @@
+pub mod Forms
 mod Growing
 mod Kept
 mod Near

@@ -19,7 +19,7 @@ use Rattle.oct_sets.specs.declared.plan.Plan.{Plan}
 use Rattle.oct_sets.specs.declared.sorted.SmallHeap.{SmallHeap}
 use Rattle.oct_sets.specs.declared.steps.Steps.{Steps}
 
-module _ {A : Type 0} (c : Code) (heaps : List ℕ) (reach : ℕ) (p : Plan A) (n set : ℕ) (plan : IsPlan c heaps reach (HasStep c p)) (far : 2 * reach + len c < n) (union : IsUnion c n p set) where
+module _ {A : Type 0} (c : Code) (heaps : List ℕ) (reach : ℕ) (p : Plan A) (limit n set : ℕ) (plan : IsPlan c heaps reach (HasStep c p)) (far : 2 * reach + len c < n) (union : IsUnion limit c n p set) where
   near_by : (v d x : ℕ) → IsStep c reach d x → v ≡ bit_xor x (nim_value c (n - d)) → IsNear c (nim_value c) n heaps reach v
   near_by v d x s is =
       let b = n - d in
@@ -98,23 +98,23 @@ module _ {A : Type 0} (c : Code) (heaps : List ℕ) (reach : ℕ) (p : Plan A) (
             ]
       ]
 
-  pub near_set : IsNearSet c n heaps reach set
+  pub near_set : IsNearSet limit c n heaps reach set
   near_set = record {
     sound = λ v small has. near_of v ((union v small).0 has);
     listed = λ v r small o. (union v small).1 (made_of v r o);
   }
 
-pub settles : (c : Code) (n : ℕ) (heaps : List ℕ) (reach set least : ℕ) → least < 64 → ((v : ℕ) → v < least → Has set v) → (Has set least → ⊥) → IsNearSet c n heaps reach set
-    → Settles c (nim_value c) n heaps reach 64 least
-settles c n heaps reach set least small below none near = record {
+pub settles : (limit : ℕ) (c : Code) (n : ℕ) (heaps : List ℕ) (reach set least : ℕ) → least < limit → ((v : ℕ) → v < least → Has set v) → (Has set least → ⊥) → IsNearSet limit c n heaps reach set
+    → Settles c (nim_value c) n heaps reach limit least
+settles limit c n heaps reach set least small below none near = record {
   reached = λ u less. near.sound u (omega (arith, less, small)) (below u less);
   unlisted = λ low r o. none (near.listed least r low o);
 }
 
 -- ---- what settles the next value is its value
 
-module _ (c : Code) (mask : Mask) (heaps : List ℕ) (reach n v : ℕ) (parted : IsParted c mask heaps reach n) (few : (h : ℕ) → Contains heaps h → h ≤ reach) (far : 2 * reach + len c < n) (small : v < 64)
-    (not_rare : is_rare mask n v ≡ false) (settled : Settles c (nim_value c) n heaps reach 64 v) where
+module _ (limit : ℕ) (c : Code) (mask : Mask) (heaps : List ℕ) (reach n v : ℕ) (parted : IsParted c mask heaps reach n) (few : (h : ℕ) → Contains heaps h → h ≤ reach) (far : 2 * reach + len c < n) (small : v < limit)
+    (not_rare : is_rare mask n v ≡ false) (settled : Settles c (nim_value c) n heaps reach limit v) where
   reached : (u : ℕ) → u < v → IsReached c reach n u
   reached u less =
       let o = settled.reached u less in
@@ -202,12 +202,12 @@ module _ {A : Type 0} (c : Code) (rare small : List ℕ) (list : List SmallHeap)
 
 -- ---- where something settles it
 
-pub value_of : (c : Code) (mask : Mask) (heaps : List ℕ) (reach n : ℕ) (r : Option ℕ) → IsParted c mask heaps reach n → ((h : ℕ) → Contains heaps h → h ≤ reach) → 2 * reach + len c < n
-    → IfSome r (λ v. v < 64) → IfSome r (λ v. is_rare mask n v ≡ false) → IfSome r (Settles c (nim_value c) n heaps reach 64) → IfSome r (λ v. v ≡ nim_value c n)
-value_of c mask heaps reach n (Some v) parted few far small common settled = value_is c mask heaps reach n v parted few far small common settled
-value_of c mask heaps reach n None parted few far small common settled = tt
+pub value_of : (limit : ℕ) (c : Code) (mask : Mask) (heaps : List ℕ) (reach n : ℕ) (r : Option ℕ) → IsParted c mask heaps reach n → ((h : ℕ) → Contains heaps h → h ≤ reach) → 2 * reach + len c < n
+    → IfSome r (λ v. v < limit) → IfSome r (λ v. is_rare mask n v ≡ false) → IfSome r (Settles c (nim_value c) n heaps reach limit) → IfSome r (λ v. v ≡ nim_value c n)
+value_of limit c mask heaps reach n (Some v) parted few far small common settled = value_is limit c mask heaps reach n v parted few far small common settled
+value_of limit c mask heaps reach n None parted few far small common settled = tt
 
-pub settled_of : (c : Code) (mask : Mask) (heaps : List ℕ) (reach n : ℕ) (r : Option ℕ) → IsParted c mask heaps reach n → ((h : ℕ) → Contains heaps h → h ≤ reach) → 2 * reach + len c < n
-    → IfSome r (λ v. v < 64) → IfSome r (λ v. is_rare mask n v ≡ false) → IfSome r (Settles c (nim_value c) n heaps reach 64) → IfSome r (λ v. IsSettled c mask reach n)
-settled_of c mask heaps reach n (Some v) parted few far small common settled = is_settled c mask heaps reach n v parted few far small common settled
-settled_of c mask heaps reach n None parted few far small common settled = tt
+pub settled_of : (limit : ℕ) (c : Code) (mask : Mask) (heaps : List ℕ) (reach n : ℕ) (r : Option ℕ) → IsParted c mask heaps reach n → ((h : ℕ) → Contains heaps h → h ≤ reach) → 2 * reach + len c < n
+    → IfSome r (λ v. v < limit) → IfSome r (λ v. is_rare mask n v ≡ false) → IfSome r (Settles c (nim_value c) n heaps reach limit) → IfSome r (λ v. IsSettled c mask reach n)
+settled_of limit c mask heaps reach n (Some v) parted few far small common settled = is_settled limit c mask heaps reach n v parted few far small common settled
+settled_of limit c mask heaps reach n None parted few far small common settled = tt

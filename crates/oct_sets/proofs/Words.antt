@@ -1,8 +1,9 @@
 -- Words that are the sets of what moves that leave two heaps leave of one, and what steps make of them.
-use Rattle.std.proofs.Common.{◌≡◌, ℕ, ◌+◌, ◌-◌, ◌<◌, ◌≤◌, ◌⊎◌, ◌↔◌, ◌++◌, ◌∷◌, [], IsTrue, List, length, slice_index, bit_xor, inl, inr, arith, subst, sym, ◌∙◌, ap, length-append}
+use Rattle.std.proofs.Common.{◌≡◌, ℕ, ◌+◌, ◌-◌, ◌^◌, ◌<◌, ◌≤◌, ◌⊎◌, ◌↔◌, ◌++◌, ◌∷◌, [], IsTrue, List, length, map, slice_index, slice_index_or, take, bit_xor, inl, inr, arith, subst, sym, ◌∙◌, ap, length-append}
 use Rattle.std.proofs.lemmas.Bool.{cases_lt}
-use Rattle.std.proofs.lemmas.List.{get_or_default}
+use Rattle.std.proofs.lemmas.List.{get_or-map, get_or_default}
 use Rattle.std.proofs.lemmas.List.Elements.{Contains-append_left, Contains-get_or, Contains-push, Contains-push_cases}
+use Rattle.std.proofs.Math.Seq.{take-append_seam}
 use Rattle.std.proofs.lemmas.Nat.{xor_comm}
 use Rattle.std.proofs.lemmas.Nat.Bits.{bit_at-zero}
 use Rattle.std.specs.Int.Bits.{xor_assoc, xor_self, xor_zero_r}
@@ -27,7 +28,7 @@ has_none v h = omega (arith, h, bit_at-zero v)
 
 -- ---- a block
 
-module _ {A : Type 0} (c : Code) (n : ℕ) (pairs : List ℕ) (s : Steps A) (low : ℕ) (are : ArePairs c n pairs) (few : length pairs ≤ n)
+module _ {A : Type 0} (digits : ℕ) (c : Code) (n : ℕ) (pairs : List ℕ) (s : Steps A) (low : ℕ) (are : ArePairs c n pairs) (few : length pairs ≤ n)
     (from : (k : ℕ) → k < length s.offsets.items → low ≤ slice_index s.offsets.items k) (to : (k : ℕ) → k < length s.offsets.items → slice_index s.offsets.items k ≤ length pairs) where
   -- what the steps make of the words is what they make of the values
   made_pair : (i v : ℕ) → i < low → IsMadeBehind pairs (length pairs + i) s.offsets.items s.values.items (length s.offsets.items) v ↔ IsPairMade c (n + i) s (length s.offsets.items) v
@@ -48,7 +49,7 @@ module _ {A : Type 0} (c : Code) (n : ℕ) (pairs : List ℕ) (s : Steps A) (low
         }),
       )
 
-  block_pair : (i v old new : ℕ) → i < low → v < 64 → old ≡ 0 → AddsSmall old new (IsMadeBehind pairs (length pairs + i) s.offsets.items s.values.items (length s.offsets.items))
+  block_pair : (i v old new : ℕ) → i < low → v < 2 ^ digits → old ≡ 0 → AddsSmall digits old new (IsMadeBehind pairs (length pairs + i) s.offsets.items s.values.items (length s.offsets.items))
       → Has new v ↔ IsPairMade c (n + i) s (length s.offsets.items) v
   block_pair i v old new within small none adds = (
     (λ h. elim ((adds v small).0 h) [ inl was ↦ absurd (has_none v (subst (λ w. Has w v) none was)) | inr m ↦ (made_pair i v within).0 m ]),
@@ -56,14 +57,14 @@ module _ {A : Type 0} (c : Code) (n : ℕ) (pairs : List ℕ) (s : Steps A) (low
   )
 
   -- the same, by slices of the lists
-  pub block_slices : (ws os vs : List ℕ) (place i v old new : ℕ) → ws ≡ pairs → os ≡ s.offsets.items → vs ≡ s.values.items → place ≡ length pairs → i < low → v < 64 → old ≡ 0
-      → AddsSmall old new (IsMadeBehind ws (place + i) os vs (length os)) → Has new v ↔ IsPairMade c (n + i) s (length s.offsets.items) v
+  pub block_slices : (ws os vs : List ℕ) (place i v old new : ℕ) → ws ≡ pairs → os ≡ s.offsets.items → vs ≡ s.values.items → place ≡ length pairs → i < low → v < 2 ^ digits → old ≡ 0
+      → AddsSmall digits old new (IsMadeBehind ws (place + i) os vs (length os)) → Has new v ↔ IsPairMade c (n + i) s (length s.offsets.items) v
   block_slices ws os vs place i v old new ew eo ev ep within small none adds =
       block_pair i v old new within small none
-      (subst (λ k. AddsSmall old new (IsMadeBehind pairs (k + i) s.offsets.items s.values.items (length s.offsets.items))) ep
-      (subst (λ xs. AddsSmall old new (IsMadeBehind pairs (place + i) s.offsets.items xs (length s.offsets.items))) ev
-      (subst (λ xs. AddsSmall old new (IsMadeBehind pairs (place + i) xs vs (length xs))) eo
-      (subst (λ xs. AddsSmall old new (IsMadeBehind xs (place + i) os vs (length os))) ew adds))))
+      (subst (λ k. AddsSmall digits old new (IsMadeBehind pairs (k + i) s.offsets.items s.values.items (length s.offsets.items))) ep
+      (subst (λ xs. AddsSmall digits old new (IsMadeBehind pairs (place + i) s.offsets.items xs (length s.offsets.items))) ev
+      (subst (λ xs. AddsSmall digits old new (IsMadeBehind pairs (place + i) xs vs (length xs))) eo
+      (subst (λ xs. AddsSmall digits old new (IsMadeBehind xs (place + i) os vs (length os))) ew adds))))
 
 -- ---- the word of a heap
 
@@ -116,6 +117,16 @@ pairs_last c n pairs last few fewer same are j v within =
     let at : n + (length pairs - length last + j) - length pairs ≡ n + j - length last = omega (arith, few, fewer) in
     subst (λ w. Has w v ↔ IsSplitValue c (n + j - length last) v) (sym (same j within))
     (subst (λ k. Has (slice_index pairs (length pairs - length last + j)) v ↔ IsSplitValue c k v) at (are (length pairs - length last + j) v (omega (arith, within, fewer))))
+
+-- a list, and nothing of what stands behind it
+pub taken : {W : Type 0} (n : ℕ) (xs ys : List W) → length xs ≡ n → take n (xs ++ ys) ≡ xs
+taken n xs ys long = ap (λ k. take k (xs ++ ys)) (sym long) ∙ take-append_seam xs ys
+
+-- the numbers of the last words
+pub last_words : {W : Type 0} (number : W → ℕ) (words last : List W) (word : W) (i : ℕ) → length last ≤ length words → i < length last
+    → slice_index_or last i word ≡ slice_index_or words (length words - length last + i) word → slice_index (map number last) i ≡ slice_index (map number words) (length words - length last + i)
+last_words number words last word i few low same =
+    get_or-map number last i word 0 low ∙ ap number same ∙ sym (get_or-map number words (length words - length last + i) word 0 (omega (arith, few, low)))
 
 -- those of the last values
 pub pairs_first : (c : Code) (n first : ℕ) (splits values pairs : List ℕ) → AreSplits c splits → AreLast c n values → length values ≤ n → first ≤ length values → length pairs ≡ length values - first

@@ -22,12 +22,12 @@ pub record HasStepIn {A : Type 0} (s : Steps A) (d x : ℕ) : Type 0 where
   pub offset : slice_index s.offsets.items at ≡ d
   pub value : slice_index s.values.items at ≡ x
 
--- offsets from `low` to `high`, and beside each a value below 64
-pub record IsShapedSteps {A : Type 0} (low high : ℕ) (s : Steps A) : Type 0 where
+-- offsets from `low` to `high`, and beside each a value below `limit`
+pub record IsShapedSteps {A : Type 0} (limit low high : ℕ) (s : Steps A) : Type 0 where
   pub beside : length s.values.items ≡ length s.offsets.items
   pub from : (k : ℕ) → k < length s.offsets.items → low ≤ slice_index s.offsets.items k
   pub to : (k : ℕ) → k < length s.offsets.items → slice_index s.offsets.items k ≤ high
-  pub small : (k : ℕ) → k < length s.values.items → slice_index s.values.items k < 64
+  pub small : (k : ℕ) → k < length s.values.items → slice_index s.values.items k < limit
 
 -- a move over a small heap of a list: two heaps are left, one of them as large as an offset that stands beside x
 pub record IsFarStep {A : Type 0} (c : Code) (s : Steps A) (d x : ℕ) : Type 0 where
@@ -42,10 +42,10 @@ pub record IsFarStep {A : Type 0} (c : Code) (s : Steps A) (d x : ℕ) : Type 0 
 abbrev pub HasStep : {A : Type 0} → Code → Plan A → ℕ → ℕ → Type 0
 HasStep c p d x = IsFarStep c p.far d x ⊎ HasStepIn p.near d x
 
--- no far heap is larger than `reach`, nor smaller than a block, and no near offset larger than `width`
-pub record IsShapedPlan {A : Type 0} (reach width : ℕ) (p : Plan A) : Type 0 where
-  pub far : IsShapedSteps BLOCK reach p.far
-  pub near : IsShapedSteps 1 width p.near
+-- no far heap is larger than `reach`, nor smaller than a block, no near offset larger than `width`, and each value below `limit`
+pub record IsShapedPlan {A : Type 0} (limit reach width : ℕ) (p : Plan A) : Type 0 where
+  pub far : IsShapedSteps limit BLOCK reach p.far
+  pub near : IsShapedSteps limit 1 width p.near
 
 -- the steps that P holds of are in the plan besides
 pub record AddsSteps {A : Type 0} (c : Code) (old new : Plan A) (P : ℕ → ℕ → Type 0) : Type 0 where
@@ -78,11 +78,11 @@ pub record IsHeapStep (c : Code) (heaps : List SmallHeap) (end d x : ℕ) : Type
   pub is : slice_index_or heaps at heap ≡ heap
   pub pair : IsPairStep c heap.heap heap.value (len c + 1) d x
 
--- it has a value below 64, and as many beans as `reach` at most
-pub record IsWithin (reach : ℕ) (h : SmallHeap) : Type 0 where
+-- it has a value below `limit`, and as many beans as `reach` at most
+pub record IsWithin (limit reach : ℕ) (h : SmallHeap) : Type 0 where
   pub some : 1 ≤ h.heap
   pub few : h.heap ≤ reach
-  pub small : h.value < 64
+  pub small : h.value < limit
 
 -- its value is the one that stands among the values of the small heaps
 pub record IsAmong (small : List ℕ) (h : SmallHeap) : Type 0 where
@@ -140,14 +140,14 @@ pub record IsPairMade {A : Type 0} (c : Code) (n : ℕ) (s : Steps A) (end v : �
 abbrev pub IsMadeBy : {A : Type 0} → Code → ℕ → Plan A → ℕ → Type 0
 IsMadeBy c n p v = IsPairMade c n p.far (length p.far.offsets.items) v ⊎ IsMade c n p.near (length p.near.offsets.items) v
 
--- the set has what the plan makes
-abbrev pub IsUnion : {A : Type 0} → Code → ℕ → Plan A → ℕ → Type 0
-IsUnion c n p set = (v : ℕ) → v < 64 → Has set v ↔ IsMadeBy c n p v
+-- the set has what the plan makes below `limit`
+abbrev pub IsUnion : {A : Type 0} → ℕ → Code → ℕ → Plan A → ℕ → Type 0
+IsUnion limit c n p set = (v : ℕ) → v < limit → Has set v ↔ IsMadeBy c n p v
 
--- the set has values of near options only, and those of all options that leave at most one heap or a listed heap
-pub record IsNearSet (c : Code) (n : ℕ) (heaps : List ℕ) (reach set : ℕ) : Type 0 where
-  pub sound : (v : ℕ) → v < 64 → Has set v → IsNear c (nim_value c) n heaps reach v
-  pub listed : (v r : ℕ) → v < 64 → IsRareBy c (nim_value c) n heaps r v → Has set v
+-- below `limit` the set has values of near options only, and those of all options that leave at most one heap or a listed heap
+pub record IsNearSet (limit : ℕ) (c : Code) (n : ℕ) (heaps : List ℕ) (reach set : ℕ) : Type 0 where
+  pub sound : (v : ℕ) → v < limit → Has set v → IsNear c (nim_value c) n heaps reach v
+  pub listed : (v r : ℕ) → v < limit → IsRareBy c (nim_value c) n heaps r v → Has set v
 
 -- ---- what is known before a heap
 

@@ -1,5 +1,5 @@
 -- The sets of a block of heaps.
-use Rattle.std.specs.Prelude.{◌≡◌, ℕ, ◌+◌, ◌-◌, ◌*◌, ◌<◌, ◌≤◌, ◌↔◌, List, length, slice_index}
+use Rattle.std.specs.Prelude.{◌≡◌, ℕ, ◌+◌, ◌-◌, ◌*◌, ◌^◌, ◌<◌, ◌≤◌, ◌↔◌, List, length, map, slice_index}
 use Rattle.std.specs.Vec.{vec_len, vec_capacity}
 use Rattle.bitsets.specs.Sets.{Has}
 use Rattle.oct_code.specs.Code.{Code, len}
@@ -7,17 +7,21 @@ use Rattle.oct_sets.specs.Plans.{AreSplits, HasStep, IsPairMade, IsPlan, IsShape
 use Rattle.oct_sets.specs.declared.plan.Plan.{Plan}
 use Rattle.oct_sets.specs.declared.plan.TheConstants.{BLOCK}
 use Rattle.oct_sets.specs.declared.sets.Sets.{Sets}
+use Rattle.oct_sets.specs.declared.sets.Sets.TheVariants.{Narrow, Wide}
+use Rattle.oct_sets.specs.declared.sets_of.SetsOf.{SetsOf}
 
--- its parts fit together, whatever sets it has
-pub record IsShaped {A : Type 0} (most width : ℕ) (s : Sets A) : Type 0 where
+-- ---- those of words of one width
+
+-- its parts fit together, whatever sets it has, in words for numbers of so many bits
+pub record IsShapedOf {W A : Type 0} (digits most width : ℕ) (s : SetsOf W A) : Type 0 where
   pub reach : s.reach ≡ most
-  pub plan : IsShapedPlan most width s.plan
+  pub plan : IsShapedPlan (2 ^ digits) most width s.plan
   pub splits : (k : ℕ) → k < length s.splits.items → slice_index s.splits.items k < width
   pub pairs : most ≤ vec_len s.pairs
   pub spare : most < vec_capacity s.pairs
   pub behind : vec_len s.pairs ≤ s.heap
   pub least : width ≤ s.heap
-  pub block : length s.block ≡ BLOCK
+  pub block : vec_len s.block ≡ BLOCK
   pub started : s.start ≤ s.heap
   pub within : s.heap < s.start + BLOCK
 
@@ -26,13 +30,40 @@ abbrev pub ArePairs : Code → ℕ → List ℕ → Type 0
 ArePairs c n pairs = (j v : ℕ) → j < length pairs → Has (slice_index pairs j) v ↔ IsSplitValue c (n + j - length pairs) v
 
 -- for each heap of the block that begins at n, what far steps make
-abbrev pub IsBlock : {A : Type 0} → Code → ℕ → Plan A → List ℕ → Type 0
-IsBlock c n p block = (i v : ℕ) → i < BLOCK → v < 64 → Has (slice_index block i) v ↔ IsPairMade c (n + i) p.far (length p.far.offsets.items) v
+abbrev pub IsBlock : {A : Type 0} → ℕ → Code → ℕ → Plan A → List ℕ → Type 0
+IsBlock digits c n p block = (i v : ℕ) → i < BLOCK → v < 2 ^ digits → Has (slice_index block i) v ↔ IsPairMade c (n + i) p.far (length p.far.offsets.items) v
 
 -- its plan, its words and its block are so of the game
-pub record IsRight {A : Type 0} (c : Code) (heaps : List ℕ) (reach : ℕ) (s : Sets A) : Type 0 where
+pub record IsRightOf {W A : Type 0} (number : W → ℕ) (digits : ℕ) (c : Code) (heaps : List ℕ) (reach : ℕ) (s : SetsOf W A) : Type 0 where
   pub plan : IsPlan c heaps reach (HasStep c s.plan)
   pub splits : AreSplits c s.splits.items
-  pub pairs : ArePairs c s.heap s.pairs.items
-  pub block : IsBlock c s.start s.plan s.block
+  pub pairs : ArePairs c s.heap (map number s.pairs.items)
+  pub block : IsBlock digits c s.start s.plan (map number s.block.items)
   pub room : 2 * reach + len c < s.start
+
+-- ---- those of either width
+
+-- no far heap of the plan is larger
+abbrev pub reach_of : {A : Type 0} → Sets A → ℕ
+reach_of (Narrow s) = s.reach
+reach_of (Wide s) = s.reach
+
+-- the next heap
+abbrev pub heap_of : {A : Type 0} → Sets A → ℕ
+heap_of (Narrow s) = s.heap
+heap_of (Wide s) = s.heap
+
+-- each number in a set is below this one
+abbrev pub limit_of : {A : Type 0} → Sets A → ℕ
+limit_of (Narrow s) = 32
+limit_of (Wide s) = 64
+
+-- their parts fit together, whatever sets they are
+abbrev pub IsShaped : {A : Type 0} → ℕ → ℕ → Sets A → Type 0
+IsShaped most width (Narrow s) = IsShapedOf 5 most width s
+IsShaped most width (Wide s) = IsShapedOf 6 most width s
+
+-- they are so of the game
+abbrev pub IsRight : {A : Type 0} → Code → List ℕ → ℕ → Sets A → Type 0
+IsRight c heaps reach (Narrow s) = IsRightOf (λ word. word) 5 c heaps reach s
+IsRight c heaps reach (Wide s) = IsRightOf (λ word. word) 6 c heaps reach s

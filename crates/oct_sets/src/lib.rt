@@ -6,19 +6,21 @@
 //! turned by the value of the small heap. With values as words in which one bit is set, the unions of 64 heaps at a time
 //! are those of slices of such words.
 //!
-//!     let mut sets = Sets::new(alloc, &code, &small, &rare_heaps, &last, count)?;
+//!     let mut sets = Sets::new(alloc, &code, &small, &rare_heaps, &last, count, bound)?;
 //!     let value = sets.settle(mask, &last);                    // the value of the heap `count`, or none
 //!     sets.push(&last);                                        // on to the next heap
 //!
 //! - A `Plan` has the steps, near ones and far ones. Which small heaps it goes by, besides the rare ones, is chosen from a
 //!   sample: this changes no value, but how many heaps are settled.
-//! - `Sets` has the words of the last heaps and the unions by far steps for a block of 64 heaps. `settle` adds those by near
+//! - `SetsOf` has the words of the last heaps and the unions by far steps for a block of 64 heaps. `settle` adds those by near
 //!   steps, and gives the least number that is not in the set where a value like it is common.
+//! - `Sets` are those in words of 32 bits, where all values are below 32, or of 64 bits.
 #![tactic(auto)]
 
 mod pairs;
 mod plan;
 mod sets;
+mod sets_of;
 mod settled;
 mod sorted;
 mod steps;
@@ -28,5 +30,6 @@ mod witnesses;
 
 pub use plan::{BLOCK, Plan};
 pub use sets::{SMALL, Sets};
+pub use sets_of::SetsOf;
 pub use sorted::SmallHeap;
 pub use steps::Steps;

@@ -1,11 +1,11 @@
 //! The values of what moves that leave two heaps leave of one.
 
-ghost use Rattle.std.specs.Prelude.{◌≡◌, ◌+◌, ◌-◌, ◌*◌, ◌^◌, ◌<◌, ◌≤◌, ◌↔◌, ℕ, IfOk, length, map, slice_index, vec_len, vec_capacity};
+ghost use Rattle.std.specs.Prelude.{◌≡◌, ◌+◌, ◌-◌, ◌*◌, ◌^◌, ◌<◌, ◌≤◌, ◌↔◌, ℕ, IfOk, length, map, slice_index, slice_index_or, vec_len, vec_capacity};
 ghost use Rattle.bitsets.specs.Sets.{Has};
 ghost use Rattle.oct_code.specs.Code as octal;
 ghost use Rattle.oct_sets.specs.Plans.{AreSplits, IsOneBefore};
 
-use bitsets::one;
+use bitsets::Word;
 use oct_code::Code;
 use oct_mex::Cell;
 use std::alloc::{AllocError, Allocator};
@@ -25,19 +25,19 @@ pub(crate) fn splits_of<A: Allocator>(alloc: A, code: &Code) -> Result<Vec<usize
 }
 
 /// For each place of a list of values from `first` on, the set of the values that stand before it by these numbers.
-pub(crate) fn pairs_of<T: Cell, A: Allocator + Copy>(
+pub(crate) fn pairs_of<T: Cell, W: Word, A: Allocator + Copy>(
     alloc: A,
     splits: &[usize],
     values: &[T],
     first: usize,
-) -> Result<Vec<u64, A>, AllocError>
+) -> Result<Vec<W, A>, AllocError>
     requires few { length values.now < 2 ^ 62 }
     requires first { first ≤ length values.now }
     requires splits { (k : ℕ) → k < length splits.now → slice_index splits.now k ≤ first }
-    requires low { (i : ℕ) → i < length values.now → slice_index (map T.number values.now) i < 64 }
+    requires low { (i : ℕ) → i < length values.now → slice_index (map T.number values.now) i < 2 ^ W.digits }
     ensures len { IfOk result (λ pairs. vec_len pairs ≡ length values.now - first) }
     ensures room { IfOk result (λ pairs. vec_len pairs < vec_capacity pairs) }
-    ensures pairs { IfOk result (λ pairs. (i v : ℕ) → first + i < length values.now → Has (slice_index pairs.items i) v ↔ IsOneBefore splits.now (map T.number values.now) (first + i) (length splits.now) v) }
+    ensures pairs { IfOk result (λ pairs. (i v : ℕ) → first + i < length values.now → Has (slice_index (map W.number pairs.items) i) v ↔ IsOneBefore splits.now (map T.number values.now) (first + i) (length splits.now) v) }
 {
     let mut pairs = Vec::with_capacity(alloc, 2 * values.len() + 1)?;
     for place in first..values.len() {
@@ -47,15 +47,15 @@ pub(crate) fn pairs_of<T: Cell, A: Allocator + Copy>(
 }
 
 /// The set of the values that stand before a place by these numbers.
-pub(crate) fn split_set<T: Cell>(splits: &[usize], values: &[T], place: usize) -> u64
+pub(crate) fn split_set<T: Cell, W: Word>(splits: &[usize], values: &[T], place: usize) -> W
     requires within { place < length values.now }
     requires splits { (k : ℕ) → k < length splits.now → slice_index splits.now k ≤ place }
-    requires low { (i : ℕ) → i < length values.now → slice_index (map T.number values.now) i < 64 }
-    ensures set { (v : ℕ) → Has result v ↔ IsOneBefore splits.now (map T.number values.now) place (length splits.now) v }
+    requires low { (i : ℕ) → i < length values.now → slice_index (map T.number values.now) i < 2 ^ W.digits }
+    ensures set { (v : ℕ) → Has (W.number result) v ↔ IsOneBefore splits.now (map T.number values.now) place (length splits.now) v }
 {
-    let mut set = 0;
+    let mut set = W::empty();
     for removed in splits {
-        set |= one(number_at(values, place - *removed));
+        set = set.united(W::one(number_at(values, place - *removed)));
     }
     set
 }
@@ -69,11 +69,11 @@ pub(crate) fn number_at<T: Cell>(values: &[T], place: usize) -> usize
 }
 
 /// Keeps the last words, so many. Takes no memory.
-pub(crate) fn keep_last<A: Allocator>(words: &mut Vec<u64, A>, count: usize)
+pub(crate) fn keep_last<W: Word, A: Allocator>(words: &mut Vec<W, A>, count: usize)
     requires { count ≤ vec_len words.old }
     ensures len { vec_len words.new ≡ count }
     ensures room { vec_capacity words.new ≡ vec_capacity words.old }
-    ensures last { (i : ℕ) → i < count → slice_index words.new.items i ≡ slice_index words.old.items (vec_len words.old - count + i) }
+    ensures last { (i : ℕ) (word : W) → i < count → slice_index_or words.new.items i word ≡ slice_index_or words.old.items (vec_len words.old - count + i) word }
 {
     let len = words.len();
     words.copy_within(len - count..len, 0);

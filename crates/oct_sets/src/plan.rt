@@ -34,8 +34,8 @@ impl<A: Allocator + Copy> Plan<A> {
         heaps: &[SmallHeap],
     ) -> Result<Plan<A>, AllocError>
         requires none { none < 64 }
-        requires each { (h : SmallHeap) → Contains heaps.now h → IsWithin (2 ^ 32 - 1) h }
-        ensures shaped { (reach : ℕ) → ((h : SmallHeap) → Contains heaps.now h → IsWithin reach h) → IfOk result (IsShapedPlan reach (reach + len code.now)) }
+        requires each { (h : SmallHeap) → Contains heaps.now h → IsWithin 64 (2 ^ 32 - 1) h }
+        ensures shaped { (limit reach : ℕ) → none < limit → ((h : SmallHeap) → Contains heaps.now h → IsWithin limit reach h) → IfOk result (IsShapedPlan limit reach (reach + len code.now)) }
         ensures steps { IfOk result (λ plan. (d x : ℕ) → HasStep code.now plan d x ↔ (IsEndStep code.now none (len code.now + 1) d x ⊎ IsHeapStep code.now heaps.now (length heaps.now) d x)) }
     {
         let mut plan = Plan {
@@ -49,9 +49,8 @@ impl<A: Allocator + Copy> Plan<A> {
 
     // Adds the steps to the options that leave one heap, beside one of 0 beans and this value.
     fn add_ends(&mut self, code: &Code, value: usize) -> Result<(), AllocError>
-        requires small { value < 64 }
-        ensures shaped { (reach width : ℕ) → IsShapedPlan reach width self.old → len code.now ≤ width → OnOk result (IsShapedPlan reach width self.new) }
-        ensures adds { (reach width : ℕ) → IsShapedPlan reach width self.old → len code.now ≤ width → OnOk result (AddsSteps code.now self.old self.new (IsEndStep code.now value (len code.now + 1))) }
+        ensures shaped { (limit reach width : ℕ) → value < limit → IsShapedPlan limit reach width self.old → len code.now ≤ width → OnOk result (IsShapedPlan limit reach width self.new) }
+        ensures adds { (limit reach width : ℕ) → value < limit → IsShapedPlan limit reach width self.old → len code.now ≤ width → OnOk result (AddsSteps code.now self.old self.new (IsEndStep code.now value (len code.now + 1))) }
     {
         for removed in 1..code.len() + 1 {
             if code.allows(removed, 1) {
@@ -63,9 +62,9 @@ impl<A: Allocator + Copy> Plan<A> {
 
     // Adds the steps to the options that leave one of the heaps of a list.
     fn add_heaps(&mut self, code: &Code, heaps: &[SmallHeap]) -> Result<(), AllocError>
-        requires each { (h : SmallHeap) → Contains heaps.now h → IsWithin (2 ^ 32 - 1) h }
-        ensures shaped { (reach : ℕ) → IsShapedPlan reach (reach + len code.now) self.old → ((h : SmallHeap) → Contains heaps.now h → IsWithin reach h) → OnOk result (IsShapedPlan reach (reach + len code.now) self.new) }
-        ensures adds { (reach : ℕ) → IsShapedPlan reach (reach + len code.now) self.old → ((h : SmallHeap) → Contains heaps.now h → IsWithin reach h) → OnOk result (AddsSteps code.now self.old self.new (IsHeapStep code.now heaps.now (length heaps.now))) }
+        requires each { (h : SmallHeap) → Contains heaps.now h → IsWithin 64 (2 ^ 32 - 1) h }
+        ensures shaped { (limit reach : ℕ) → IsShapedPlan limit reach (reach + len code.now) self.old → ((h : SmallHeap) → Contains heaps.now h → IsWithin limit reach h) → OnOk result (IsShapedPlan limit reach (reach + len code.now) self.new) }
+        ensures adds { (limit reach : ℕ) → IsShapedPlan limit reach (reach + len code.now) self.old → ((h : SmallHeap) → Contains heaps.now h → IsWithin limit reach h) → OnOk result (AddsSteps code.now self.old self.new (IsHeapStep code.now heaps.now (length heaps.now))) }
     {
         for heap in heaps {
             self.add_heap(code, heap.heap as usize, heap.value as usize)?;
@@ -77,9 +76,8 @@ impl<A: Allocator + Copy> Plan<A> {
     fn add_heap(&mut self, code: &Code, heap: usize, value: usize) -> Result<(), AllocError>
         requires some { 1 ≤ heap }
         requires limited { heap < 2 ^ 32 }
-        requires small { value < 64 }
-        ensures shaped { (reach : ℕ) → IsShapedPlan reach (reach + len code.now) self.old → heap ≤ reach → OnOk result (IsShapedPlan reach (reach + len code.now) self.new) }
-        ensures adds { (reach : ℕ) → IsShapedPlan reach (reach + len code.now) self.old → heap ≤ reach → OnOk result (AddsSteps code.now self.old self.new (IsPairStep code.now heap value (len code.now + 1))) }
+        ensures shaped { (limit reach : ℕ) → value < limit → IsShapedPlan limit reach (reach + len code.now) self.old → heap ≤ reach → OnOk result (IsShapedPlan limit reach (reach + len code.now) self.new) }
+        ensures adds { (limit reach : ℕ) → value < limit → IsShapedPlan limit reach (reach + len code.now) self.old → heap ≤ reach → OnOk result (AddsSteps code.now self.old self.new (IsPairStep code.now heap value (len code.now + 1))) }
     {
         if heap < BLOCK {
             self.add_near(code, heap, value)
@@ -92,9 +90,8 @@ impl<A: Allocator + Copy> Plan<A> {
     fn add_near(&mut self, code: &Code, heap: usize, value: usize) -> Result<(), AllocError>
         requires some { 1 ≤ heap }
         requires limited { heap < 2 ^ 32 }
-        requires small { value < 64 }
-        ensures shaped { (reach : ℕ) → IsShapedPlan reach (reach + len code.now) self.old → heap ≤ reach → OnOk result (IsShapedPlan reach (reach + len code.now) self.new) }
-        ensures adds { (reach : ℕ) → IsShapedPlan reach (reach + len code.now) self.old → heap ≤ reach → OnOk result (AddsSteps code.now self.old self.new (IsPairStep code.now heap value (len code.now + 1))) }
+        ensures shaped { (limit reach : ℕ) → value < limit → IsShapedPlan limit reach (reach + len code.now) self.old → heap ≤ reach → OnOk result (IsShapedPlan limit reach (reach + len code.now) self.new) }
+        ensures adds { (limit reach : ℕ) → value < limit → IsShapedPlan limit reach (reach + len code.now) self.old → heap ≤ reach → OnOk result (AddsSteps code.now self.old self.new (IsPairStep code.now heap value (len code.now + 1))) }
     {
         for removed in 0..code.len() + 1 {
             if code.allows(removed, 2) {

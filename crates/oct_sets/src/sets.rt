@@ -1,48 +1,37 @@
-//! The sets of the values of near options, for a block of heaps at a time.
+//! The sets of the values of near options, in words as wide as the values ask for.
 
-ghost use Rattle.std.specs.Prelude.{◌≡◌, ◌+◌, ◌-◌, ◌*◌, ◌^◌, ◌<◌, ◌≤◌, ℕ, List, IfOk, IfSome, length, map, slice_index, vec_len, vec_capacity};
+ghost use Rattle.std.specs.Prelude.{◌≡◌, ◌+◌, ◌-◌, ◌*◌, ◌^◌, ◌<◌, ◌≤◌, ℕ, List, IfOk, IfSome, length, map, slice_index};
 ghost use Rattle.std.specs.List.{Contains};
 ghost use Rattle.oct_code.specs.Code as octal;
 ghost use Rattle.oct_mex.specs.NimValues.{nim_value};
 ghost use Rattle.oct_mex.specs.Windows.{IsSettled};
-ghost use Rattle.oct_sets.specs.Plans.{AreFirst, AreLast, AreSplits, IsParted, IsShapedSteps, IsUnion};
-ghost use Rattle.oct_sets.specs.Sets.{ArePairs, IsBlock, IsRight, IsShaped};
+ghost use Rattle.oct_sets.specs.Plans.{AreFirst, AreLast, IsParted};
+ghost use Rattle.oct_sets.specs.Sets.{heap_of, limit_of, reach_of, IsRight, IsShaped};
 
-use crate::pairs::{keep_last, number_at, pairs_of, split_set, splits_of};
-use crate::plan::{BLOCK, Plan};
-use crate::settled::settled_by;
-use crate::sorted::sorted;
-use crate::witnesses::witnesses;
-use bitsets::{one, unite_steps};
+use crate::sets_of::SetsOf;
 use oct_code::Code;
 use oct_mex::{Cell, Mask};
 use std::alloc::{AllocError, Allocator};
 
-/// Each value is below this number: words have as many bits.
+/// Each value is below this number: wide words have as many bits.
 pub const SMALL: usize = 64;
+
+// Narrow words have so many bits. Each is worked on in half the time.
+const NARROW: usize = 32;
 
 /// The sets of the values of near options, by a plan.
 #[derive(Drop)]
-pub struct Sets<A: Allocator> {
-    pub plan: Plan<A>,
-    /// How many beans a move may remove that leaves two heaps.
-    pub splits: Vec<usize, A>,
-    /// No far heap of the plan is larger.
-    pub reach: usize,
-    /// For each of the last heaps the values of what those moves leave of it, were there no other heap: the set of a pair is that
-    /// of the larger heap, turned by the value of the smaller one.
-    pub pairs: Vec<u64, A>,
-    /// What far steps make, for each heap of a block.
-    pub block: [u64; BLOCK],
-    /// The first heap of the block.
-    pub start: usize,
-    /// The next heap: one of the block.
-    pub heap: usize,
+pub enum Sets<A: Allocator> {
+    /// Each value is below 32.
+    Narrow(SetsOf<u32, A>),
+    /// Each value is below 64.
+    Wide(SetsOf<u64, A>),
 }
 
 impl<A: Allocator + Copy> Sets<A> {
-    /// The sets behind the values of the last heaps before the heap `heap`: by a plan that leads to the rare heaps, and to others
-    /// of the small heaps, whose values are given. Memory is taken for the plan and for twice as many words as there are values.
+    /// The sets behind the values of the last heaps before the heap `heap`, all below `bound`: by a plan that leads to the rare
+    /// heaps, and to others of the small heaps, whose values are given. They are narrow where the bound fits narrow words. Memory is
+    /// taken for the plan, a block, and twice as many words as there are values.
     pub fn new<T: Cell>(
         alloc: A,
         code: &Code,
@@ -50,122 +39,89 @@ impl<A: Allocator + Copy> Sets<A> {
         rare: &[u32],
         last: &[T],
         heap: usize,
+        bound: usize,
     ) -> Result<Sets<A>, AllocError>
+        requires bound { bound ≤ SMALL }
         requires some { 1 < length small.now }
         requires few { length small.now ≤ 2 ^ 32 }
-        requires low { (h : ℕ) → h < length small.now → slice_index (map T.number small.now) h < 64 }
+        requires low { (h : ℕ) → h < length small.now → slice_index (map T.number small.now) h < bound }
         requires listed { (h : ℕ) → Contains rare.now h → h < length small.now }
         requires window { length last.now ≡ length small.now - 1 + octal.len code.now }
-        requires least { (i : ℕ) → i < length last.now → slice_index (map T.number last.now) i < 64 }
+        requires least { (i : ℕ) → i < length last.now → slice_index (map T.number last.now) i < bound }
         requires room { 2 * (length small.now - 1) + octal.len code.now < heap }
         requires limited { heap ≤ 2 ^ 60 }
         ensures shaped { IfOk result (IsShaped (length small.now - 1) (length last.now)) }
-        ensures heap { IfOk result (λ sets. sets.heap ≡ heap) }
+        ensures heap { IfOk result (λ sets. heap_of sets ≡ heap) }
+        ensures reach { IfOk result (λ sets. reach_of sets ≡ length small.now - 1) }
+        ensures bound { IfOk result (λ sets. bound ≤ limit_of sets) }
+        ensures narrow { bound ≤ 32 → IfOk result (λ sets. limit_of sets ≡ 32) }
+        ensures wide { 32 < bound → IfOk result (λ sets. limit_of sets ≡ 64) }
         ensures right { AreFirst code.now (map T.number small.now) → AreLast code.now heap (map T.number last.now) → IfOk result (IsRight code.now rare.now (length small.now - 1)) }
     {
-        let others = witnesses(alloc, code, small, last, rare)?;
-        let heaps = sorted(alloc, small, rare, &others)?;
-        let plan = Plan::of(alloc, code, number_at(small, 0), &heaps)?;
-        let splits = splits_of(alloc, code)?;
-        let pairs = pairs_of(alloc, &splits, last, code.len())?;
-        let mut sets = Sets {
-            plan,
-            splits,
-            reach: small.len() - 1,
-            pairs,
-            block: [0; BLOCK],
-            start: heap,
-            heap,
-        };
-        sets.fill();
-        Ok(sets)
-    }
-
-    /// The nim-value of the next heap, if near options by the plan settle it: below 64, and common. The values of the last heaps
-    /// before it are given.
-    pub fn settle<T: Cell>(&self, mask: Mask, last: &[T]) -> Option<usize>
-        requires shaped { IsShaped self.now.reach (length last.now) self.now }
-        requires limited { self.now.heap ≤ 2 ^ 60 }
-        requires low { (i : ℕ) → i < length last.now → slice_index (map T.number last.now) i < 64 }
-        ensures small { IfSome result (λ value. value < 64) }
-        ensures value { (c : octal.Code) (heaps : List ℕ) (reach : ℕ) → IsRight c heaps reach self.now → AreLast c self.now.heap (map T.number last.now) → IsParted c mask heaps reach self.now.heap → IfSome result (λ value. value ≡ nim_value c self.now.heap) }
-        ensures settled { (c : octal.Code) (heaps : List ℕ) (reach : ℕ) → IsRight c heaps reach self.now → AreLast c self.now.heap (map T.number last.now) → IsParted c mask heaps reach self.now.heap → IfSome result (λ value. IsSettled c mask reach self.now.heap) }
-    {
-        settled_by(mask, self.heap, self.near_set(last))
-    }
-
-    // The set of the next heap: that of the block, and what near steps make besides.
-    fn near_set<T: Cell>(&self, last: &[T]) -> u64
-        requires shaped { IsShaped self.now.reach (length last.now) self.now }
-        requires low { (i : ℕ) → i < length last.now → slice_index (map T.number last.now) i < 64 }
-        ensures union { (c : octal.Code) (heaps : List ℕ) (reach : ℕ) → IsRight c heaps reach self.now → AreLast c self.now.heap (map T.number last.now) → IsUnion c self.now.heap self.now.plan result }
-    {
-        let near = &self.plan.near;
-        let mut set = self.block[self.heap - self.start];
-        for at in 0..near.offsets.len() {
-            let value = number_at(last, last.len() - near.offsets[at]);
-            set |= one(value ^ near.values[at]);
+        if bound <= NARROW {
+            let sets = SetsOf::new(alloc, code, small, rare, last, heap)?;
+            Ok(Sets::Narrow(sets))
+        } else {
+            let sets = SetsOf::new(alloc, code, small, rare, last, heap)?;
+            Ok(Sets::Wide(sets))
         }
-        set
+    }
+
+    /// Each value has to be below this number: 32 or 64.
+    #[inline]
+    pub fn limit(&self) -> usize
+        ensures { result ≡ limit_of self.now }
+    {
+        match self {
+            Sets::Narrow(_) => NARROW,
+            Sets::Wide(_) => SMALL,
+        }
+    }
+
+    /// No far heap of the plan is larger.
+    #[inline]
+    pub fn reach(&self) -> usize
+        ensures { result ≡ reach_of self.now }
+    {
+        match self {
+            Sets::Narrow(sets) => sets.reach,
+            Sets::Wide(sets) => sets.reach,
+        }
+    }
+
+    /// The nim-value of the next heap, if near options by the plan settle it: below the limit, and common. The values of the last
+    /// heaps before it are given.
+    #[inline]
+    pub fn settle<T: Cell>(&self, mask: Mask, last: &[T]) -> Option<usize>
+        requires shaped { IsShaped (reach_of self.now) (length last.now) self.now }
+        requires limited { heap_of self.now ≤ 2 ^ 60 }
+        requires low { (i : ℕ) → i < length last.now → slice_index (map T.number last.now) i < limit_of self.now }
+        ensures small { IfSome result (λ value. value < limit_of self.now) }
+        ensures value { (c : octal.Code) (heaps : List ℕ) (reach : ℕ) → IsRight c heaps reach self.now → AreLast c (heap_of self.now) (map T.number last.now) → IsParted c mask heaps reach (heap_of self.now) → IfSome result (λ value. value ≡ nim_value c (heap_of self.now)) }
+        ensures settled { (c : octal.Code) (heaps : List ℕ) (reach : ℕ) → IsRight c heaps reach self.now → AreLast c (heap_of self.now) (map T.number last.now) → IsParted c mask heaps reach (heap_of self.now) → IfSome result (λ value. IsSettled c mask reach (heap_of self.now)) }
+    {
+        match self {
+            Sets::Narrow(sets) => sets.settle(mask, last),
+            Sets::Wide(sets) => sets.settle(mask, last),
+        }
     }
 
     /// Goes on to the next heap, by the values of the last heaps, of which this one is the last. Takes no memory.
+    #[inline]
     pub fn push<T: Cell>(&mut self, last: &[T])
-        requires shaped { IsShaped self.old.reach (length last.now) self.old }
+        requires shaped { IsShaped (reach_of self.old) (length last.now) self.old }
         requires some { 0 < length last.now }
-        requires low { (i : ℕ) → i < length last.now → slice_index (map T.number last.now) i < 64 }
-        requires limited { self.old.heap < 2 ^ 60 }
-        ensures shaped { IsShaped self.old.reach (length last.now) self.new }
-        ensures reach { self.new.reach ≡ self.old.reach }
-        ensures heap { self.new.heap ≡ self.old.heap + 1 }
-        ensures right { (c : octal.Code) (heaps : List ℕ) (reach : ℕ) → IsRight c heaps reach self.old → AreLast c (self.old.heap + 1) (map T.number last.now) → IsRight c heaps reach self.new }
+        requires low { (i : ℕ) → i < length last.now → slice_index (map T.number last.now) i < limit_of self.old }
+        requires limited { heap_of self.old < 2 ^ 60 }
+        ensures shaped { IsShaped (reach_of self.old) (length last.now) self.new }
+        ensures reach { reach_of self.new ≡ reach_of self.old }
+        ensures heap { heap_of self.new ≡ heap_of self.old + 1 }
+        ensures limit { limit_of self.new ≡ limit_of self.old }
+        ensures right { (c : octal.Code) (heaps : List ℕ) (reach : ℕ) → IsRight c heaps reach self.old → AreLast c (heap_of self.old + 1) (map T.number last.now) → IsRight c heaps reach self.new }
     {
-        self.add_pair(last);
-        self.heap += 1;
-        if self.heap == self.start + BLOCK {
-            self.fill();
+        match self {
+            Sets::Narrow(sets) => sets.push(last),
+            Sets::Wide(sets) => sets.push(last),
         }
-    }
-
-    // Adds the word of the next heap. Where there is no room, the first words are forgotten.
-    fn add_pair<T: Cell>(&mut self, last: &[T])
-        requires pairs { self.old.reach ≤ vec_len self.old.pairs }
-        requires spare { self.old.reach < vec_capacity self.old.pairs }
-        requires splits { (k : ℕ) → k < length self.old.splits.items → slice_index self.old.splits.items k < length last.now }
-        requires some { 0 < length last.now }
-        requires low { (i : ℕ) → i < length last.now → slice_index (map T.number last.now) i < 64 }
-        ensures same { self.new ≡ record self.old { pairs = self.new.pairs } }
-        ensures least { self.old.reach ≤ vec_len self.new.pairs }
-        ensures most { vec_len self.new.pairs ≤ vec_len self.old.pairs + 1 }
-        ensures room { vec_capacity self.new.pairs ≡ vec_capacity self.old.pairs }
-        ensures pairs { (c : octal.Code) → vec_len self.old.pairs ≤ self.old.heap → length last.now ≤ self.old.heap + 1 → AreSplits c self.old.splits.items → ArePairs c self.old.heap self.old.pairs.items → AreLast c (self.old.heap + 1) (map T.number last.now) → ArePairs c (self.old.heap + 1) self.new.pairs.items }
-    {
-        if self.pairs.len() == self.pairs.capacity() {
-            keep_last(&mut self.pairs, self.reach);
-        }
-        self.pairs
-            .push_reserved(split_set(&self.splits, last, last.len() - 1));
-    }
-
-    // Makes the sets of the block that begins with the next heap.
-    fn fill(&mut self)
-        requires far { IsShapedSteps BLOCK self.old.reach self.old.plan.far }
-        requires pairs { self.old.reach ≤ vec_len self.old.pairs }
-        requires behind { vec_len self.old.pairs ≤ self.old.heap }
-        requires limited { self.old.heap ≤ 2 ^ 60 }
-        ensures same { self.new ≡ record self.old { start = self.old.heap; block = self.new.block } }
-        ensures len { length self.new.block ≡ BLOCK }
-        ensures block { (c : octal.Code) → ArePairs c self.old.heap self.old.pairs.items → IsBlock c self.old.heap self.old.plan self.new.block }
-    {
-        self.start = self.heap;
-        self.block = [0; BLOCK];
-        let far = &self.plan.far;
-        unite_steps(
-            &mut self.block,
-            &self.pairs,
-            self.pairs.len(),
-            &far.offsets,
-            &far.values,
-        );
     }
 }

@@ -7,19 +7,19 @@ ghost use Rattle.oct_mex.specs.Rare.{is_rare};
 ghost use Rattle.oct_mex.specs.Windows.{Settles};
 ghost use Rattle.oct_sets.specs.Plans.{IsNearSet};
 
-use bitsets::least;
+use bitsets::Word;
 use oct_mex::Mask;
 
-/// The least number that is not in the set of the values of near options of a heap, if it is below 64, and a value like
-/// it is common there.
-pub(crate) fn settled_by(mask: Mask, heap: usize, set: u64) -> Option<usize>
+/// The least number that is not in the set of the values of near options of a heap, if it is one of a word, and a value
+/// like it is common there.
+pub(crate) fn settled_by<W: Word>(mask: Mask, heap: usize, set: W) -> Option<usize>
     requires { heap ≤ 2 ^ 60 }
-    ensures small { IfSome result (λ value. value < 64) }
+    ensures small { IfSome result (λ value. value < 2 ^ W.digits) }
     ensures common { IfSome result (λ value. is_rare mask heap value ≡ false) }
-    ensures settles { (c : octal.Code) (heaps : List ℕ) (reach : ℕ) → IsNearSet c heap heaps reach set → IfSome result (Settles c (nim_value c) heap heaps reach 64) }
+    ensures settles { (c : octal.Code) (heaps : List ℕ) (reach : ℕ) → IsNearSet (2 ^ W.digits) c heap heaps reach (W.number set) → IfSome result (Settles c (nim_value c) heap heaps reach (2 ^ W.digits)) }
 {
-    let value = least(set);
-    if value < 64 && !is_rare(mask, heap, value) {
+    let value = set.least();
+    if value < W::width() && !is_rare(mask, heap, value) {
         Some(value)
     } else {
         None

@@ -1,9 +1,10 @@
 //! How many heaps of a game are left by a plan and its witnesses.
 
+use crate::settled::settled_by;
 use crate::witnesses::{MOST, witnesses};
-use bitsets::{least, one};
+use bitsets::Word;
 use oct_code::Code;
-use oct_mex::Values;
+use oct_mex::{Mask, Values};
 use std::alloc::Global;
 use std::process::Abort;
 
@@ -42,12 +43,16 @@ fn values_of(rt: &(impl Abort + AllocGlobal), code: Code) -> Vec<u16, Global> {
 fn option_of(values: &[u16], heap: usize, removed: usize, beside: usize) -> Option<u64> {
     let rest = heap.checked_sub(removed)?.checked_sub(beside)?;
     let value = usize::from(*values.get(rest)? ^ *values.get(beside)?);
-    if value < 64 { Some(one(value)) } else { None }
+    if value < 64 {
+        Some(u64::one(value))
+    } else {
+        None
+    }
 }
 
 // Whether all numbers below the value of a heap are values of options with these heaps beside.
 fn is_settled(code: &Code, values: &[u16], heap: usize, small: &[u32]) -> bool {
-    let mut met = 0;
+    let mut met = 0_u64;
     for removed in 0..code.len() + 1 {
         for beside in small {
             let left = if *beside == 0 { 1 } else { 2 };
@@ -56,7 +61,21 @@ fn is_settled(code: &Code, values: &[u16], heap: usize, small: &[u32]) -> bool {
             }
         }
     }
-    values.get(heap).map(|value| usize::from(*value)) == Some(least(met))
+    values.get(heap).map(|value| usize::from(*value)) == Some(met.least())
+}
+
+#[test]
+fn width_of_a_word_is_no_number_of_it(rt: HostRuntime) {
+    // Under this mask an even value of an odd heap is common.
+    let mask = Mask {
+        bits: 1,
+        parity: true,
+        turn: 0,
+    };
+    let narrow = settled_by(mask, 41, u32::MAX);
+    let wide = settled_by(mask, 41, u64::from(u32::MAX));
+    assert_eq!(&rt; narrow, None, "32 in a word of 32 bits");
+    assert_eq!(&rt; wide, Some(32), "32 in a word of 64 bits");
 }
 
 #[test]

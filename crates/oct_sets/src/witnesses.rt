@@ -10,7 +10,7 @@ ghost use Rattle.std.specs.Prelude.{◌≤◌, ◌<◌, IfOk, IfSome, length, ma
 ghost use Rattle.std.specs.List.{All};
 
 use crate::pairs::{number_at, splits_of};
-use bitsets::one;
+use bitsets::Word;
 use oct_code::Code;
 use oct_mex::Cell;
 use std::alloc::{AllocError, Allocator};
@@ -147,7 +147,7 @@ impl<T: Cell> Known<'_, T> {
 
     // The values of the heaps of a list, and that of no bean.
     fn values_of(self, heaps: &[u32]) -> u64 {
-        let mut values = one(0);
+        let mut values = u64::one(0);
         for heap in heaps {
             values |= self.set_of(*heap as usize);
         }
@@ -243,13 +243,13 @@ impl<T: Cell> Known<'_, T> {
 
 // The set of a number, or of none if it is not below 64.
 fn set_of(number: usize) -> u64 {
-    if number < 64 { one(number) } else { 0 }
+    if number < 64 { u64::one(number) } else { 0 }
 }
 
 // The numbers below a value, as far as they are below 64.
 fn below(value: usize) -> u64 {
     if value < 64 {
-        one(value).wrapping_sub(1)
+        u64::one(value).wrapping_sub(1)
     } else {
         u64::MAX
     }

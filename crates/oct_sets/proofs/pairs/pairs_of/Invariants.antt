@@ -8,5 +8,5 @@ invariant-loop-place g l = record {
   begun : l.first ≤ l.place;
   len : vec_len l.pairs ≡ l.place - l.first;
   room : length l.values < vec_capacity l.pairs;
-  pairs : (i v : ℕ) → l.first + i < l.place → Has (slice_index l.pairs.items i) v ↔ IsOneBefore l.splits (map g.T.Cell.number l.values) (l.first + i) (length l.splits) v;
+  pairs : (i v : ℕ) → l.first + i < l.place → Has (slice_index (map g.W.Word.number l.pairs.items) i) v ↔ IsOneBefore l.splits (map g.T.Cell.number l.values) (l.first + i) (length l.splits) v;
 }

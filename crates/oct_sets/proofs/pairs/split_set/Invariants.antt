@@ -5,5 +5,5 @@ use Rattle.oct_sets.proofs.pairs.split_set.Given as goal
 
 abbrev pub invariant-loop-removed : goal.invariant-loop-removed
 invariant-loop-removed g l = record {
-  set : (v : ℕ) → Has l.set v ↔ IsOneBefore l.splits (map g.T.Cell.number l.values) l.place l.removed-index v;
+  set : (v : ℕ) → Has (g.W.Word.number l.set) v ↔ IsOneBefore l.splits (map g.T.Cell.number l.values) l.place l.removed-index v;
 }

@@ -14,24 +14,24 @@ loop-removed-preserved g c =
     elim c.if-allows.branch [
       | then-allows+in_ok-push w ↦ rw w.self-is (record {
         some = omega arith;
-        shaped = λ reach width shaped few. record {
-          far = (is.shaped reach width shaped few).far;
-          near = steps_more 1 width r value c.loop-removed.self.near w.push.new.self (is.shaped reach width shaped few).near w.in_ok-push.ensures.offsets w.in_ok-push.ensures.values is.some
-              (omega (arith, few, c.loop-removed-test.true)) c.requires.small;
+        shaped = λ limit reach width small shaped few. record {
+          far = (is.shaped limit reach width small shaped few).far;
+          near = steps_more limit 1 width r value c.loop-removed.self.near w.push.new.self (is.shaped limit reach width small shaped few).near w.in_ok-push.ensures.offsets w.in_ok-push.ensures.values is.some
+              (omega (arith, few, c.loop-removed-test.true)) small;
         };
-        adds = λ reach width shaped few. adds_more code c.args.self.now c.loop-removed.self (record c.loop-removed.self { near = w.push.new.self }) (IsEndStep code value r) (λ d x. (d ≡ r) × (x ≡ value))
-            (IsEndStep code value (r + 1)) (is.adds reach width shaped few)
-            (adds_near code c.loop-removed.self (record c.loop-removed.self { near = w.push.new.self }) r value refl (is.shaped reach width shaped few).near.beside w.in_ok-push.ensures.offsets w.in_ok-push.ensures.values)
+        adds = λ limit reach width small shaped few. adds_more code c.args.self.now c.loop-removed.self (record c.loop-removed.self { near = w.push.new.self }) (IsEndStep code value r) (λ d x. (d ≡ r) × (x ≡ value))
+            (IsEndStep code value (r + 1)) (is.adds limit reach width small shaped few)
+            (adds_near code c.loop-removed.self (record c.loop-removed.self { near = w.push.new.self }) r value refl (is.shaped limit reach width small shaped few).near.beside w.in_ok-push.ensures.offsets w.in_ok-push.ensures.values)
             (λ d x s. end_back code value r d x s) (λ d x s. end_forth code value r d x is.some (sym c.allows.ensures ∙ w.if-allows.true) s);
       })
       | else-allows w ↦ rw w.self-is (record {
         some = omega arith;
-        shaped = λ reach width shaped few. is.shaped reach width shaped few;
-        adds = λ reach width shaped few. adds_same code c.args.self.now c.loop-removed.self (IsEndStep code value r) (IsEndStep code value (r + 1)) (is.adds reach width shaped few)
+        shaped = λ limit reach width small shaped few. is.shaped limit reach width small shaped few;
+        adds = λ limit reach width small shaped few. adds_same code c.args.self.now c.loop-removed.self (IsEndStep code value r) (IsEndStep code value (r + 1)) (is.adds limit reach width small shaped few)
             (λ d x s. end_skip code value r d x (λ yes. false≢true (sym w.if-allows.false ∙ c.allows.ensures ∙ yes)) s) (λ d x s. end_later code value r d x s);
       })
     ]
 
 pub returns-clause-adds : goal.returns-clause-adds
-returns-clause-adds g c reach width shaped few =
-    subst (λ r. AddsSteps c.args.code.now c.args.self.now c.loop-removed.self (IsEndStep c.args.code.now c.args.value r)) (omega arith) (c.loop-removed.invariant.adds reach width shaped few)
+returns-clause-adds g c limit reach width small shaped few =
+    subst (λ r. AddsSteps c.args.code.now c.args.self.now c.loop-removed.self (IsEndStep c.args.code.now c.args.value r)) (omega arith) (c.loop-removed.invariant.adds limit reach width small shaped few)

@@ -6,7 +6,7 @@ use Rattle.oct_sets.proofs.Growing.{adds_far, on_both}
 use Rattle.oct_sets.proofs.plan.Plan.add_heap.Goals as goal
 
 pub returns-else-heap-lt-BLOCK-clause-adds : goal.returns-else-heap-lt-BLOCK-clause-adds
-returns-else-heap-lt-BLOCK-clause-adds g c reach shaped few =
+returns-else-heap-lt-BLOCK-clause-adds g c limit reach small shaped few =
     let old = c.args.self.now in
     let code = c.args.code.now in
     let far = c.push.new.self in

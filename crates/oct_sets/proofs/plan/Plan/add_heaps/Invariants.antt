@@ -7,7 +7,7 @@ use Rattle.oct_sets.proofs.plan.Plan.add_heaps.Given as goal
 
 abbrev pub invariant-loop-heap : goal.invariant-loop-heap
 invariant-loop-heap g l = record {
-  shaped : (reach : ℕ) → IsShapedPlan reach (reach + len l.code) l.initial.self → ((h : SmallHeap) → Contains l.heaps h → IsWithin reach h) → IsShapedPlan reach (reach + len l.code) l.self;
-  adds : (reach : ℕ) → IsShapedPlan reach (reach + len l.code) l.initial.self → ((h : SmallHeap) → Contains l.heaps h → IsWithin reach h)
+  shaped : (limit reach : ℕ) → IsShapedPlan limit reach (reach + len l.code) l.initial.self → ((h : SmallHeap) → Contains l.heaps h → IsWithin limit reach h) → IsShapedPlan limit reach (reach + len l.code) l.self;
+  adds : (limit reach : ℕ) → IsShapedPlan limit reach (reach + len l.code) l.initial.self → ((h : SmallHeap) → Contains l.heaps h → IsWithin limit reach h)
       → AddsSteps l.code l.initial.self l.self (IsHeapStep l.code l.heaps l.heap-index);
 }

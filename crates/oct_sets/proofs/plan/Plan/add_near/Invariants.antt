@@ -1,10 +1,10 @@
-use Rattle.std.proofs.Common.{ℕ, ◌+◌, ◌≤◌}
+use Rattle.std.proofs.Common.{ℕ, ◌+◌, ◌<◌, ◌≤◌}
 use Rattle.oct_code.specs.Code.{len}
 use Rattle.oct_sets.specs.Plans.{AddsSteps, IsPairStep, IsShapedPlan}
 use Rattle.oct_sets.proofs.plan.Plan.add_near.Given as goal
 
 abbrev pub invariant-loop-removed : goal.invariant-loop-removed
 invariant-loop-removed g l = record {
-  shaped : (reach : ℕ) → IsShapedPlan reach (reach + len l.code) l.initial.self → l.heap ≤ reach → IsShapedPlan reach (reach + len l.code) l.self;
-  adds : (reach : ℕ) → IsShapedPlan reach (reach + len l.code) l.initial.self → l.heap ≤ reach → AddsSteps l.code l.initial.self l.self (IsPairStep l.code l.heap l.value l.removed);
+  shaped : (limit reach : ℕ) → l.value < limit → IsShapedPlan limit reach (reach + len l.code) l.initial.self → l.heap ≤ reach → IsShapedPlan limit reach (reach + len l.code) l.self;
+  adds : (limit reach : ℕ) → l.value < limit → IsShapedPlan limit reach (reach + len l.code) l.initial.self → l.heap ≤ reach → AddsSteps l.code l.initial.self l.self (IsPairStep l.code l.heap l.value l.removed);
 }
