@@ -5,14 +5,13 @@ ghost use Rattle.census_core.specs.Performed.{number_fault, performed, stages_of
 ghost use Rattle.census_issue.specs.Turns.{Kept, KeptSome};
 ghost use Rattle.census_state.specs.Replies.{answer_of};
 
-use crate::progress::Nobody;
 use census_fold::{delta, delta_of_games};
 use census_issue::{
     Aim, NoKeeper, TurnKeeper, claim, compute, find, give_turns, import, note, unnote,
 };
 use census_state::{Fault, Reply, Request, View, init, merge, renumber};
 use census_tell::{Question, answer, games, page, show, show_only};
-use oct_window::Progress;
+use oct_window::{Nobody, Progress};
 use std::alloc::Global;
 
 /// Does one command, from the bytes of the state file and of another file: what is to be written, and the text. `Init`

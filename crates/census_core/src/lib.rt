@@ -34,7 +34,6 @@
 mod command;
 pub mod laws;
 mod moving;
-mod progress;
 mod reaching;
 
 pub use census_fold::{

@@ -1,4 +1,4 @@
-//! Long periods: notes that name periods which no period claim can hold, since they start or are above 65,536.
+//! Long periods: notes that name periods which no period claim proves, since they take more than 65,536 values.
 //!
 //! The note of a game has the name `period-` and the game's code with a hyphen in place of the point, and says what
 //! `census search` prints of the period:
@@ -16,7 +16,6 @@
 pub mod laws;
 mod noting;
 mod rechecking;
-mod searching;
 
 pub use noting::{note_period, period_notes};
 pub use rechecking::{Rechecked, recheck, recheck_into};

@@ -4,7 +4,6 @@ ghost use Rattle.std.specs.Prelude.{◌≡◌, ◌≤◌, ◌++◌, IfOk, IfErr,
 ghost use Rattle.census_noted.specs.Rechecking.{IsRecheckFault, IsRechecked, IsSearchFault, IsSearchedFor, end_words, far_line, is_same, needed, silent_line, told_line, with_rechecked};
 
 use crate::laws::what_is_so_is_least;
-use crate::searching::search_told;
 use oct_code::Code;
 use oct_mex::SeenPeriod;
 use oct_ops::Dot;
@@ -101,7 +100,7 @@ fn search_again<A: Allocator + Copy, P: Progress>(
     ensures err { IfErr result (IsSearchFault code count) }
 {
     let mut game = Search::new(alloc, code);
-    let found = search_told(&mut game, count, progress)?;
+    let found = game.search(count, progress)?;
     Ok(Rechecked {
         line: told_line(alloc, code, found, game.len(), said)?,
         is_so: is_same(found, said),

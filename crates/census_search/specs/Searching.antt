@@ -6,8 +6,6 @@ use Rattle.oct_mex.specs.declared.period.SeenPeriod.{SeenPeriod}
 use Rattle.oct_text.specs.Words.{Text}
 use Rattle.oct_search.specs.Found.{IsLeastShown}
 use Rattle.oct_window.specs.Seeking.{IsPast}
-use Rattle.oct_search.specs.declared.error.SearchError.{SearchError}
-use Rattle.oct_search.specs.declared.error.SearchError.TheVariants as search
 use Rattle.census_search.specs.SearchTexts.{search_text}
 use Rattle.census_state.specs.declared.fault.Fault.{Fault}
 use Rattle.census_state.specs.declared.fault.Fault.TheVariants.{Number, PastValue, OutOfMemory}
@@ -37,10 +35,6 @@ IsSearched form c count heaps text = NamesPeriod form c count heaps text ⊎ Nam
 -- ---- faults
 
 -- why a search of `count` nim-values ends before its line: where memory is refused there is nothing to say of the game
-abbrev pub IsPastFrom : Code → ℕ → SearchError → Type 0
-IsPastFrom c count search.PastValue = IsPast c count
-IsPastFrom c count search.OutOfMemory = Unit {0}
-
 abbrev pub IsSearchFault : Code → ℕ → Fault → Type 0
 IsSearchFault c count Number = searchable count ≡ Err Number
 IsSearchFault c count PastValue = IsPast c count

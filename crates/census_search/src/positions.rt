@@ -6,7 +6,7 @@ ghost use Rattle.oct_period.specs.Moving.{IsWinningAnswer};
 ghost use Rattle.census_search.specs.Positions.{IsMoveReached, IsReached};
 ghost use Rattle.census_search.specs.Searching.{IsSearchFault, searchable};
 
-use crate::searching::{check_searchable, search_told};
+use crate::searching::check_searchable;
 use census_state::Fault;
 use oct_code::Code;
 use oct_reach::{Move, Unknown, position_value, winning_move};
@@ -31,7 +31,7 @@ pub fn reach<P: Progress>(
 {
     check_searchable(count)?;
     let mut game = Search::new(alloc, code);
-    let found = search_told(&mut game, count as usize, progress)?;
+    let found = game.search(count as usize, progress)?;
     Ok(position_value(&game, found, heaps))
 }
 
@@ -52,6 +52,6 @@ pub fn reach_move<P: Progress>(
 {
     check_searchable(count)?;
     let mut game = Search::new(alloc, code);
-    let found = search_told(&mut game, count as usize, progress)?;
+    let found = game.search(count as usize, progress)?;
     Ok(winning_move(&game, found, heaps))
 }

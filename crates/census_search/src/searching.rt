@@ -1,23 +1,18 @@
 //! How the period of a game is searched for, as far as memory goes.
 
-ghost use Rattle.std.specs.Prelude.{◌≡◌, ◌≤◌, max, None, Ok, Err, IfOk, IfErr, OnOk, OnErr};
-ghost use Rattle.oct_search.specs.Found.{IsFound};
-ghost use Rattle.census_search.specs.Searching.{IsPastFrom, IsSearched, IsSearchFault, searchable};
+ghost use Rattle.std.specs.Prelude.{◌≡◌, ◌≤◌, Ok, Err, IfOk, IfErr, OnOk};
+ghost use Rattle.census_search.specs.Searching.{IsSearched, IsSearchFault, searchable};
 
 use crate::search_text::search_text;
 use census_state::Fault;
 use oct_code::Code;
-use oct_mex::SeenPeriod;
-use oct_search::{MOST, Search, SearchError};
+use oct_search::{MOST, Search};
 use oct_text::Form;
 use oct_window::Progress;
 use std::alloc::Global;
 
 /// The most nim-values of a game that a search computes.
 pub const SEARCH_LIMIT: u64 = 4_294_967_296;
-
-// So many nim-values are computed before it is told again how many are known.
-const PART: usize = 65_536;
 
 /// Computes nim-values of a game until they prove a period, or `count` of them are known, and gives the text that says what
 /// was found: the least period that they prove, from the least heap that they prove it from, how many of them prove it, and
@@ -41,7 +36,7 @@ pub fn search<P: Progress>(
 {
     check_searchable(count)?;
     let mut game = Search::new(alloc, code);
-    let found = search_told(&mut game, count as usize, progress)?;
+    let found = game.search(count as usize, progress)?;
     Ok(search_text(alloc, &game, found, heaps, form)?)
 }
 
@@ -60,7 +55,7 @@ pub fn first_values<P: Progress>(
     check_searchable(count)?;
     let count = count as usize;
     let mut game = Search::new(alloc, code);
-    extend_told(&mut game, count, count, progress)?;
+    game.extend_told(count, count, progress)?;
     Ok(game)
 }
 
@@ -72,47 +67,6 @@ pub fn check_searchable(count: u64) -> Result<(), Fault>
 {
     if count == 0 || count > SEARCH_LIMIT {
         return Err(Fault::Number);
-    }
-    Ok(())
-}
-
-/// Computes nim-values until they show a period, or those of `count` heaps are known, and tells how many are known.
-pub(crate) fn search_told<P: Progress>(
-    game: &mut Search<Global>,
-    count: usize,
-    progress: &mut P,
-) -> Result<Option<SeenPeriod>, SearchError>
-    requires { count ≤ MOST }
-    ensures code { game.new.code ≡ game.old.code }
-    ensures most { OnOk result (game.new.len ≤ max count game.old.len) }
-    ensures found { IfOk result (IsFound game.new.code game.new.len) }
-    ensures all { IfOk result (λ found. found ≡ None → game.new.len ≡ max count game.old.len) }
-    ensures past { IfErr result (IsPastFrom game.old.code count) }
-{
-    let mut found = game.find_period();
-    while found.is_none() && game.len() < count {
-        extend_told(game, count.min(game.next_look()), count, progress)?;
-        found = game.find_period();
-    }
-    Ok(found)
-}
-
-// Computes the nim-values of the heaps below `end`, and tells how many of `count` are known.
-fn extend_told<P: Progress>(
-    game: &mut Search<Global>,
-    end: usize,
-    count: usize,
-    progress: &mut P,
-) -> Result<(), SearchError>
-    requires few { end ≤ count }
-    requires limited { count ≤ MOST }
-    ensures code { game.new.code ≡ game.old.code }
-    ensures ok { OnOk result (game.new.len ≡ max end game.old.len) }
-    ensures past { IfErr result (IsPastFrom game.old.code count) }
-{
-    while game.len() < end {
-        progress.tell(game.code(), game.len() as u64, count as u64);
-        game.extend(end.min(game.len() + PART))?;
     }
     Ok(())
 }

@@ -20,8 +20,8 @@ module _ {T A : Type 0} (number : T → ℕ) (c : Code) (row : Row T A) (kept : 
   abbrev cells : List T
   cells = row.values.items
 
-  low_by : (xs : List ℕ) → All (λ v. v < 2 ^ kept.used.bits) xs → row.used ≤ 64 → (i : ℕ) → i < length xs → slice_index xs i < 64
-  low_by xs all small i low = omega (arith, all i 0 low, kept.used.power, small)
+  low_by : (xs : List ℕ) → All (λ v. v < 2 ^ kept.used.bits) xs → (bound : ℕ) → row.used ≤ bound → (i : ℕ) → i < length xs → slice_index xs i < bound
+  low_by xs all bound small i low = omega (arith, all i 0 low, kept.used.power, small)
 
   -- the first values
   pub first_is : (m : ℕ) (xs : List T) → xs ≡ cells → m ≤ vec_len row.values → AreFirst c (map number (take m xs))
@@ -30,12 +30,12 @@ module _ {T A : Type 0} (number : T → ℕ) (c : Code) (row : Row T A) (kept : 
       ap (λ ys. map number (take m ys)) same ∙ sym (take-map number m cells) ∙ ap (take m) kept.values ∙ nim_values-take c (vec_len row.values) m few in
       value_at c m h (map number (take m xs)) are (omega (arith, low, ap length are, nim_values-length c m))
 
-  pub first_low : (m : ℕ) (xs : List T) → xs ≡ cells → row.used ≤ 64 → (i : ℕ) → i < length (take m xs) → slice_index (map number (take m xs)) i < 64
-  first_low m xs same small i low =
+  pub first_low : (m : ℕ) (xs : List T) → xs ≡ cells → (bound : ℕ) → row.used ≤ bound → (i : ℕ) → i < length (take m xs) → slice_index (map number (take m xs)) i < bound
+  first_low m xs same bound small i low =
       let P : ℕ → Type 0 = λ v. v < 2 ^ kept.used.bits in
       low_by (map number (take m xs))
       (subst (λ ys. All P (map number (take m ys))) (sym same) (subst (All P) (take-map number m cells) (All-take P m (map number cells) kept.used.small)))
-      small i (omega (arith, low, length-map (take m xs) number))
+      bound small i (omega (arith, low, length-map (take m xs) number))
 
   -- the last ones
   pub last_is : (k m : ℕ) (xs : List T) → xs ≡ cells → k + m ≡ vec_len row.values → AreLast c (vec_len row.values) (map number (take m (drop k xs)))
@@ -50,13 +50,13 @@ module _ {T A : Type 0} (number : T → ℕ) (c : Code) (row : Row T A) (kept : 
       ap (λ ys. slice_index ys i) are ∙ get_or-take m (drop k all) i 0 (omega (arith, size, low, full, near)) ∙ get_or-drop k all i 0
       ∙ ap (slice_index all) place ∙ value_at c (vec_len row.values) h all kept.values low
 
-  pub last_low : (k m : ℕ) (xs : List T) → xs ≡ cells → row.used ≤ 64 → (i : ℕ) → i < length (take m (drop k xs)) → slice_index (map number (take m (drop k xs))) i < 64
-  last_low k m xs same small i low =
+  pub last_low : (k m : ℕ) (xs : List T) → xs ≡ cells → (bound : ℕ) → row.used ≤ bound → (i : ℕ) → i < length (take m (drop k xs)) → slice_index (map number (take m (drop k xs))) i < bound
+  last_low k m xs same bound small i low =
       let P : ℕ → Type 0 = λ v. v < 2 ^ kept.used.bits in
       low_by (map number (take m (drop k xs)))
       (subst (λ ys. All P (map number (take m (drop k ys)))) (sym same)
       (subst (All P) (take-map number m (drop k cells)) (All-take P m (map number (drop k cells)) (subst (All P) (drop-map number k cells) (All-drop P k (map number cells) kept.used.small)))))
-      small i (omega (arith, low, length-map (take m (drop k xs)) number))
+      bound small i (omega (arith, low, length-map (take m (drop k xs)) number))
 
   -- its mask parts the heaps, where the listed ones are no larger than `reach`
   pub parted_by : (reach : ℕ) → 0 < row.rare.mask.bits → reach < vec_len row.values → ((h : ℕ) → Contains row.rare.heaps.items h → h ≤ reach) → IsParted c row.rare.mask row.rare.heaps.items reach (vec_len row.values)

@@ -1,6 +1,6 @@
 //! The next value of a row by sets of the values of options, where no large heap is rare.
 
-ghost use Rattle.std.specs.Prelude.{◌≡◌, ◌+◌, ◌-◌, ◌^◌, ◌<◌, ◌≤◌, ℕ, if◌then◌else◌, false, IfSome, IsTrue, length, map, slice_index, vec_len, vec_capacity};
+ghost use Rattle.std.specs.Prelude.{◌≡◌, ◌+◌, ◌-◌, ◌^◌, ◌<◌, ◌≤◌, ℕ, false, max, IfSome, IsTrue, length, map, slice_index, vec_len, vec_capacity};
 ghost use Rattle.std.specs.List.{Contains};
 ghost use Rattle.oct_code.specs.Code as octal;
 ghost use Rattle.oct_mex.specs.NimValues.{nim_value};
@@ -9,6 +9,7 @@ ghost use Rattle.oct_mex.specs.Row.{IsRow};
 ghost use Rattle.oct_mex.specs.Windows.{window};
 ghost use Rattle.oct_search.specs.BySets.{AreSetsOf};
 ghost use Rattle.oct_sets.specs.Plans.{AreFirst, AreLast};
+ghost use Rattle.oct_sets.specs.Sets.{limit_of, reach_of};
 
 use crate::certificate::greatest;
 use oct_code::Code;
@@ -56,7 +57,7 @@ impl<A: Allocator + Copy> BySets<A> {
         }
         let small = first_values(row, code, reach + 1);
         let last = last_values(row, code, reach);
-        match Sets::new(alloc, code, small, &row.rare.heaps, last, len) {
+        match Sets::new(alloc, code, small, &row.rare.heaps, last, len, row.used) {
             Ok(sets) => Some(BySets {
                 sets,
                 mask: row.rare.mask,
@@ -65,23 +66,25 @@ impl<A: Allocator + Copy> BySets<A> {
         }
     }
 
-    /// Adds the next value to a row with room for it, and goes on with the sets, if they tell it: else nothing changes.
-    pub(crate) fn push_settled<T: Cell>(&mut self, row: &mut Row<T, A>, code: &Code) -> bool
+    /// Adds the next values up to the heap `end`, for which a row has room, as far as the sets tell them, and goes on with the sets.
+    /// Takes no memory.
+    pub(crate) fn push_settled<T: Cell>(&mut self, row: &mut Row<T, A>, code: &Code, end: usize)
         requires row { IsRow T.number code.now row.old }
         requires right { AreSetsOf code.now (vec_len row.old.values) self.old }
-        requires limited { vec_len row.old.values < 2 ^ 32 }
-        requires room { vec_len row.old.values < vec_capacity row.old.values }
+        requires limited { end ≤ 2 ^ 32 }
+        requires room { end ≤ vec_capacity row.old.values }
         ensures row { IsRow T.number code.now row.new }
-        ensures len { vec_len row.new.values ≡ (if result then vec_len row.old.values + 1 else vec_len row.old.values) }
-        ensures lost { result ≡ false → row.new ≡ row.old }
+        ensures more { vec_len row.old.values ≤ vec_len row.new.values }
+        ensures most { vec_len row.new.values ≤ max end (vec_len row.old.values) }
         ensures right { AreSetsOf code.now (vec_len row.new.values) self.new }
     {
-        let Some(cell) = self.next(row, code) else {
-            return false;
-        };
-        push_common(row, cell);
-        self.go_on(row, code);
-        true
+        while row.values.len() < end {
+            let Some(cell) = self.next(row, code) else {
+                return;
+            };
+            push_common(row, cell);
+            self.go_on(row, code);
+        }
     }
 
     // The next value of a row, if the sets tell it, and the marks serve for it.
@@ -90,14 +93,14 @@ impl<A: Allocator + Copy> BySets<A> {
         requires right { AreSetsOf code.now (vec_len row.now.values) self.now }
         ensures value { IfSome result (λ cell. T.number cell ≡ nim_value code.now (vec_len row.now.values)) }
         ensures within { IfSome result (λ cell. T.number cell < row.now.used) }
-        ensures few { IfSome result (λ cell. row.now.used ≤ SMALL) }
+        ensures few { IfSome result (λ cell. row.now.used ≤ limit_of self.now.sets) }
         ensures common { IfSome result (λ cell. is_rare row.now.rare.mask (vec_len row.now.values) (T.number cell) ≡ false) }
         ensures settled { IfSome result (λ cell. is_rare self.now.mask (vec_len row.now.values) (nim_value code.now (vec_len row.now.values)) ≡ false) }
     {
-        if row.used > SMALL || !is_same(row.rare.mask, self.mask) {
+        if row.used > self.sets.limit() || !is_same(row.rare.mask, self.mask) {
             return None;
         }
-        let last = last_values(row, code, self.sets.reach);
+        let last = last_values(row, code, self.sets.reach());
         let value = self.sets.settle(self.mask, last)?;
         if value < row.used {
             T::from_number(value)
@@ -107,16 +110,16 @@ impl<A: Allocator + Copy> BySets<A> {
     }
 
     /// Goes on behind a value that was found otherwise, and says whether the sets still serve: that the mask is theirs, the value
-    /// common, and each value below 64.
+    /// common, and each value one that the sets can have.
     pub(crate) fn follow<T: Cell>(&mut self, row: &Row<T, A>, code: &Code) -> bool
         requires row { IsRow T.number code.now row.now }
         requires some { 0 < vec_len row.now.values }
         requires right { AreSetsOf code.now (vec_len row.now.values - 1) self.old }
         ensures { IsTrue result → AreSetsOf code.now (vec_len row.now.values) self.new }
     {
-        if row.used > SMALL
+        if row.used > self.sets.limit()
             || !is_same(row.rare.mask, self.mask)
-            || greatest(&row.rare.heaps) > self.sets.reach
+            || greatest(&row.rare.heaps) > self.sets.reach()
         {
             return false;
         }
@@ -128,12 +131,12 @@ impl<A: Allocator + Copy> BySets<A> {
     fn go_on<T: Cell>(&mut self, row: &Row<T, A>, code: &Code)
         requires row { IsRow T.number code.now row.now }
         requires some { 0 < vec_len row.now.values }
-        requires few { row.now.used ≤ SMALL }
+        requires few { row.now.used ≤ limit_of self.old.sets }
         requires right { AreSetsOf code.now (vec_len row.now.values - 1) self.old }
-        requires common { self.old.sets.reach < vec_len row.now.values - 1 → is_rare self.old.mask (vec_len row.now.values - 1) (nim_value code.now (vec_len row.now.values - 1)) ≡ false }
+        requires common { reach_of self.old.sets < vec_len row.now.values - 1 → is_rare self.old.mask (vec_len row.now.values - 1) (nim_value code.now (vec_len row.now.values - 1)) ≡ false }
         ensures { AreSetsOf code.now (vec_len row.now.values) self.new }
     {
-        let last = last_values(row, code, self.sets.reach);
+        let last = last_values(row, code, self.sets.reach());
         self.sets.push(last);
     }
 }
@@ -152,7 +155,7 @@ fn first_values<'a, T: Cell, A: Allocator>(row: &'a Row<T, A>, code: &Code, coun
     requires within { count ≤ vec_len row.now.values }
     ensures len { length result.now ≡ count }
     ensures first { AreFirst code.now (map T.number result.now) }
-    ensures low { row.now.used ≤ SMALL → (i : ℕ) → i < length result.now → slice_index (map T.number result.now) i < 64 }
+    ensures low { (bound : ℕ) → row.now.used ≤ bound → (i : ℕ) → i < length result.now → slice_index (map T.number result.now) i < bound }
 {
     &row.values[..count]
 }
@@ -163,7 +166,7 @@ fn last_values<'a, T: Cell, A: Allocator>(row: &'a Row<T, A>, code: &Code, reach
     requires within { window code.now reach ≤ vec_len row.now.values }
     ensures len { length result.now ≡ window code.now reach }
     ensures last { AreLast code.now (vec_len row.now.values) (map T.number result.now) }
-    ensures low { row.now.used ≤ SMALL → (i : ℕ) → i < length result.now → slice_index (map T.number result.now) i < 64 }
+    ensures low { (bound : ℕ) → row.now.used ≤ bound → (i : ℕ) → i < length result.now → slice_index (map T.number result.now) i < bound }
 {
     &row.values[row.values.len() - (reach + code.len())..]
 }
@@ -174,6 +177,7 @@ fn push_common<T: Cell, A: Allocator + Copy>(row: &mut Row<T, A>, cell: T)
     requires room { vec_len row.old.values < vec_capacity row.old.values }
     ensures row { (c : octal.Code) → IsRow T.number c row.old → T.number cell ≡ nim_value c (vec_len row.old.values) → T.number cell < row.old.used → is_rare row.old.rare.mask (vec_len row.old.values) (T.number cell) ≡ false → IsRow T.number c row.new }
     ensures len { vec_len row.new.values ≡ vec_len row.old.values + 1 }
+    ensures room { vec_capacity row.new.values ≡ vec_capacity row.old.values }
     ensures used { row.new.used ≡ row.old.used }
 {
     row.values.push_reserved(cell);

@@ -1,17 +1,17 @@
 //! The nim-values of a game in cells of 8 bits until one exceeds 255, and then of 16.
 
-ghost use Rattle.std.specs.Prelude.{◌≡◌, ◌+◌, ◌^◌, ◌<◌, ◌≤◌, if◌then◌else◌, false, vec_len, IfErr, IfOk, IfSome, OnErr, OnOk};
+ghost use Rattle.std.specs.Prelude.{◌≡◌, ◌+◌, ◌^◌, ◌<◌, ◌≤◌, if◌then◌else◌, false, max, vec_len, IfErr, IfOk, IfSome, OnErr, OnOk};
 ghost use Rattle.oct_code.specs.Code as octal;
 ghost use Rattle.oct_mex.specs.NimValues.{nim_value};
 ghost use Rattle.oct_mex.specs.Periods.{GoesOn};
 ghost use Rattle.oct_mex.specs.Row.{IsRow};
 ghost use Rattle.oct_search.specs.BySets.{AreSetsOf};
 ghost use Rattle.oct_search.specs.Cells.{IsKnown, bound_of, len_of};
-ghost use Rattle.oct_search.specs.Certain.{IsCertain};
+ghost use Rattle.oct_search.specs.Certain.{IsExpected};
 ghost use Rattle.oct_search.specs.Found.{IsFound};
 ghost use Rattle.oct_search.specs.declared.error.SearchError.TheVariants.{PastValue};
 
-use crate::certificate::certain_period;
+use crate::certificate::{Expected, look_ahead};
 use crate::error::SearchError;
 use crate::finder::{Finder, lengthen, make_room, room_behind};
 use crate::search::MOST;
@@ -78,23 +78,23 @@ impl<A: Allocator + Copy> Cells<A> {
         }
     }
 
-    /// The least period that the last values let expect, if they are known to go on with it. It may need memory for marks.
-    pub(crate) fn certain_period(
+    /// The same, and whether the values are known to go on with it. It may need memory for marks.
+    pub(crate) fn look_ahead(
         &self,
         code: &Code,
         marks: &mut Vec<bool, A>,
-    ) -> Result<Option<SeenPeriod>, AllocError>
+    ) -> Result<Option<Expected>, AllocError>
         requires { IsKnown code.now self.now }
-        ensures { IfOk result (λ found. IfSome found (IsCertain code.now (len_of self.now))) }
+        ensures { IfOk result (λ found. IfSome found (IsExpected code.now (len_of self.now))) }
     {
         match self {
             Cells::Narrow(row) => {
                 lengthen(marks, row.used)?;
-                Ok(certain_period(row, code, marks))
+                Ok(look_ahead(row, code, marks))
             }
             Cells::Wide(row) => {
                 lengthen(marks, row.used)?;
-                Ok(certain_period(row, code, marks))
+                Ok(look_ahead(row, code, marks))
             }
         }
     }
@@ -115,7 +115,23 @@ impl<A: Allocator + Copy> Cells<A> {
         }
     }
 
-    /// Adds the next value. Without memory, or where it is above 65,535, the values stay.
+    /// Adds the next values up to the heap `end`, as far as there is room for them and sets tell them. Takes no memory.
+    pub(crate) fn push_settled(&mut self, code: &Code, finder: &mut Finder<A>, end: usize)
+        requires known { IsKnown code.now self.old }
+        requires limited { end ≤ MOST }
+        requires sets { IfSome finder.old.sets (AreSetsOf code.now (len_of self.old)) }
+        ensures known { IsKnown code.now self.new }
+        ensures more { len_of self.old ≤ len_of self.new }
+        ensures most { len_of self.new ≤ max end (len_of self.old) }
+        ensures sets { IfSome finder.new.sets (AreSetsOf code.now (len_of self.new)) }
+    {
+        match self {
+            Cells::Narrow(row) => finder.push_settled(row, code, end),
+            Cells::Wide(row) => finder.push_settled(row, code, end),
+        }
+    }
+
+    /// Adds the next value, by marks. Without memory, or where it is above 65,535, the values stay.
     pub(crate) fn push_next(
         &mut self,
         alloc: A,

@@ -11,30 +11,35 @@ ghost use Rattle.oct_code.specs.Code as octal;
 ghost use Rattle.oct_mex.specs.Periods.{ComesAgain, GoesOn};
 ghost use Rattle.oct_mex.specs.Row.{IsRow};
 ghost use Rattle.oct_mex.specs.Windows.{IsSettled, window};
-ghost use Rattle.oct_search.specs.Certain.{IsCertain};
+ghost use Rattle.oct_search.specs.Certain.{IsExpected};
 
 use oct_code::Code;
 use oct_mex::{Cell, Mask, Row, SeenPeriod, expected_period, settled_value};
 use std::alloc::Allocator;
 
-/// The least period that the last values let expect, if they are known to go on with it: they show it by themselves, or one
-/// run of settled heaps does. These are looked at only where they are fewer than the values that it spares.
-pub(crate) fn certain_period<T: Cell, A: Allocator + Copy>(
+/// A period that the last values let expect.
+#[derive(Clone, Copy)]
+pub(crate) struct Expected {
+    pub seen: SeenPeriod,
+    /// Whether the values are known to go on with it.
+    pub is_certain: bool,
+}
+
+/// The least period that the last values let expect, and whether they are known to go on with it: they show it by themselves, or
+/// one run of settled heaps does. These are looked at only where they are fewer than the values that it spares.
+pub(crate) fn look_ahead<T: Cell, A: Allocator + Copy>(
     row: &Row<T, A>,
     code: &Code,
     marks: &mut [bool],
-) -> Option<SeenPeriod>
+) -> Option<Expected>
     requires row { IsRow T.number code.now row.now }
     requires marks { row.now.used ≤ length marks.old }
-    ensures { IfSome result (IsCertain code.now (vec_len row.now.values)) }
+    ensures { IfSome result (IsExpected code.now (vec_len row.now.values)) }
 {
     let seen = expected_period(&row.values)?;
     let spared = need_of(code, seen).saturating_sub(row.values.len());
-    if spared == 0 || seen.period < spared && goes_on(row, code, seen, marks) {
-        Some(seen)
-    } else {
-        None
-    }
+    let is_certain = spared == 0 || seen.period < spared && goes_on(row, code, seen, marks);
+    Some(Expected { seen, is_certain })
 }
 
 /// How many values show a period by themselves (Guy and Smith 1956).

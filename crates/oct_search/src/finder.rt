@@ -1,6 +1,6 @@
 //! What finds the next value of a row.
 
-ghost use Rattle.std.specs.Prelude.{◌≡◌, ◌+◌, ◌-◌, ◌^◌, ◌<◌, ◌≤◌, ℕ, if◌then◌else◌, false, None, vec_capacity, vec_len, IfOk, IfSome, OnErr, OnOk};
+ghost use Rattle.std.specs.Prelude.{◌≡◌, ◌+◌, ◌-◌, ◌^◌, ◌<◌, ◌≤◌, ℕ, if◌then◌else◌, false, max, None, vec_capacity, vec_len, IfOk, IfSome, OnErr, OnOk};
 ghost use Rattle.oct_code.specs.Code as octal;
 ghost use Rattle.oct_mex.specs.NimValues.{nim_value};
 ghost use Rattle.oct_mex.specs.Row.{IsRow};
@@ -18,7 +18,7 @@ const SHARE: usize = 16;
 const SPARE: usize = 1_024;
 
 // Sets are made anew where there are more values by one in so many.
-const ANEW: usize = 8;
+const ANEW: usize = 4;
 
 /// What finds the next value of a row: sets of the values of options, where they tell it, and else a table of marks.
 #[derive(Drop)]
@@ -41,8 +41,24 @@ impl<A: Allocator + Copy> Finder<A> {
         }
     }
 
-    /// Adds the next value of a row, and says whether its cell holds it: else the values stay. Without memory for sets it goes by
-    /// marks.
+    /// Adds the next values of a row up to the heap `end`, as far as there is room for them and sets tell them. Takes no memory.
+    pub(crate) fn push_settled<T: Cell>(&mut self, row: &mut Row<T, A>, code: &Code, end: usize)
+        requires row { IsRow T.number code.now row.old }
+        requires limited { end ≤ MOST }
+        requires sets { IfSome self.old.sets (AreSetsOf code.now (vec_len row.old.values)) }
+        ensures row { IsRow T.number code.now row.new }
+        ensures more { vec_len row.old.values ≤ vec_len row.new.values }
+        ensures most { vec_len row.new.values ≤ max end (vec_len row.old.values) }
+        ensures sets { IfSome self.new.sets (AreSetsOf code.now (vec_len row.new.values)) }
+    {
+        let end = end.min(self.due).min(row.values.capacity());
+        if let Some(sets) = &mut self.sets {
+            sets.push_settled(row, code, end);
+        }
+    }
+
+    /// Adds the next value of a row by marks, and says whether its cell holds it: else the values stay. Makes sets where it is time,
+    /// if there is memory for them.
     pub(crate) fn push_next<T: Cell>(
         &mut self,
         alloc: A,
@@ -60,9 +76,6 @@ impl<A: Allocator + Copy> Finder<A> {
     {
         self.make_room(row)?;
         self.make_sets(alloc, row, code);
-        if push_settled(&mut self.sets, row, code) {
-            return Ok(true);
-        }
         lengthen(&mut self.marks, row.used)?;
         if !row.push_next(code, &mut self.marks) {
             return Ok(false);
@@ -87,6 +100,8 @@ impl<A: Allocator + Copy> Finder<A> {
     }
 
     // Makes sets anew where it is time.
+    // Where it goes on value by value, no place is to be made for the sets that this makes now and then.
+    #[inline(never)]
     fn make_sets<T: Cell>(&mut self, alloc: A, row: &Row<T, A>, code: &Code)
         requires row { IsRow T.number code.now row.now }
         requires sets { IfSome self.old.sets (AreSetsOf code.now (vec_len row.now.values)) }
@@ -97,27 +112,6 @@ impl<A: Allocator + Copy> Finder<A> {
             self.due = len + len / ANEW + 1;
             self.sets = BySets::behind(alloc, row, code);
         }
-    }
-}
-
-// Adds the next value, for which there is room, if there are sets that tell it: else nothing changes.
-fn push_settled<T: Cell, A: Allocator + Copy>(
-    sets: &mut Option<BySets<A>>,
-    row: &mut Row<T, A>,
-    code: &Code,
-) -> bool
-    requires row { IsRow T.number code.now row.old }
-    requires sets { IfSome sets.old (AreSetsOf code.now (vec_len row.old.values)) }
-    requires limited { vec_len row.old.values < 2 ^ 32 }
-    requires room { vec_len row.old.values < vec_capacity row.old.values }
-    ensures row { IsRow T.number code.now row.new }
-    ensures len { vec_len row.new.values ≡ (if result then vec_len row.old.values + 1 else vec_len row.old.values) }
-    ensures lost { result ≡ false → row.new ≡ row.old }
-    ensures sets { IfSome sets.new (AreSetsOf code.now (vec_len row.new.values)) }
-{
-    match sets {
-        Some(sets) => sets.push_settled(row, code),
-        None => false,
     }
 }
 

@@ -6,7 +6,7 @@
 //! A `Search` computes up to 2^32 values and finds the least period that they prove:
 //!
 //!     let mut search = Search::new(alloc, code);        // 0.16
-//!     search.search(1_000_000)?                         // period 149,459 from heap 105,351
+//!     search.search(1_000_000, &mut progress)?          // period 149,459 from heap 105,351
 //!     search.value_by(seen, 10_000_000_000)             // the nim-value of a heap of 10^10 beans
 //!
 //! The values are in cells of 8 bits until one exceeds 255, and then of 16 (`cells`), in memory that grows by a
@@ -32,4 +32,5 @@ mod tests;
 
 pub use error::SearchError;
 pub use oct_mex::SeenPeriod;
+pub use oct_progress::{Nobody, Progress};
 pub use search::{MOST, Search};

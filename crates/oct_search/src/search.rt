@@ -1,6 +1,6 @@
 //! A search for the period of a game.
 
-ghost use Rattle.std.specs.Prelude.{◌≡◌, ◌+◌, ◌^◌, ◌<◌, ◌≤◌, max, IfErr, IfOk, OnErr, OnOk, SomeIff};
+ghost use Rattle.std.specs.Prelude.{◌≡◌, ◌+◌, ◌^◌, ◌<◌, ◌≤◌, max, IfErr, IfOk, IfSome, OnErr, OnOk, SomeIff};
 ghost use Rattle.oct_mex.specs.NimValues.{nim_value};
 ghost use Rattle.oct_mex.specs.Periods.{IsPeriodicFrom};
 ghost use Rattle.oct_search.specs.Found.{IsFound};
@@ -12,6 +12,7 @@ use crate::error::SearchError;
 use crate::finder::Finder;
 use oct_code::Code;
 use oct_mex::SeenPeriod;
+use oct_progress::Progress;
 use std::alloc::{AllocError, Allocator};
 use std::marker::Model;
 
@@ -23,6 +24,9 @@ const FIRST_LOOK: usize = 64;
 
 // Fewer are not tried for one with which they go on.
 const FIRST_TRY: usize = 4_096;
+
+// So many are computed before it is told again how many are known.
+const PART: usize = 65_536;
 
 /// The nim-values of the heaps 0, 1, .. of a game, as far as they are computed.
 #[derive(Drop)]
@@ -122,9 +126,31 @@ impl<A: Allocator + Copy> Search<A> {
         ensures short { OnErr result (self.new.len < count) }
         ensures past { IfErr result (λ fault. fault ≡ PastValue → 2 ^ 16 ≤ nim_value self.new.code self.new.len) }
     {
-        for _ in self.cells.len()..count {
+        while self.len() < count {
             self.look_ahead()?;
-            self.push_next()?;
+            self.push_some(count)?;
+        }
+        Ok(())
+    }
+
+    /// The same up to the heap `end`, and tells from time to time how many nim-values are known, of the `count` that are wanted.
+    pub fn extend_told<P: Progress>(
+        &mut self,
+        end: usize,
+        count: usize,
+        progress: &mut P,
+    ) -> Result<(), SearchError>
+        requires few { end ≤ count }
+        requires limited { count ≤ MOST }
+        ensures code { self.new.code ≡ self.old.code }
+        ensures more { self.old.len ≤ self.new.len }
+        ensures ok { OnOk result (self.new.len ≡ max end self.old.len) }
+        ensures short { OnErr result (self.new.len < end) }
+        ensures past { IfErr result (λ fault. fault ≡ PastValue → 2 ^ 16 ≤ nim_value self.new.code self.new.len) }
+    {
+        while self.len() < end {
+            progress.tell(self.code, self.len() as u64, count as u64);
+            self.extend(end.min(self.len() + PART))?;
         }
         Ok(())
     }
@@ -133,31 +159,57 @@ impl<A: Allocator + Copy> Search<A> {
     fn look_ahead(&mut self) -> Result<(), AllocError>
         ensures { self.new ≡ self.old }
     {
-        let len = self.len();
-        if self.certain.is_none() && len >= self.due {
-            self.due = len + len / 4;
-            self.certain = self
-                .cells
-                .certain_period(&self.code, &mut self.finder.marks)?;
+        if self.certain.is_none() && self.len() >= self.due {
+            self.expect()?;
         }
         Ok(())
     }
 
-    // Adds the next value: the one a period before, or else the mex. A refusal leaves the values as they are.
-    fn push_next(&mut self) -> Result<(), SearchError>
-        requires { self.old.len < MOST }
-        ensures ok { OnOk result (self.new ≡ record self.old { len = self.old.len + 1 }) }
-        ensures err { OnErr result (self.new ≡ self.old) }
+    // The least period that the last values let expect. Where it is time, it is tried whether the values are known to go on with it.
+    fn expect(&mut self) -> Result<Option<SeenPeriod>, AllocError>
+        ensures same { self.new ≡ self.old }
+        ensures within { IfOk result (λ found. IfSome found (λ seen. seen.start + seen.period ≤ self.old.len)) }
+    {
+        let len = self.len();
+        let is_due = len >= self.due;
+        self.due = self.due.max(len + len / 4);
+        if !is_due {
+            return Ok(self.cells.expected_period());
+        }
+        let Some(expected) = self.cells.look_ahead(&self.code, &mut self.finder.marks)? else {
+            return Ok(None);
+        };
+        if expected.is_certain {
+            self.certain = Some(expected.seen);
+        }
+        Ok(Some(expected.seen))
+    }
+
+    // Adds some of the next values, at most those of the heaps below `end`: the one a period before, or else those that sets tell,
+    // and behind them the mex. A refusal leaves the values as they are.
+    fn push_some(&mut self, end: usize) -> Result<(), SearchError>
+        requires some { self.old.len < end }
+        requires limited { end ≤ MOST }
+        ensures code { self.new.code ≡ self.old.code }
+        ensures more { self.old.len ≤ self.new.len }
+        ensures most { self.new.len ≤ end }
+        ensures ok { OnOk result (self.old.len < self.new.len) }
+        ensures short { OnErr result (self.new.len < end) }
         ensures past { IfErr result (λ fault. fault ≡ PastValue → 2 ^ 16 ≤ nim_value self.new.code self.new.len) }
     {
         if let Some(seen) = self.certain {
             self.finder.sets = None;
             self.cells.push_again(&self.code, seen.period)?;
-            Ok(())
-        } else {
-            self.cells
-                .push_next(self.alloc, &self.code, &mut self.finder)
+            return Ok(());
         }
+        let settled = end.min(self.due);
+        self.cells
+            .push_settled(&self.code, &mut self.finder, settled);
+        if self.cells.len() < end {
+            self.cells
+                .push_next(self.alloc, &self.code, &mut self.finder)?;
+        }
+        Ok(())
     }
 
     /// The least period that the values show so far that it holds for ever: twice the heap from which on it is seen, twice
@@ -169,21 +221,25 @@ impl<A: Allocator + Copy> Search<A> {
         self.cells.find_period(&self.code)
     }
 
-    /// How many values there should be when a period is looked for next, more than there are now: as many as show the one
-    /// with which they are known to go on; or else a quarter more, or as many as the period takes that they let expect,
-    /// where that is not much more. It may be more than `MOST`.
-    pub fn next_look(&self) -> usize
-        ensures { self.now.len < result }
+    // How many values there should be when a period is looked for next, more than there are now: as many as show the one
+    // with which they are known to go on; or else a quarter more, or as many as the period takes that they let expect,
+    // where that is not much more. It may be more than `MOST`.
+    fn next_look(&mut self) -> Result<usize, AllocError>
+        ensures same { self.new ≡ self.old }
+        ensures more { IfOk result (λ next. self.old.len < next) }
     {
-        let len = self.cells.len();
+        let len = self.len();
         let next = FIRST_LOOK.max(len + len / 4);
         if let Some(seen) = self.certain {
-            return self.look_by(seen, next, MOST + 1);
+            return Ok(self.look_by(seen, next, MOST + 1));
         }
-        if let Some(seen) = self.cells.expected_period() {
-            return self.look_by(seen, next, next + len / 2);
+        let Some(seen) = self.expect()? else {
+            return Ok(next);
+        };
+        if self.certain.is_some() {
+            return Ok(self.look_by(seen, next, MOST + 1));
         }
-        next
+        Ok(self.look_by(seen, next, next + len / 2))
     }
 
     // As many values as show a period, where there are fewer and it is below `end`, and else `next`.
@@ -197,10 +253,14 @@ impl<A: Allocator + Copy> Search<A> {
         if len < need && need < end { need } else { next }
     }
 
-    /// Computes nim-values until they show a period, as `find_period` says, or those of `count` heaps are known. A period is
-    /// looked for at lengths that grow by a quarter, where the values let expect one at the length that shows it, and at the
-    /// end. A refusal is as that of `extend`.
-    pub fn search(&mut self, count: usize) -> Result<Option<SeenPeriod>, SearchError>
+    /// Computes nim-values until they show a period, as `find_period` says, or those of `count` heaps are known, and tells from time
+    /// to time how many are known. A period is looked for at lengths that grow by a quarter, where the values let expect one at the
+    /// length that shows it, and at the end. A refusal is as that of `extend`.
+    pub fn search<P: Progress>(
+        &mut self,
+        count: usize,
+        progress: &mut P,
+    ) -> Result<Option<SeenPeriod>, SearchError>
         requires { count ≤ MOST }
         ensures code { self.new.code ≡ self.old.code }
         ensures more { self.old.len ≤ self.new.len }
@@ -212,7 +272,8 @@ impl<A: Allocator + Copy> Search<A> {
     {
         let mut found = self.find_period();
         while found.is_none() && self.len() < count {
-            self.extend(count.min(self.next_look()))?;
+            let next = self.next_look()?;
+            self.extend_told(count.min(next), count, progress)?;
             found = self.find_period();
         }
         Ok(found)

@@ -5,13 +5,17 @@ use crate::finder::Finder;
 use crate::search::Search;
 use oct_code::Code;
 use oct_mex::{SeenPeriod, Values};
+use oct_progress::Nobody;
 use std::process::Abort;
 
 // The search of a game finds this period, by so many values.
 fn finds(rt: &(impl Abort + AllocGlobal), code: &str, count: u32, wanted: SeenPeriod) {
     let parsed = Code::parse(code.as_bytes()).ok().expect(rt, code);
     let mut search = Search::new(rt.alloc(), parsed);
-    let seen = search.search(count as usize).ok().expect(rt, "memory");
+    let seen = search
+        .search(count as usize, &mut Nobody)
+        .ok()
+        .expect(rt, "memory");
     let seen = seen.expect(rt, code);
     assert_eq!(rt; seen.period, wanted.period, "the period of {code}");
     assert_eq!(rt;
@@ -56,7 +60,7 @@ fn what_is_not_searched_far_enough_shows_no_period(rt: HostRuntime) {
     let kayles = Code::parse(b"0.77").ok().expect(&rt, "a code");
     let mut search = Search::new(rt.alloc(), kayles);
     assert!(&rt;
-        matches!(search.search(100), Ok(None)),
+        matches!(search.search(100, &mut Nobody), Ok(None)),
         "a period by 100 values"
     );
     assert!(&rt; search.extend(167).is_ok(), "memory");
@@ -91,7 +95,8 @@ fn values_by_sets_are_those_by_marks(rt: HostRuntime) {
         let code = Code::parse(text.as_bytes()).ok().expect(&rt, text);
         let mut cells = Cells::new(rt.alloc());
         let mut finder = Finder::new(rt.alloc());
-        for _ in 0..65_536usize {
+        while cells.len() < 65_536 {
+            cells.push_settled(&code, &mut finder, 65_535);
             let pushed = cells.push_next(rt.alloc(), &code, &mut finder);
             assert!(&rt; pushed.is_ok(), "memory");
         }
@@ -115,8 +120,9 @@ fn one_settled_period_is_enough(rt: HostRuntime) {
         let pushed = cells.push_next(rt.alloc(), &code, &mut finder);
         assert!(&rt; pushed.is_ok(), "memory");
     }
-    let found = cells.certain_period(&code, &mut finder.marks);
-    let seen = found.ok().expect(&rt, "memory").expect(&rt, "a period");
-    assert_eq!(&rt; seen.period, 349, "the period");
-    assert_eq!(&rt; seen.start, 3_479, "the heap from which it is seen");
+    let found = cells.look_ahead(&code, &mut finder.marks);
+    let found = found.ok().expect(&rt, "memory").expect(&rt, "a period");
+    assert!(&rt; found.is_certain, "it need not go on");
+    assert_eq!(&rt; found.seen.period, 349, "the period");
+    assert_eq!(&rt; found.seen.start, 3_479, "the heap from which it is seen");
 }

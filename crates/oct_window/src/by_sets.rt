@@ -3,6 +3,7 @@
 ghost use Rattle.std.specs.Prelude.{◌≡◌, ℕ, ◌+◌, ◌<◌, ◌≤◌, true, false, if◌then◌else◌, length, vec_len, IfSome};
 ghost use Rattle.oct_mex.specs.NimValues.{nim_value};
 ghost use Rattle.oct_mex.specs.Windows.{IsSettled};
+ghost use Rattle.oct_sets.specs.Sets.{limit_of};
 ghost use Rattle.oct_window.specs.BySets.{AreRight, AreSetsOf, IsBehind};
 ghost use Rattle.oct_window.specs.Windows.{IsKnown, IsSameGame, IsShaped};
 
@@ -29,12 +30,13 @@ impl<A: Allocator + Copy> Window<A> {
             &self.rare.heaps,
             &self.held[self.held.len() - width..],
             self.count,
+            self.used,
         )
         .ok()
     }
 
     /// Adds the next value, by sets where there are some that tell it, else by a table of marks, and says whether the window
-    /// tells it: else nothing changes. The sets go on with it, or are given up at a value that is not below 64. Takes no memory.
+    /// tells it: else nothing changes. The sets go on with it, or are given up at a value that is too great for them. Takes no memory.
     pub(crate) fn push_by(&mut self, sets: &mut Option<Sets<A>>, marks: &mut [bool]) -> bool
         requires shaped { IsShaped self.old }
         requires of { IfSome sets.old (AreSetsOf self.old) }
@@ -93,10 +95,20 @@ impl<A: Allocator + Copy> Window<A> {
         ensures of { IfSome sets.new (AreSetsOf self.now) }
         ensures right { IsKnown self.now → IfSome sets.old (AreRight self.now) → IfSome sets.new (AreRight self.now) }
     {
-        if self.used > SMALL {
+        if self.used > limit_of(sets) {
             *sets = None;
         } else if let Some(sets) = sets {
             sets.push(&self.held[self.held.len() - self.reach - self.code.len()..]);
         }
+    }
+}
+
+// Where there are sets, each value has to be below this number.
+fn limit_of<A: Allocator + Copy>(sets: &Option<Sets<A>>) -> usize
+    ensures { IfSome sets.now (λ s. result ≡ limit_of s) }
+{
+    match sets {
+        Some(sets) => sets.limit(),
+        None => SMALL,
     }
 }

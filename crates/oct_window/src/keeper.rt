@@ -1,8 +1,8 @@
 //! Who keeps a search, so that it can be taken up again.
 
 use crate::place::Place;
-use crate::progress::Progress;
 use oct_code::Code;
+use oct_progress::Progress;
 use std::alloc::Allocator;
 
 /// A place of a search was not kept.

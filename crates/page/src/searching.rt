@@ -17,7 +17,7 @@ use census_search::SEARCH_LIMIT;
 use census_state::Fault;
 use oct_code::Code;
 use oct_mex::SeenPeriod;
-use oct_search::{MOST, Search};
+use oct_search::{MOST, Nobody, Search};
 use oct_text::{append_labelled, append_number, append_text};
 use std::alloc::{AllocError, Allocator};
 
@@ -41,7 +41,7 @@ fn search_game<A: Allocator + Copy>(alloc: A, code: Code, count: usize) -> Resul
     ensures err { IfErr result (IsSearchFault code count) }
 {
     let mut game = Search::new(alloc, code);
-    let found = game.search(count)?;
+    let found = game.search(count, &mut Nobody)?;
     Ok(game_line(alloc, &game, found)?)
 }
 

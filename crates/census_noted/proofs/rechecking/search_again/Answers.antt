@@ -8,12 +8,12 @@ use Rattle.census_noted.proofs.rechecking.search_again.Goals as goal
 pub returns-clause-ok : goal.returns-clause-ok
 returns-clause-ok g c =
     let found = c.in_ok-found.found in
-    let values = c.search_told.new.game.len in
+    let values = c.search.new.self.len in
     let s = c.in_ok-found.ensures in
     let len_of : Known → ℕ = λ k. k.len in
     let code_of : Known → Code = λ k. k.code in
     let none : c.new-game.result.len ≡ 0 = ap len_of c.new-game.ensures in
-    let code : c.search_told.new.game.code ≡ c.args.code = s.code ∙ ap code_of c.new-game.ensures in
+    let code : c.search.new.self.code ≡ c.args.code = s.code ∙ ap code_of c.new-game.ensures in
     record {
       found = found;
       values = values;

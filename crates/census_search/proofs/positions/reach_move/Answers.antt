@@ -9,7 +9,7 @@ use Rattle.census_search.proofs.positions.reach_move.Goals as goal
 pub returns-clause-ok : goal.returns-clause-ok
 returns-clause-ok g c =
     let known = c.in_ok-found.ensures in
-    let game = c.search_told.new.game in
+    let game = c.search.new.self in
     let found = c.in_ok-found.found in
     let heaps = c.args.heaps.now in
     let none = ap (λ (k : Known). k.len) c.new-game.ensures in

@@ -31,5 +31,5 @@ pub returns-clause-ok : goal.returns-clause-ok
 returns-clause-ok g c =
     let known = c.in_ok-found.ensures in
     let none = ap (λ (k : Known). k.len) c.new-game.ensures in
-    searched c.args.form c.args.code c.args.count c.args.heaps.now c.search_told.new.game c.in_ok-found.found c.in_ok-search_text.field-0.items
+    searched c.args.form c.args.code c.args.count c.args.heaps.now c.search.new.self c.in_ok-found.found c.in_ok-search_text.field-0.items
     (known.code ∙ ap (λ (k : Known). k.code) c.new-game.ensures) (omega (arith, known.most, none)) (λ nothing. omega (arith, known.all nothing, none)) known.found c.in_ok-search_text.ensures

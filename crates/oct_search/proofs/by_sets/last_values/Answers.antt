@@ -9,6 +9,6 @@ returns-clause-last g c =
     (omega (arith, c.len.ensures, c.len-2.ensures.value, c.deref.ensures.len, c.requires.within))
 
 pub returns-clause-low : goal.returns-clause-low
-returns-clause-low g c small =
+returns-clause-low g c bound small =
     let k = c.len.result - (c.args.reach + c.len-2.result) in
-    last_low g.T.Cell.number c.args.code.now c.args.row.now c.requires.row k (length c.deref.result.now - k) c.deref.result.now c.deref.ensures.value small
+    last_low g.T.Cell.number c.args.code.now c.args.row.now c.requires.row k (length c.deref.result.now - k) c.deref.result.now c.deref.ensures.value bound small

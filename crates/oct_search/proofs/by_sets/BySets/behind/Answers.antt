@@ -2,7 +2,7 @@ use Rattle.std.proofs.Common.{◌≡◌, ◌-◌, ◌<◌, ℕ, List, length, ma
 use Rattle.std.specs.List.{Contains}
 use Rattle.oct_mex.specs.Windows.{window}
 use Rattle.oct_sets.specs.Plans.{AreLast, IsParted}
-use Rattle.oct_sets.specs.Sets.{IsRight, IsShaped}
+use Rattle.oct_sets.specs.Sets.{reach_of, IsRight, IsShaped}
 use Rattle.oct_search.proofs.BySets.{parted_by}
 use Rattle.oct_search.proofs.by_sets.BySets.behind.Goals as goal
 
@@ -19,7 +19,7 @@ returns-in-Ok g c =
     let is = c.in-Ok.ensures in
     let s = c.in-Ok.sets in
     let size : length c.first_values-small.result.now - 1 ≡ reach = omega (arith, c.first_values-small.ensures.len) in
-    let reached : s.reach ≡ reach = omega (arith, is.shaped.reach, size) in
+    let reached : reach_of s ≡ reach = omega (arith, is.reach, size) in
     let right : IsRight code row.rare.heaps.items reach s =
     subst₂ (λ (heaps : List ℕ) k. IsRight code heaps k s) c.deref.ensures.value size
     (is.right c.first_values-small.ensures.first (subst (λ n. AreLast code n (map g.T.Cell.number c.last_values-last.result.now)) (sym c.len-len.ensures) c.last_values-last.ensures.last)) in

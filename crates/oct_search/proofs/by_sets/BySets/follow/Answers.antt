@@ -3,6 +3,7 @@ use Rattle.std.specs.List.{Contains}
 use Rattle.oct_mex.specs.NimValues.{nim_value}
 use Rattle.oct_mex.specs.Rare.{is_rare}
 use Rattle.oct_mex.specs.declared.mask.Mask.{Mask}
+use Rattle.oct_sets.specs.Sets.{reach_of}
 use Rattle.oct_search.proofs.Certificates.{common}
 use Rattle.oct_search.proofs.by_sets.BySets.follow.Goals as goal
 
@@ -13,6 +14,6 @@ go_on-requires-clause-common g c far =
     let n = vec_len row.values - 1 in
     let same = c.if-not-is_same.ensures refl in
     subst (λ mask. is_rare mask n (nim_value code n) ≡ false) same
-    (common g.T.Cell.number code row c.args.self.now.sets.reach c.requires.row (subst (λ (mask : Mask). 0 < mask.bits) (sym same) c.requires.right.some)
-    (λ h is. let most = c.greatest.ensures.most h (subst (λ heaps. Contains heaps h) (sym c.deref.ensures.value) is) in omega (arith, most, c.if-greatest-self.false))
+    (common g.T.Cell.number code row (reach_of c.args.self.now.sets) c.requires.row (subst (λ (mask : Mask). 0 < mask.bits) (sym same) c.requires.right.some)
+    (λ h is. let most = c.greatest.ensures.most h (subst (λ heaps. Contains heaps h) (sym c.deref.ensures.value) is) in omega (arith, most, c.if-greatest-reach.false, c.reach.ensures))
     n far (omega (arith, c.requires.some)))

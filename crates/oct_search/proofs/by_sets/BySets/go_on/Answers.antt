@@ -1,15 +1,25 @@
 use Rattle.std.proofs.Common.{◌≡◌, ◌+◌, ◌-◌, ap, sym, ◌∙◌, subst, subst₂, arith, map, vec_len}
 use Rattle.oct_mex.specs.Windows.{window}
 use Rattle.oct_sets.specs.Plans.{AreLast, IsParted}
-use Rattle.oct_sets.specs.Sets.{IsRight, IsShaped}
+use Rattle.oct_sets.specs.Sets.{heap_of, limit_of, reach_of, IsRight, IsShaped}
+use Rattle.oct_sets.proofs.Forms.{least_is}
 use Rattle.oct_search.proofs.BySets.{parted_more}
 use Rattle.oct_search.proofs.by_sets.BySets.go_on.Goals as goal
 
 pub push-requires-clause-some : goal.push-requires-clause-some
-push-requires-clause-some g c = let near = c.requires.right.near in omega (arith, near, c.last_values-last.ensures.len)
+push-requires-clause-some g c = let near = c.requires.right.near in omega (arith, near, c.reach.ensures, c.last_values-last.ensures.len)
 
 pub push-requires-clause-shaped : goal.push-requires-clause-shaped
-push-requires-clause-shaped g c = subst (λ width. IsShaped c.args.self.now.sets.reach width c.args.self.now.sets) (sym c.last_values-last.ensures.len) c.requires.right.shaped
+push-requires-clause-shaped g c = subst (λ width. IsShaped (reach_of c.args.self.now.sets) width c.args.self.now.sets) (sym (c.last_values-last.ensures.len ∙ ap (window c.args.code.now) c.reach.ensures)) c.requires.right.shaped
+
+pub last_values-last-requires-clause-within : goal.last_values-last-requires-clause-within
+last_values-last-requires-clause-within g c =
+    let is = c.requires.right in
+    let least = least_is (reach_of c.args.self.now.sets) (window c.args.code.now (reach_of c.args.self.now.sets)) c.args.self.now.sets is.shaped in
+    omega (arith, least, is.heap, c.reach.ensures)
+
+pub push-requires-clause-low : goal.push-requires-clause-low
+push-requires-clause-low g c = c.last_values-last.ensures.low (limit_of c.args.self.now.sets) c.requires.few
 
 pub returns : goal.returns
 returns g c =
@@ -18,17 +28,17 @@ returns g c =
     let old = c.args.self.now in
     let is = c.requires.right in
     let new = c.push.new.self in
-    let reach : new.reach ≡ old.sets.reach = c.push.ensures.reach in
+    let reach : reach_of new ≡ reach_of old.sets = c.push.ensures.reach in
     let n = vec_len row.values - 1 in
     let next : n + 1 ≡ vec_len row.values = omega (arith, c.requires.some) in
-    let heap : old.sets.heap + 1 ≡ vec_len row.values = omega (arith, is.heap, next) in
+    let heap : heap_of old.sets + 1 ≡ vec_len row.values = omega (arith, is.heap, next) in
     record {
       some = is.some;
       near = omega (arith, reach, is.near);
-      shaped = subst₂ (λ k width. IsShaped k width new) (sym reach) (c.last_values-last.ensures.len ∙ ap (window code) (sym reach)) c.push.ensures.shaped;
+      shaped = subst₂ (λ k width. IsShaped k width new) (sym reach) (c.last_values-last.ensures.len ∙ ap (window code) (c.reach.ensures ∙ sym reach)) c.push.ensures.shaped;
       heap = c.push.ensures.heap ∙ heap;
       heaps = is.heaps;
       right = subst (λ k. IsRight code is.heaps k new) (sym reach)
-          (c.push.ensures.right code is.heaps old.sets.reach is.right (subst (λ k. AreLast code k (map g.T.Cell.number c.last_values-last.result.now)) (sym heap) c.last_values-last.ensures.last));
-      parted = subst₂ (λ k m. IsParted code old.mask is.heaps k m) (sym reach) next (parted_more code old.mask is.heaps old.sets.reach n is.parted c.requires.common);
+          (c.push.ensures.right code is.heaps (reach_of old.sets) is.right (subst (λ k. AreLast code k (map g.T.Cell.number c.last_values-last.result.now)) (sym heap) c.last_values-last.ensures.last));
+      parted = subst₂ (λ k m. IsParted code old.mask is.heaps k m) (sym reach) next (parted_more code old.mask is.heaps (reach_of old.sets) n is.parted c.requires.common);
     }
