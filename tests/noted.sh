@@ -1,11 +1,11 @@
 #!/usr/bin/env bash
-# `census search --note` and `census recheck`: periods that no claim can have, as notes that are searched for again.
+# `census search --note` and `census recheck`: periods that no claim proves, as notes that are searched for again.
 . "$(dirname "${BASH_SOURCE[0]}")/lib.sh"
 
 census init anna 1 >/dev/null
 census init ben 2 >/dev/null
 
-# A long period is noted behind its line, and only once; a claim can have a short one.
+# A long period is noted behind its line, and only once; a short one is for a claim.
 census search 1000000 0.16 0.77 --note anna >said
 cmp said - <<'END'
 0.16 period 149459 from 105351 needs 509622 values 509622
@@ -19,6 +19,16 @@ cmp said - <<'END'
 0.16 at 5 value 2
 END
 census recheck anna | cmp - <(echo '0.16 period 149459 from 105351 is so')
+
+# So is a period that takes more than 65,536 values to prove, though neither it nor its start is above that.
+census init cora 3 >/dev/null
+census search 100000 0.127 --note cora >said
+cmp said - <<'END'
+0.127 period 4 from 46578 needs 93167 values 93167
+issued 3.1
+END
+census recheck cora | cmp - <(echo '0.127 period 4 from 46578 is so')
+census games cora | grep -Fc 'said: period 4 from 46578, by 3' | cmp - <(echo 1)
 
 # Whoever issued it: what another one noted is not noted again.
 census delta anna anna.delta >/dev/null

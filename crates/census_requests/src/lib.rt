@@ -7,7 +7,7 @@
 //!   that are done.
 //! - `ask` leaves the state as it is, and may write a file beside it; `unknown` says of a heap that is not known what tells more.
 //! - `viewing` shows what a state says, as it is made.
-//! - `noting` issues notes of periods that no period claim can hold, and `rechecking` gives those that are there, and searches again
+//! - `noting` issues notes of periods that no period claim proves, and `rechecking` gives those that are there, and searches again
 //!   for the periods that they say.
 //! - `printing` has what several commands print, and `System` is what all of it asks of the machine.
 #![tactic(auto)]

@@ -1,4 +1,4 @@
-//! Notes of periods that no period claim can hold, in a state file.
+//! Notes of periods that no period claim proves, in a state file.
 
 use crate::system::System;
 use census_core::Fault;
@@ -27,7 +27,7 @@ pub fn check_state<R: Files + AllocGlobal>(rt: &R, path: &str) -> Result<(), Fai
     }
 }
 
-/// Issues in the state the note of the period that the lines of a game's search name, where no period claim can hold it and no live
+/// Issues in the state the note of the period that the lines of a game's search name, where no period claim proves it and no live
 /// note says the same, and prints its author and number.
 pub fn note_found<R, O, E>(
     rt: &R,
@@ -45,7 +45,7 @@ where
     let Some(seen) = seen_in(lines) else {
         return Ok(());
     };
-    if !is_long(seen) {
+    if !is_long(code, seen) {
         return Ok(());
     }
     let file = StateFile::wait_telling(rt, path, progress.advice())?;

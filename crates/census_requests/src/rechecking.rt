@@ -58,10 +58,10 @@ where
     Ok(status)
 }
 
-// Whether the note says a period that no claim can hold.
+// Whether the note says a period that no claim proves.
 fn says_long(note: &PeriodNote) -> bool {
     match note.said {
-        Some(seen) => is_long(seen),
+        Some(seen) => is_long(note.code, seen),
         None => false,
     }
 }

@@ -1,20 +1,20 @@
 -- The texts that name periods.
-use Rattle.std.specs.Prelude.{ℕ, ◌^◌, nat_eq, nat_lt, Bool, ◌&&◌, ◌||◌, List, [], ◌∷◌, ◌++◌, codes, Option, Some, None, if◌then◌else◌}
+use Rattle.std.specs.Prelude.{ℕ, ◌+◌, ◌*◌, ◌^◌, nat_eq, nat_lt, Bool, ◌&&◌, List, [], ◌∷◌, ◌++◌, codes, Option, Some, None, if◌then◌else◌}
 use Rattle.std.specs.Char.{is_ascii_digit}
 use Rattle.std.specs.Cmp.Lexicographic.{pointwise}
 use Rattle.std.specs.List.{list_all}
 use Rattle.std.specs.Str.{all_ascii_digits}
 use Rattle.std.specs.Str.Parse.{digits_value}
-use Rattle.oct_code.specs.Code.{Code}
+use Rattle.oct_code.specs.Code.{Code, len}
 use Rattle.oct_code.specs.CodeText.{code_text}
 use Rattle.oct_code.specs.declared.limits.TheConstants.{LIMIT}
 use Rattle.oct_mex.specs.declared.period.SeenPeriod.{SeenPeriod}
 use Rattle.oct_text.specs.Words.{Text, labelled}
 use Rattle.oct_bfile.specs.Bfile.{is_filled, words}
 
--- no period claim can hold it
-abbrev pub is_long : SeenPeriod → Bool
-is_long seen = nat_lt LIMIT seen.start || nat_lt LIMIT seen.period
+-- it takes more values to prove it of the game than a census keeps
+abbrev pub is_long : Code → SeenPeriod → Bool
+is_long c seen = nat_lt LIMIT (2 * seen.start + 2 * seen.period + len c)
 
 -- the period of a game, and the heap from which on it holds
 abbrev pub period_text : Code → SeenPeriod → Text

@@ -30,11 +30,11 @@ note_by dot text (Some c) = Some (record { dot = dot; code = c; said = said_by c
 abbrev pub period_note_of : Operation → Option PeriodNote
 period_note_of o = note_by o.dot (text_of o.body) (game_named (name_of o.body))
 
--- ---- long periods, which no claim can hold
+-- ---- long periods, which no claim proves
 
 abbrev pub long_by : PeriodNote → Option SeenPeriod → Option LongPeriod
 long_by note None = None
-long_by note (Some seen) = if is_long seen then Some (record { author = note.dot.author; code = note.code; seen = seen }) else None
+long_by note (Some seen) = if is_long note.code seen then Some (record { author = note.dot.author; code = note.code; seen = seen }) else None
 
 abbrev pub long_of : PeriodNote → Option LongPeriod
 long_of note = long_by note note.said

@@ -1,7 +1,7 @@
 //! What notes say of games and of operations, for whoever reads them.
 //!
-//! A *long* period starts or is above 65,536, so that no period claim can hold it. The note of a game's period has the name
-//! `period-` and the game's code with a hyphen in place of the point, and says what `census search` prints of the period:
+//! A *long* period takes more than 65,536 values to prove, and a census keeps no more of a game: so no period claim that holds it
+//! is ever proved. The note of a game's period has the name `period-` and the game's code with a hyphen in place of the point, and says what `census search` prints of the period:
 //!
 //!     period-0-16    0.16 period 149459 from 105351
 //!
@@ -9,7 +9,7 @@
 //!
 //!     withdrawn      2.2
 //!
-//! - `seen_in` gives the period that a line of a search names, and `is_long` says whether no claim can hold it.
+//! - `seen_in` gives the period that a line of a search names, and `is_long` says whether no claim of it is ever proved.
 //! - `period_note_of` gives what a note says of a game's period, and `long_period_of` the long period that it says.
 //! - `note_name` and `period_text` spell the note of a period.
 //! - `withdrawn_by` gives the dot that a note withdraws.

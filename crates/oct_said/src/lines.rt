@@ -10,11 +10,14 @@ use oct_mex::SeenPeriod;
 use oct_text::append_labelled;
 use std::alloc::{AllocError, Allocator};
 
-/// Whether no period claim can hold the period: it or its start is above `LIMIT`, 65,536.
-pub fn is_long(seen: SeenPeriod) -> bool
-    ensures { result ≡ is_long seen }
+/// Whether no period claim of the game is ever proved that holds the period: twice its start, twice the period and the number of
+/// the code's digits are together above `LIMIT`, 65,536, the values of a game that a census keeps.
+pub fn is_long(code: Code, seen: SeenPeriod) -> bool
+    ensures { result ≡ is_long code seen }
 {
-    seen.start > LIMIT || seen.period > LIMIT
+    seen.start > LIMIT
+        || seen.period > LIMIT
+        || 2 * seen.start + 2 * seen.period + code.len() > LIMIT
 }
 
 /// The period that a line of a search names, if it names one: its third word and its fifth are numbers below 2^64, the period and

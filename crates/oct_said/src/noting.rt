@@ -24,7 +24,7 @@ pub struct PeriodNote {
     pub said: Option<SeenPeriod>,
 }
 
-/// A period of a game that no period claim can hold, as somebody says it.
+/// A period of a game that no period claim proves, as somebody says it.
 #[derive(Clone, Copy)]
 pub struct LongPeriod {
     /// Who says it.
@@ -86,7 +86,7 @@ fn long_of(note: &PeriodNote) -> Option<LongPeriod>
     ensures { result ≡ long_of note.now }
 {
     match note.said {
-        Some(seen) if is_long(seen) => Some(LongPeriod {
+        Some(seen) if is_long(note.code, seen) => Some(LongPeriod {
             author: note.dot.author(),
             code: note.code,
             seen,
