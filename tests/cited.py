@@ -9,8 +9,8 @@
     `crates/name/src/file.rt`             a file or a folder, also of docs/, tests/ and examples/
 
 One of several is written with braces, as `oct_verify::Ledger::{known, status}`. The ways through the house, in ARCHITECTURE, also go
-down it: no file of one is of a crate that stands on the crate of the file before it, but where a way goes on behind "Back in". Takes
-a second.
+down it: no file of one is of a crate that stands on the crate of the file before it, but where a way goes on behind "Back in". And
+crates.txt has the lowest crates first. Takes a second.
 """
 
 import functools
@@ -150,10 +150,22 @@ def steps_back(text):
                     last = crate
 
 
+def out_of_order():
+    """The crates that stand in crates.txt before one that they stand on."""
+    places = {name: at for at, name in enumerate(below())}
+    for name, lower in below().items():
+        for it in lower:
+            if places.get(it, -1) > places[name]:
+                yield f"{name} stands before {it}, which it stands on"
+
+
 def main():
     crates = contracts.crates()
     known = clauses_by_name(crates)
     failed = False
+    for wrong in out_of_order():
+        failed = True
+        print(f"cited: crates.txt: {wrong}", file=sys.stderr)
     for page in PAGES:
         text = page.read_text(encoding="utf-8")
         for missing in itertools.chain(

@@ -28,6 +28,7 @@ CASES = [
     ("init folder/none/new 1", "File", 3, ["folder/none/new: the folder for it is not there"]),
     ("init a.state 1", "Exists", 3, ["a.state stands there already"]),
     ("delta a.state a.state", "Same", 3, ["a.state is the state file"]),
+    ("sqlite a.state a.state", "Same", 3, ["a.state is the state file", "name another file"]),
     ("delta a.state b.txt", "Occupied", 3, ["b.txt holds something that is no delta", "--replace"]),
     ("delta a.state a.state.lock", "Occupied", 3, ["a.state.lock would be the lock"]),
     ("union b.txt a.delta", "Occupied", 3, ["b.txt is none of the files that are read", "--replace"]),
@@ -82,6 +83,7 @@ CASES = [
     ("search 10 0.77 --at -", "Number", 2, ["HEAP must be 0 to 18446744073709551615, and is -"]),
     ("search --bfile 10 0.77 0.07", "Words", 2, ["--bfile takes one CODE"]),
     ("explain Lod", "Words", 2, ["no fault is called Lod", "census explain"]),
+    ("explain Sync Cutt", "Words", 2, ["no fault is called Sync Cutt", "census explain"]),
     ("completion tcsh", "Words", 2, ["bash, zsh or fish", "tcsh"]),
     ("find a.state 0.77 0.87", "Code Digit", 1, ["0.87: the digit 8 is none of 0 to 7"]),
     ("find a.state 0.7\x1b", "Code Digit", 1, ["0.7\\x1b: the sign \\x1b is none"]),
@@ -103,6 +105,7 @@ CASES = [
     ("sync a.state 127.0.0.1", "Net", 3, ["127.0.0.1 has no port"]),
     ("sync a.state no_such_host!:4000", "Net", 3, ["cannot find the host of no_such_host!:4000"]),
     ("serve a.state 127.0.0.1:TAKEN", "Net", 3, ["cannot listen at 127.0.0.1:TAKEN: another program listens there"]),
+    ("hub a.state --unix b.txt", "Net", 3, ["cannot make a socket at b.txt: something stands there", "is not removed"]),
     ("sync a.state 127.0.0.1:STRANGE", "Sync Frame", 1, ["127.0.0.1:STRANGE sends something that is no frame"]),
     ("sync a.state 127.0.0.1:SHUT", "Sync Cut", 3, ["127.0.0.1:SHUT closed the connection before the session was done"]),
     ("sync a.state 127.0.0.1:MUTE --patience 1", "Sync Read", 3, ["127.0.0.1:MUTE: the other side was silent for too long", "--patience"]),
@@ -253,20 +256,23 @@ def try_missing():
 
 
 def try_list():
-    """`census explain` and the manual have each fault of the documents."""
+    """`census explain` and the manual have each fault of the documents, and `census explain` no other."""
     with open(TOP / "docs" / "FORMATS.md", encoding="utf-8") as file:
         rows = re.findall(r"^\| `([A-Za-z]+)` \| (.*) \| ([1-4]) \|$", file.read().split("## Faults")[1], re.M)
     expect(len(rows) > 30, f"docs/FORMATS.md has {len(rows)} faults")
     listed = done("explain")
     page = done("manual")
+    documented = set()
     for name, causes, status in rows:
         for cause in re.findall(r"`([A-Z][A-Za-z]+)(?: L)?`", causes) or [""]:
             called = f"{name} {cause}".strip()
+            documented.add(called)
             expect(f"{called}, status {status}\n  " in listed, f"census explain does not list {called}, status {status}")
             expect(f'"{called}" " (status {status})"' in page, f"the manual does not list {called}")
             said = done("explain", *called.split())
             expect(said.startswith(f"{called}, status {status}\n"), f"explain {called}: {said}")
     for entry in re.split(r"(?m)^(?=\S)", listed)[1:]:
+        expect(entry.split(",", 1)[0] in documented, f"docs/FORMATS.md does not list {entry}")
         expect(len(entry.split("\n", 1)[1]) <= MOST, f"over {MOST} bytes: {entry}")
 
 

@@ -52,7 +52,11 @@ back=$(sed '1,/^\.\.$/d' short.txt | wc -l)
 test "$front" -gt 0 && test "$back" -gt 0
 { head -n "$front" played; echo ..; tail -n "$back" played; } | diff short.txt -
 
+shown "$top/docs/TUTORIAL.md" 'search 1000000 0.16 --note anna' >noted.txt
+(played "$room/noted.txt" long) | diff noted.txt -
 shown "$top/docs/TUTORIAL.md" 'bfile anna' >published.txt
 (played "$room/published.txt" long) | diff published.txt -
 cmp long/kayles.svg "$top/docs/kayles.svg"
+(cd short && census plot anna.state 0.77 --from 0 --to 168) | cmp - "$top/docs/kayles.svg"
+grep -qF '`census plot anna.state 0.77 --from 0 --to 168` drew' "$top/README.md"
 echo "the example sessions are as they stand, and so is the picture of the README"

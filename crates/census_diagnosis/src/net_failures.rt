@@ -53,13 +53,15 @@ pub fn unconnected(alloc: Global, address: &str, error: io::Error) -> Failure {
 
 /// The failure to make a socket of this machine at the path.
 pub fn unbound_at(alloc: Global, path: &str, error: io::Error) -> Failure {
-    let failure = of_address(alloc, "cannot make a socket at", path).because(error);
+    let failure = of_address(alloc, "cannot make a socket at", path);
     match error.kind() {
-        ErrorKind::AddrInUse => failure.advise(String::from_str(
-            alloc,
-            "end the program that listens there, or name another path; what stands there is not removed",
-        )),
-        _ => failure.advise(String::from_str(
+        ErrorKind::AddrInUse => failure
+            .found(standing_text(alloc, path))
+            .advise(String::from_str(
+                alloc,
+                "end the program that listens there, or name another path; what stands there is not removed",
+            )),
+        _ => failure.because(error).advise(String::from_str(
             alloc,
             "name a path in a folder that you may write, of at most 107 bytes",
         )),
@@ -88,6 +90,11 @@ fn of_address(alloc: Global, doing: &str, address: &str) -> Failure {
 fn address_text(alloc: Global, doing: &str, address: &str) -> Result<String, AllocError> {
     let address = shown(alloc, address)?;
     format!(in alloc; "{doing} {address}")
+}
+
+fn standing_text(alloc: Global, path: &str) -> Result<String, AllocError> {
+    let path = shown(alloc, path)?;
+    format!(in alloc; "cannot make a socket at {path}: something stands there")
 }
 
 fn hub_text(alloc: Global, address: &str) -> Result<String, AllocError> {

@@ -22,10 +22,25 @@ pub fn explanation(alloc: Global, failure: &Failure) -> Result<String, AllocErro
     text.push_str("\n  ")?;
     match &failure.advice {
         Some(advice) => text.push_str(advice)?,
-        None => text.push_str(words_of(failure.fault).remedy)?,
+        None => text.push_str(remedy_of(failure))?,
     }
     text.push_str("\n")?;
     shortened(alloc, text)
+}
+
+// What to do after a failure that says nothing of that itself.
+fn remedy_of(failure: &Failure) -> &'static str {
+    match &failure.reason {
+        Reason::System(error) if is_full(error.kind()) => {
+            "make room on the disk, and run the command again"
+        }
+        _ => words_of(failure.fault).remedy,
+    }
+}
+
+// Whether the disk, or what one may use of it, is full.
+fn is_full(kind: ErrorKind) -> bool {
+    matches!(kind, ErrorKind::StorageFull | ErrorKind::QuotaExceeded)
 }
 
 // Whether the reader of the output has closed it.

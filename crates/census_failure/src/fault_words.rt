@@ -174,7 +174,7 @@ const JSON: FaultWords = FaultWords {
 const ZERO: FaultWords = FaultWords {
     subject: "0",
     meaning: "is no author's number",
-    remedy: "give a number from 1 to 4294967295, or have one drawn: census init --draw STATE",
+    remedy: "give a number from 1 to 4294967295, or have one drawn: census init --draw STATE, census renumber STATE",
 };
 
 const HELD: FaultWords = FaultWords {
@@ -244,9 +244,9 @@ const FILE: FaultWords = FaultWords {
 };
 
 const SAME: FaultWords = FaultWords {
-    subject: "the file for the delta",
+    subject: "the file that is to be written",
     meaning: "is the state file, which is not written over",
-    remedy: "name another file for the delta",
+    remedy: "name another file",
 };
 
 const OCCUPIED: FaultWords = FaultWords {
@@ -264,7 +264,7 @@ const TOO_LONG: FaultWords = FaultWords {
 const NET: FaultWords = FaultWords {
     subject: "the address",
     meaning: "can't be listened at or connected to",
-    remedy: "an address is HOST:PORT, as 127.0.0.1:4000; a hub or serve has to run there",
+    remedy: "an address is HOST:PORT, as 127.0.0.1:4000; for sync a hub or serve has to run there",
 };
 
 const READ: FaultWords = FaultWords {
@@ -491,7 +491,7 @@ fn of_note(cause: NoteError) -> FaultWords {
         NoteError::Text => words(
             "the note",
             "has a text with over 200 bytes, or with one that is no printable ASCII",
-            "printable are the letters, digits, signs and blanks of an English keyboard",
+            "a text is up to 200 letters, digits, signs and blanks of an English keyboard",
         ),
         NoteError::OutOfMemory => MEMORY,
     }
@@ -529,7 +529,7 @@ fn of_sync(cause: SyncError) -> FaultWords {
         SyncError::Frame => words(
             "the other side",
             "sends something that is no frame of a session",
-            "see that census serve or census hub runs at the address",
+            "see that one side is census sync, and the other census serve or census hub",
         ),
         SyncError::Order => words(
             "the other side",
@@ -558,13 +558,13 @@ fn of_sync(cause: SyncError) -> FaultWords {
             "what came is saved; run the command again, and see what the other side says",
         ),
         SyncError::Read => words(
-            "the other side",
-            "could not be read from any more",
+            "the session",
+            "ended early, as nothing more could be read of the other side",
             "what came is saved; run the command again, with a longer --patience where the other side is slow",
         ),
         SyncError::Write => words(
-            "the other side",
-            "could not be written to any more",
+            "the session",
+            "ended early, as nothing more could be written to the other side",
             "what came is saved; run the command again",
         ),
         SyncError::Turns => words(

@@ -11,8 +11,8 @@
 //!   the words that it takes, for shells.
 //! - `explanation` is what stands behind the line of a fault, and `Advice` writes it where an `Audience` wants it, beside
 //!   warnings.
-//! - `shown` and `shown_bytes` show words of others, cut and escaped, and `escaped`, `escaped_lines` and `quoted` whole ones; `INPUT_NAME` and
-//!   `OUTPUT_NAME` name streams.
+//! - `shown` and `shown_bytes` show words of others, cut and escaped, and `escaped`, `escaped_lines` and `quoted` whole ones;
+//!   `INPUT_NAME` and `OUTPUT_NAME` name streams.
 #![tactic(auto)]
 
 mod advice;

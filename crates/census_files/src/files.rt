@@ -89,7 +89,8 @@ pub(crate) fn no_file(alloc: Global, path: &str, there: &Metadata) -> Failure {
     failure.found(no_file_text(alloc, path))
 }
 
-fn no_file_text(alloc: Global, path: &str) -> Result<String, AllocError> {
+/// What is said of a path where no plain file stands.
+pub(crate) fn no_file_text(alloc: Global, path: &str) -> Result<String, AllocError> {
     let path = shown(alloc, path)?;
     format!(in alloc; "{path}: it is a pipe, a link or a device, and no plain file")
 }

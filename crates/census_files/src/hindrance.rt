@@ -1,5 +1,6 @@
 //! What keeps a command from replacing a file.
 
+use crate::files::no_file_text;
 use census_failure::{Failure, shown};
 use census_state::Fault;
 use std::alloc::{AllocError, Global};
@@ -30,8 +31,17 @@ pub(crate) fn unlocked(alloc: Global, path: &str, lock_path: &str, why: Hindranc
         Hindrance::System(error) if error.kind() == ErrorKind::NotFound => {
             unwritten(alloc, path, error)
         }
-        Hindrance::System(error) => Failure::of(alloc, Fault::File, lock_path).because(error),
+        Hindrance::System(error) => unlockable(alloc, lock_path, error),
     }
+}
+
+// The failure of a lock at a path where something stands that is no plain file, or that can't be used.
+fn unlockable(alloc: Global, lock_path: &str, error: io::Error) -> Failure {
+    let failure = Failure::of(alloc, Fault::File, lock_path);
+    if error.kind() == ErrorKind::InvalidInput {
+        return failure.found(no_file_text(alloc, lock_path));
+    }
+    failure.because(error)
 }
 
 /// The failure to write the new text of a file. The fault is `Occupied` where somebody's file stands there, and else

@@ -20,8 +20,8 @@ pub(crate) struct NewText<'a> {
 
 impl<'a> NewText<'a> {
     /// Makes the file, with these permissions. A link, a pipe, a file without bytes, or one that has another name, is
-    /// removed before where it is in the way, and never written to. The hindrance is `Occupied` where any other file
-    /// stands there, which stays as it is.
+    /// removed before where it is in the way, and never written to. The hindrance is `Occupied` where any other file, or a
+    /// folder, stands there, which stays as it is.
     pub(crate) fn make<R>(rt: &R, path: &'a str, mode: u32) -> Result<NewText<'a>, Hindrance>
     where
         R: Files<File = File>,
@@ -70,7 +70,7 @@ impl<'a> NewText<'a> {
 
 // Whether something would be lost with what stands there.
 fn is_somebodys(there: &Metadata) -> bool {
-    there.is_file() && there.nlink() == 1 && there.len() > 0
+    there.is_dir() || there.is_file() && there.nlink() == 1 && there.len() > 0
 }
 
 /// Removes the new file that a stop left: the one that the lock names which it left too, where that begins as a text of

@@ -1,7 +1,8 @@
 //! Sessions of a state with others, over the network.
 //!
 //! Two replicas that meet exchange what is new, and each saves the union of what its file holds then and of what the session
-//! brought. What is said in a session is `oct_sync`; here it goes over a connection, as `census_transport` has it, with an end to every wait.
+//! brought. What is said in a session is `oct_sync`; here it goes over a connection, as `census_transport` has it, with an end
+//! to every wait.
 //!
 //! - `Endpoint` is a state and the `Location` at which it meets its peers, an address or a socket of this machine; `Patience` is
 //!   how long it waits for them, and `Allowance` how much it takes of one.

@@ -65,9 +65,7 @@ state from being changed.
 .TP
 .I OUT
 The file of
-.B delta
-and
-.B union
+.BR delta ", " union " and " sqlite
 is locked and replaced as a state is. A pipe or a device, such as /dev/stdout, is written as it stands.
 .PP
 The text of a command is printed after its state is written: after
@@ -75,9 +73,7 @@ The text of a command is printed after its state is written: after
 the state is changed, and after
 .B File
 of
-.B delta
-or
-.B union
+.BR delta ", " union " or " sqlite
 a pipe or a device may have got a part. After any other fault no file is changed, but
 .BR serve ", " sync " and " hub
 save what they took also where the session ends early. After a session the union of what the state
@@ -89,7 +85,7 @@ Where standard error is a terminal, where the option
 stands before or after the command, and where the variable
 .B CENSUS_EXPLAIN
 of the environment is 1, warnings and explanations stand there beside the lines that always do. After
-.BR compute ", " import ", " claim ", " period ", " merge ", " sync " and " survey
+.BR compute ", " extend ", " import ", " claim ", " period ", " merge ", " sync " and " survey
 a line says there what became of the blocks and claims that are new: proved, pending, or refuted at
 which heap; of several, how many there are of each. Another says which of those that were pending
 before are decided now, one's own apart. On a terminal both are left out where that might take over a

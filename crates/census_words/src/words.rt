@@ -301,7 +301,7 @@ pub const AUTHORS_OF_ONE: Choice = Choice {
 pub const REPLACE: Choice = Choice {
     name: "replace",
     takes: Takes::Nothing,
-    meaning: "Writes OUT in place of whatever file stands there",
+    meaning: "Writes the file in place of whatever stands there",
     default: None,
 };
 

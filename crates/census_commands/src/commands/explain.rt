@@ -44,14 +44,17 @@ pub(crate) fn run<O: Write>(alloc: Global, words: &[&str], output: &mut O) -> Re
 
 // The failure of words that name no fault.
 fn unnamed(alloc: Global, words: &[&str]) -> Failure {
-    let word = words.first().copied().unwrap_or("");
     let text = "census explain, without a word, lists all faults";
     Failure::from(Fault::Words)
-        .found(unnamed_text(alloc, word))
+        .found(unnamed_text(alloc, words))
         .advise(String::from_str(alloc, text))
 }
 
-fn unnamed_text(alloc: Global, word: &str) -> Result<String, AllocError> {
-    let word = shown(alloc, word)?;
-    format!(in alloc; "no fault is called {word}")
+fn unnamed_text(alloc: Global, words: &[&str]) -> Result<String, AllocError> {
+    let mut text = String::from_str(alloc, "no fault is called")?;
+    for word in words {
+        text.push(' ')?;
+        text.push_str(&shown(alloc, word)?)?;
+    }
+    Ok(text)
 }

@@ -126,7 +126,8 @@ named, these have a line, in the order in which they are named, be anything know
 not: the words CODE, and then those of --codes FILE, or of all these the part --part I/N.
 
 What is refuted and withdrawn by who said it is counted apart, as `withdrawn`. A line more for each
-period above 65,536 that a note says of a game begins with the code and `said:`; it is not proved.
+period of more than 65,536 values that a note says of a game begins with the code and `said:`; it is not
+proved.
 
 --period P, --no-period, --unclaimed and --known-below N leave games out, and together they leave out
 what one of them does. --no-period goes with neither --period nor --unclaimed.

@@ -34,7 +34,8 @@ pub(crate) const ROW: CommandRow = CommandRow {
     after: "\
 The claim says that each heap from E on has the value of the heap that is P larger. It is proved
 once the first 2E + 2P + k values are known, k the number of digits of the code, and then holds for
-all heaps.
+all heaps. A state keeps 65,536 values, so a claim that needs more of them is never proved:
+for such a period there are notes, as census search --note issues them.
 
 Exit status: 0 done, 1 refused: Load (the state), Code, Period, Issue, TooMany; 2 command line,
 3 file, 4 memory

@@ -32,7 +32,7 @@ pub(crate) const ROW: CommandRow = CommandRow {
     line: "Searches again for the long periods that notes say",
     about: "Searches again for the period of each game of which a note says one",
     after: "\
-A period above 65,536, or one that holds only from such a heap on, is in no period claim: a note says it.
+A period that takes more than 65,536 values to prove is never proved as a period claim: a note says it.
 Its name is period-CODE, with a hyphen for the point of the code, and its text what census search prints,
 as far as the start: a note period-0-16 says `0.16 period 149459 from 105351`. census search --note
 issues such notes. For each live note of such a name, by whomever, in the order of the notes, the game

@@ -64,7 +64,7 @@ const SAVE: Choice = Choice {
 const NOTING: Choice = Choice {
     name: "note",
     takes: Takes::One("STATE"),
-    meaning: "Notes in STATE each period that no period claim can have: it or its start is above 65536",
+    meaning: "Notes in STATE each period that takes more than 65536 values to prove, as no period claim does",
     default: None,
 };
 
@@ -99,20 +99,22 @@ one game and none of these, the first COUNT values are printed, a line `n v` for
 
 With --window, which takes no --at, the first 65,536 values are listed, and then only as many are
 kept as tell the next one; more are listed where these do not. A period is seen where the values that
-are kept come again, mostly by fewer values than 2E + 2P + k; then E is found by a second pass. The
-line says `no period seen in COUNT values` where they do not come again: they are marked anew at
-lengths that double, so a period that a search without --window would find may not be seen.
+are kept come again, mostly by fewer values than 2E + 2P + k; then E is found between two of the windows
+that were kept on the way. The line says `no period seen in COUNT values` where they do not come again:
+they are marked anew at lengths that double, so a period that a search without --window would find may
+not be seen.
 
 With --save FILE such a search, of one game, can be stopped at any moment and taken up again by the same
 line: how far it is stands in FILE, written every fifteen seconds and at the end, with a checksum,
 and goes on from there, by more values where COUNT is greater than before. What FILE has is believed, and
 the line ends with `from a saved search`. FILE is locked meanwhile, and written as a state is; where it
 can't be written, the search ends. Ctrl-C leaves FILE.lock behind, which the next such search takes over.
-The first 65,536 values, or as many as are listed, are computed anew.
+The first 65,536 values, or as many as are listed, are computed anew. Where these prove a period, FILE is
+not written.
 
-With --note STATE a period above 65,536, or one that holds only from such a heap on, which no period claim
-can have, is noted in that state, behind its line: a note period-CODE, with a hyphen for the point, says
-the line as far as the start, if no live note says the same already. Its author and number are printed.
+With --note STATE a period that takes more than 65,536 values to prove, as no period claim does, is noted
+in that state, behind its line: a note period-CODE, with a hyphen for the point, says the line as far as
+the start, if no live note says the same already. Its author and number are printed.
 census recheck searches again for what such notes say. --note takes no --json.
 
 The games are named as for extend; those of --bfile and --save are one word CODE.
@@ -145,7 +147,7 @@ pub struct Searched<'a> {
     pub(crate) is_windowed: bool,
     /// The file in which the search in windows of one game is saved.
     pub(crate) save: Option<&'a str>,
-    /// The state in which periods are noted that no period claim can hold.
+    /// The state in which periods are noted that no period claim proves.
     pub(crate) note: Option<&'a str>,
 }
 

@@ -59,7 +59,7 @@ With --web the page that computes in the browser stands beside the tables, as co
 files more, and each game has a link to it; FOLDER is that of the page, `web` where census comes from.
 Another site without --web has neither.
 
-With --recheck each period above 65,536, or from such a heap on, that a live note says is searched for
+With --recheck each period that a live note says and that takes more than 65,536 values is searched for
 again before the site is written, as census recheck does it. Where it is so, the page of the game says
 that this program proved it, in place of what the known values prove, and so does a table of the index.
 Where it is not so, it stays as what somebody says, its line is told on standard error, and the site is

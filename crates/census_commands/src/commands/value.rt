@@ -19,7 +19,7 @@ The nim-value is the exclusive or of the heaps' values. Where one is not known, 
 the first such heap, counted from 0. With --json it is {\"value\":3,\"next_player\":\"wins\"}, or
 {\"unknown\":0}.
 With --search COUNT, a game of which some heap is not known is searched as by census search: by a period
-that COUNT values prove, also one that no claim can have, each heap has a value. The state stays as it is.
+that COUNT values prove, also one that no claim proves, each heap has a value. The state stays as it is.
 
 Exit status: 0 done (also where it is unknown), 1 refused: Load (the state), Code, PastValue (a value is
 above 65535); 2 command line, 3 file, 4 memory

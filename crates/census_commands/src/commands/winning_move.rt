@@ -22,7 +22,7 @@ then by the smaller heap left. `none: the player to move loses` where there is n
 I` where the heap at the place I has no known value. With --json it is
 {\"heap\":2,\"of\":9,\"remove\":1,\"leave\":[3,5]}, whose `heap` is null where there is none.
 With --search COUNT, a game of which some heap is not known is searched as by census search: by a period
-that COUNT values prove, also one that no claim can have, each heap has a value. The state stays as it is.
+that COUNT values prove, also one that no claim proves, each heap has a value. The state stays as it is.
 
 Exit status: 0 done (also where there is no move), 1 refused: Load (the state), Code, PastValue (a value is
 above 65535); 2 command line, 3 file, 4 memory
