@@ -88,7 +88,7 @@ census note carl late 'of Carl' >/dev/null
 for words in '' --all; do
   session anna carl $words
   test "$serve $sync" = '3 3'
-  test "$(cat served)" = 'census: File'
+  test "$(cat served)" = 'census: Occupied'
   test "$(cat synced)" = 'census: Sync Cut'
   cmp -s anna kept
 done

@@ -233,7 +233,7 @@ def unsaved():
         os.makedirs("closed.new/full")
         for turn in (1, 2):
             refused(3, "Sync Cut", "sync", "writer", hub.address)
-            hub.await_line(hub.faults, r"census: \S+ peer \S+ File", turn)
+            hub.await_line(hub.faults, r"census: \S+ peer \S+ Occupied", turn)
         need("late" not in done("show", "closed"), "the state was written")
         os.removedirs("closed.new/full")
         hub.sync("writer")

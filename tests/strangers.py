@@ -114,7 +114,7 @@ def said_of_what_came():
         peer.sendall(frame(DELTA, delta(note(7, 1, b"n", b"t"))))
         peer.close()
         hub.await_line(hub.faults, r"census: \S+ peer \S+ Sync Cut")
-        hub.await_line(hub.faults, r"  what came could not be saved either \(File\); .*")
+        hub.await_line(hub.faults, r"  what came could not be saved either \(Occupied\); .*")
         os.removedirs("hub.new/full")
         peer = greeted(hub)
         peer.sendall(frame(DELTA, delta(note(7, 1, b"n", b"t"))))
@@ -127,7 +127,7 @@ def said_of_what_came():
     with connect(port, serving) as peer:
         peer.sendall(frame(CLOCK, EMPTY_CLOCK) + frame(DELTA, delta(note(7, 1, b"n", b"t"))))
     _, err = serving.communicate(timeout=20)
-    expect(b"what came could not be saved either (File)" in err, f"serve said {err!r}")
+    expect(b"what came could not be saved either (Occupied)" in err, f"serve said {err!r}")
 
 
 def unread():
