@@ -7,7 +7,7 @@ use Rattle.std.proofs.lemmas.List.{get_or_default}
 use Rattle.std.proofs.lemmas.List.Elements.{All-push, All-weaker, Contains-get_or}
 use Rattle.std.proofs.lemmas.Nat.{xor_lt, xor_comm, pow_pos}
 use Rattle.oct_code.specs.Code.{Code, len, allows}
-use Rattle.oct_mex.specs.Marks.{IsOneHeapBy, heaps_left, IsBelow, AddsMarks, IsPairBy, IsPairValue, IsRareBy, IsRarePair, IsOptionBy, IsTableFor}
+use Rattle.oct_mex.specs.Marks.{IsOneHeapBy, heaps_left, IsBelow, AddsMarks, IsPairBy, IsPairValue, IsPairWith, IsRareBy, IsRarePair, IsOptionBy, IsTableFor}
 use Rattle.oct_mex.proofs.Moves.{heaps_two}
 
 -- one step after another
@@ -93,6 +93,54 @@ rare_same g heaps rest at x y large p =
           absurd (omega (arith, o.total, o.second, same, large (omega (arith, same, o.first))))
       | inr ne ↦ record { at = o.at; b = o.b; within = omega (arith, o.within); first = o.first; second = o.second; total = o.total; is = o.is }
     ])
+
+-- nothing is marked
+pub AddsMarks-none : (x : List Bool) (P : ℕ → Type 0) → ((v : ℕ) → P v → ⊥) → AddsMarks x x P
+AddsMarks-none x P none = record {
+  size = refl;
+  marked = λ v l. ((λ m. inl m), (λ c. elim c [ inl j ↦ j | inr h ↦ absurd (none v h) ]));
+}
+
+-- one heap leaves a pair
+pub with_heap : (g : ℕ → ℕ) (heap total b : ℕ) (x y : List Bool) → 1 ≤ heap → 1 ≤ b → heap + b ≡ total
+    → AddsMarks x y (λ v. v ≡ bit_xor (g heap) (g b)) → AddsMarks x y (IsPairWith g heap total)
+with_heap g heap total b x y first second sum p =
+    AddsMarks-as x y (λ v. v ≡ bit_xor (g heap) (g b)) (IsPairWith g heap total) p
+    (λ v e. record { b = b; first = first; second = second; sum = sum; is = e })
+    (λ v o. let f : o.b ≡ b = omega (arith, o.sum) in o.is ∙ ap (λ m. bit_xor (g heap) (g m)) f)
+
+-- or it is 0, or too large to leave one
+pub without_heap : (g : ℕ → ℕ) (heap total : ℕ) (x : List Bool) → (1 ≤ heap → total ≤ heap) → AddsMarks x x (IsPairWith g heap total)
+without_heap g heap total x large = AddsMarks-none x (IsPairWith g heap total) (λ v o. omega (arith, o.sum, o.second, large o.first))
+
+rare_last : (g : ℕ → ℕ) (heaps : List ℕ) (total at v : ℕ) → IsRarePair g heaps total (at + 1) v → IsRarePair g heaps total at v ⊎ IsPairWith g (slice_index heaps at) total v
+rare_last g heaps total at v o = elim (cases_eq o.at at) [
+  | inl e ↦
+      let same : slice_index heaps o.at ≡ slice_index heaps at = ap (slice_index heaps) e in
+      inr (record { b = o.b; first = omega (arith, o.first, same); second = o.second; sum = omega (arith, o.total, same); is = o.is ∙ ap (λ m. bit_xor (g m) (g o.b)) same })
+  | inr ne ↦ inl (record { at = o.at; b = o.b; within = omega (arith, o.within); first = o.first; second = o.second; total = o.total; is = o.is })
+]
+
+rare_before : (g : ℕ → ℕ) (heaps : List ℕ) (total at v : ℕ) → IsRarePair g heaps total at v → IsRarePair g heaps total (at + 1) v
+rare_before g heaps total at v o = record { at = o.at; b = o.b; within = omega (arith, o.within); first = o.first; second = o.second; total = o.total; is = o.is }
+
+rare_here : (g : ℕ → ℕ) (heaps : List ℕ) (total at v : ℕ) → IsPairWith g (slice_index heaps at) total v → IsRarePair g heaps total (at + 1) v
+rare_here g heaps total at v o = record { at = at; b = o.b; within = omega arith; first = o.first; second = o.second; total = o.sum; is = o.is }
+
+-- no heap of the list, and no total
+pub rare_none : (g : ℕ → ℕ) (heaps : List ℕ) (rest : ℕ) (x : List Bool) → AddsMarks x x (IsBelow (λ more. IsRarePair g heaps (rest + more) 0) 3)
+rare_none g heaps rest x =
+    AddsMarks-none x (IsBelow (λ more. IsRarePair g heaps (rest + more) 0) 3) (λ v o. let pair : IsRarePair g heaps (rest + o.0) 0 v = o.2 in omega (arith, pair.within))
+
+-- the next heap of the list, for three totals in a row
+pub totals_more : (g : ℕ → ℕ) (heaps : List ℕ) (rest at : ℕ) (x y z : List Bool) → AddsMarks x y (IsBelow (λ more. IsRarePair g heaps (rest + more) at) 3)
+    → AddsMarks y z (IsBelow (λ more. IsPairWith g (slice_index heaps at) (rest + more)) 3) → AddsMarks x z (IsBelow (λ more. IsRarePair g heaps (rest + more) (at + 1)) 3)
+totals_more g heaps rest at x y z p q =
+    AddsMarks-then x y z (IsBelow (λ more. IsRarePair g heaps (rest + more) at) 3) (IsBelow (λ more. IsPairWith g (slice_index heaps at) (rest + more)) 3)
+    (IsBelow (λ more. IsRarePair g heaps (rest + more) (at + 1)) 3) p q
+    (λ v o. elim (rare_last g heaps (rest + o.0) at v o.2) [ inl before ↦ inl (o.0, o.1, before) | inr here ↦ inr (o.0, o.1, here) ])
+    (λ v o. (o.0, o.1, rare_before g heaps (rest + o.0) at v o.2))
+    (λ v o. (o.0, o.1, rare_here g heaps (rest + o.0) at v o.2))
 
 -- an option leaves at most one heap, or a pair of heaps
 pub option_cases : (c : Code) (g : ℕ → ℕ) (n r v : ℕ) → r ≤ n → IsOptionBy c g n r v → IsOneHeapBy c g n r v ⊎ IsPairValue g (n - r) 1 ((n - r) / 2 + 1) v
@@ -203,6 +251,28 @@ rare_by_one c g n r heaps x y none_may p =
     AddsMarks-as x y (IsOneHeapBy c g n r) (IsRareBy c g n heaps r) p
     (λ v o. (o.0, inl o.1)) (λ v o. option_one c g n r v none_may o.0)
 
+-- and what three removals mark of them
+pub rare_three : (c : Code) (g : ℕ → ℕ) (n r rest : ℕ) (heaps : List ℕ) (x y z : List Bool) → rest + r + 2 ≡ n → r + 2 ≤ len c
+    → ((s : ℕ) → r ≤ s → s < r + 3 → IsTrue (allows c s 2)) → AddsMarks x y (IsBelow (λ i. IsOneHeapBy c g n (r + i)) 3)
+    → AddsMarks y z (IsBelow (λ i. IsRarePair g heaps (rest + i) (length heaps)) 3) → AddsMarks x z (IsBelow (λ i. IsRareBy c g n heaps (r + i)) 3)
+rare_three c g n r rest heaps x y z total few allowed p q =
+    AddsMarks-then x y z (IsBelow (λ i. IsOneHeapBy c g n (r + i)) 3) (IsBelow (λ i. IsRarePair g heaps (rest + i) (length heaps)) 3)
+    (IsBelow (λ i. IsRareBy c g n heaps (r + i)) 3) p q
+    (λ v o. elim (rare_cases c g n (r + o.0) heaps v (omega (arith, o.1)) o.2) [
+      | inl one ↦ inl (o.0, o.1, one)
+      | inr pair ↦
+          let is : n - (r + o.0) ≡ rest + (2 - o.0) = omega (arith, o.1) in
+          inr (2 - o.0, omega arith, subst (λ t. IsRarePair g heaps t (length heaps) v) is pair)
+    ])
+    (λ v o. (o.0, o.1, (o.2.0, inl o.2.1)))
+    (λ v o.
+    let is : rest + o.0 ≡ n - (r + (2 - o.0)) = omega (arith, o.1) in (
+      2 - o.0,
+      omega arith,
+      rare_option c g n (r + (2 - o.0)) heaps v (omega arith) (omega arith) (allowed (r + (2 - o.0)) (omega arith) (omega arith))
+          (subst (λ t. IsRarePair g heaps t (length heaps) v) is o.2),
+    ))
+
 -- no pair
 pub pairs_by_none : (c : Code) (g : ℕ → ℕ) (n r from end : ℕ) (x y : List Bool) → (IsTrue (allows c r 2) → ⊥) → 1 ≤ from
     → AddsMarks x y (IsBelow (IsPairBy c g n from end) r) → AddsMarks x y (IsBelow (IsPairBy c g n from end) (r + 1))
@@ -241,6 +311,19 @@ removals_more P r x y z p q =
     (λ v o. elim (cases_eq o.0 r) [ inl e ↦ inr (subst (λ s. P s v) e o.2) | inr ne ↦ inl (o.0, omega (arith, o.1), o.2) ])
     (λ v o. (o.0, omega (arith, o.1), o.2))
     (λ v o. (r, omega arith, o))
+
+-- and over three of them
+pub removals_three : (P : ℕ → ℕ → Type 0) (r : ℕ) (x y z : List Bool) → AddsMarks x y (IsBelow P r) → AddsMarks y z (IsBelow (λ i. P (r + i)) 3) → AddsMarks x z (IsBelow P (r + 3))
+removals_three P r x y z p q =
+    AddsMarks-then x y z (IsBelow P r) (IsBelow (λ i. P (r + i)) 3) (IsBelow P (r + 3)) p q
+    (λ v o. elim (cases_lt o.0 r) [
+      | inl low ↦ inl (o.0, low, o.2)
+      | inr high ↦
+          let is : o.0 ≡ r + (o.0 - r) = omega (arith, high) in
+          inr (o.0 - r, omega (arith, o.1, high), subst (λ s. P s v) is o.2)
+    ])
+    (λ v o. (o.0, omega (arith, o.1), o.2))
+    (λ v o. (r + o.0, omega (arith, o.1), o.2))
 
 -- the exclusive or of two values is in the table
 pub xor_within : (values : List ℕ) (size a b : ℕ) → IsTableFor values size → a < length values → b < length values

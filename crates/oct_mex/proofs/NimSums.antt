@@ -5,6 +5,7 @@ use Rattle.std.proofs.lemmas.List.{get_or-map, get_or_append_left, length-map, m
 use Rattle.std.proofs.lemmas.Simd.{get_or-chunk, get_or-zip2, length-chunk, length-zip2}
 use lib.Lanes.{chunk, mask_l, pick_l, zip2}
 use Rattle.oct_mex.specs.Marks.{AreNimSums, IsPairValue}
+use Rattle.oct_mex.specs.Periods.{StandsWithin}
 
 -- ---- a mask with a bit for each element that passes
 
@@ -129,3 +130,35 @@ module _ (xs : List ℕ) (rest from n v : ℕ) (many : 1 ≤ n) (some : 1 ≤ fr
 
   pub met_to : IsPairValue (slice_index (map (λ x. x) xs)) rest from (from + n) v → not (eqb (mask_l (map (λ x. eqb x v) sums)) 0) ≡ true
   met_to o = is_positive _ (to_lanes (subst (λ (ys : List ℕ). IsPairValue (slice_index ys) rest from (from + n) v) (map-id xs) o))
+
+-- ---- whether one of many values is this one
+
+module _ (xs : List ℕ) (from n v : ℕ) (held : from + n ≤ length xs) where
+  abbrev pub part : List ℕ
+  part = chunk from n xs
+
+  pub part-length : length part ≡ n
+  part-length = length-chunk from n xs held
+
+  pub stands_from : not (eqb (mask_l (map (λ x. eqb x v) part)) 0) ≡ true → StandsWithin (map (λ x. x) xs) from (from + n) v
+  stands_from t =
+      let o = from_mask (λ x. eqb x v) part (positive _ t) in
+      let long = part-length in
+      let within = o.within in
+      subst (λ (ys : List ℕ). StandsWithin ys from (from + n) v) (sym (map-id xs)) (record {
+        at = from + o.place;
+        high = omega arith;
+        low = omega arith;
+        is = sym (get_or-chunk from n xs o.place 0 (omega arith)) ∙ eqb-true (slice_index part o.place) v o.passes;
+      })
+
+  pub stands_to : StandsWithin (map (λ x. x) xs) from (from + n) v → not (eqb (mask_l (map (λ x. eqb x v) part)) 0) ≡ true
+  stands_to stands =
+      let o : StandsWithin xs from (from + n) v = subst (λ (ys : List ℕ). StandsWithin ys from (from + n) v) (map-id xs) stands in
+      let i = o.at - from in
+      let high = o.high in
+      let low = o.low in
+      let long = part-length in
+      let place : from + i ≡ o.at = omega arith in
+      is_positive _ (to_mask (λ x. eqb x v) part i (omega arith)
+      (eq-eqb (slice_index part i) v (get_or-chunk from n xs i 0 (omega arith) ∙ ap (slice_index xs) place ∙ o.is)))

@@ -1,9 +1,9 @@
 -- A period that a list of nim-values shows.
-use Rattle.std.proofs.Common.{◌≡◌, ◌≢◌, ℕ, ◌==◌, ◌||◌, Bool, true, false, not, refl, suc, ◌+◌, ◌-◌, ◌*◌, ◌<◌, ◌≤◌, ◌++◌, ◌∷◌, [], List, length, slice_index, inl, inr, subst, sym, ap, ap₂, ◌∙◌, arith}
+use Rattle.std.proofs.Common.{◌≡◌, ◌≢◌, ℕ, ◌==◌, ◌||◌, Bool, true, false, not, refl, suc, ◌+◌, ◌-◌, ◌*◌, ◌/◌, ◌<◌, ◌≤◌, ◌++◌, ◌∷◌, [], List, length, slice_index, inl, inr, subst, sym, ap, ap₂, ◌∙◌, arith}
 use Rattle.std.proofs.lemmas.Bool.{cases_Bool, cases_eq, cases_lt, eqb-true, false≢true}
 use Rattle.oct_code.specs.Code.{Code, len}
 use Rattle.oct_mex.specs.NimValues.{nim_values, nim_value}
-use Rattle.oct_mex.specs.Periods.{ComesAgain, GoesOn, IsPeriodicFrom, IsShown, NoneIsShown, NoneIsShownBefore}
+use Rattle.oct_mex.specs.Periods.{ComesAgain, GoesOn, IsPeriodicFrom, IsShown, NoneIsShown, NoneIsShownBefore, NoneReturns}
 use Rattle.oct_mex.proofs.NimValues.{nim_values-at, nim_value-eq}
 use Rattle.oct_mex.proofs.Periods.{seen_periods_hold}
 
@@ -30,6 +30,28 @@ pub not_shown_before : (c : Code) (values : List ℕ) (start period : ℕ) → v
     → (1 < start → slice_index values (start - 1 + period) ≢ slice_index values (start - 1)) → NoneIsShownBefore c (length values) start period
 not_shown_before c values start period are within first earlier low shown =
     first (omega (arith, shown.first)) (again_if_shown c values earlier period (start - 1) are shown (omega arith) (start - 1) (omega arith) (omega (arith, shown.first)))
+
+-- what brings no values again from a place on is not shown
+pub not_shown_if : (c : Code) (values : List ℕ) (from end start period : ℕ) → values ≡ nim_values c (length values) → from ≡ (length values - len c) / 2
+    → NoneReturns values from end → period < end → IsShown c (length values) start period → ⊥
+not_shown_if c values from end start period are half none less shown =
+    let first = shown.first in
+    let enough = shown.enough in
+    none period shown.some less (again_if_shown c values start period (from - period) are shown (omega arith))
+
+-- one period more that brings no values again, and some behind it that differ at a place
+pub none_returns-next : (values : List ℕ) (from place period next : ℕ) → from ≤ place → place < length values → next ≤ from → NoneReturns values from period
+    → (ComesAgain values (from - period) period → ⊥)
+    → ((p : ℕ) → period + 1 ≤ p → p < next → slice_index values place ≢ slice_index values (place - p)) → NoneReturns values from next
+none_returns-next values from place period next behind held within none here further p some less again = elim (cases_lt p period) [
+  | inl low ↦ none p some low again
+  | inr more ↦ elim (cases_eq p period) [
+    | inl same ↦ here (subst (λ q. ComesAgain values (from - q) q) same again)
+    | inr other ↦
+        let back : place - p + p ≡ place = omega arith in
+        further p (omega arith) less (ap (slice_index values) (sym back) ∙ again (place - p) (omega arith) (omega arith))
+  ]
+]
 
 -- a walk over some values that compares each with the one a period later, x and y are the next two
 pub again_next : (values : List ℕ) (from heap period x y : ℕ) (differs : Bool) → x ≡ slice_index values (heap + period) → y ≡ slice_index values heap

@@ -2,6 +2,7 @@
 
 ghost use Rattle.std.specs.Prelude.{◌≡◌, ℕ, ◌+◌, ◌/◌, ◌^◌, ◌<◌, ◌≤◌, ◌↔◌, IsTrue, MatchOption, length, map, slice_index};
 ghost use Rattle.oct_mex.specs.Marks.{AreNimSums, IsPairValue};
+ghost use Rattle.oct_mex.specs.Periods.{StandsWithin};
 
 use std::simd::prelude::*;
 
@@ -40,6 +41,11 @@ pub trait Cell: Copy {
         requires smaller { from + LANES ≤ rest / 2 + 1 }
         requires held { rest ≤ length values.now }
         ensures { IsTrue result ↔ IsPairValue (slice_index (map number values.now)) rest from (from + LANES) (number value) };
+
+    /// Whether one of the `LANES` values from a place on is `value`.
+    fn has_value(values: &[Self], from: usize, value: Self) -> bool
+        requires { from + LANES ≤ length values.now }
+        ensures { IsTrue result ↔ StandsWithin (map number values.now) from (from + LANES) (number value) };
 }
 
 impl Cell for u8 {
@@ -65,6 +71,12 @@ impl Cell for u8 {
         let smaller = u8x32::from_slice(&values[from..]);
         let larger = u8x32::from_slice(&values[rest + 1 - LANES - from..]).reverse();
         (smaller ^ larger).simd_eq(u8x32::splat(value)).any()
+    }
+
+    fn has_value(values: &[u8], from: usize, value: u8) -> bool {
+        u8x32::from_slice(&values[from..])
+            .simd_eq(u8x32::splat(value))
+            .any()
     }
 }
 
@@ -92,6 +104,12 @@ impl Cell for u16 {
         let larger = u16x32::from_slice(&values[rest + 1 - LANES - from..]).reverse();
         (smaller ^ larger).simd_eq(u16x32::splat(value)).any()
     }
+
+    fn has_value(values: &[u16], from: usize, value: u16) -> bool {
+        u16x32::from_slice(&values[from..])
+            .simd_eq(u16x32::splat(value))
+            .any()
+    }
 }
 
 impl Cell for u32 {
@@ -117,5 +135,11 @@ impl Cell for u32 {
         let smaller = u32x32::from_slice(&values[from..]);
         let larger = u32x32::from_slice(&values[rest + 1 - LANES - from..]).reverse();
         (smaller ^ larger).simd_eq(u32x32::splat(value)).any()
+    }
+
+    fn has_value(values: &[u32], from: usize, value: u32) -> bool {
+        u32x32::from_slice(&values[from..])
+            .simd_eq(u32x32::splat(value))
+            .any()
     }
 }

@@ -1,12 +1,15 @@
 //! A table that marks the nim-values of options.
 
-ghost use Rattle.std.specs.Prelude.{◌≡◌, ℕ, ◌+◌, ◌*◌, ◌/◌, ◌^◌, ◌<◌, ◌≤◌, length, map, min, slice_index};
+ghost use Rattle.std.specs.Prelude.{◌≡◌, ℕ, ◌+◌, ◌*◌, ◌/◌, ◌^◌, ◌<◌, ◌≤◌, IsTrue, length, map, min, slice_index};
 ghost use Rattle.oct_code.specs.Code as octal;
-ghost use Rattle.oct_mex.specs.Marks.{AddsMarks, IsBelow, IsMarked, IsOneHeapBy, IsPairBy, IsPairValue, IsRareBy, IsRarePair, IsTableFor};
+ghost use Rattle.oct_mex.specs.Marks.{AddsMarks, IsBelow, IsMarked, IsOneHeapBy, IsPairBy, IsPairValue, IsPairWith, IsRareBy, IsRarePair, IsTableFor};
 ghost use Rattle.oct_mex.specs.Rare.{AreBeside};
 
 use crate::cell::{Cell, LANES};
 use oct_code::{Code, LIMIT};
+
+// So many numbers of beans in a row, which pairs of heaps have, are gone through together.
+const TOTALS: usize = 3;
 
 /// How long a table can get whose length is a power of two above the nim-values of the heaps up to a size.
 pub(crate) fn table_len(code: &Code, heap: usize) -> usize
@@ -30,12 +33,78 @@ pub(crate) fn mark_listed_options<T: Cell>(
     requires table { IsTableFor (map T.number values.now) (length marks.old) }
     ensures { AddsMarks marks.old marks.new (IsBelow (IsRareBy code.now (slice_index (map T.number values.now)) (length values.now) heaps.now) (min (octal.len code.now) (length values.now) + 1)) }
 {
-    for removed in 0..code.len().min(values.len()) + 1 {
-        mark_one_heap(code, values, removed, marks);
-        if code.allows(removed, 2) {
-            mark_listed_pairs(values, heaps, beside, values.len() - removed, marks);
+    let end = code.len().min(values.len()) + 1;
+    let mut removed = 0;
+    while removed < end {
+        if TOTALS <= end - removed && may_split(code, removed, removed + TOTALS) {
+            mark_listed_removals(code, values, heaps, beside, removed, marks);
+            removed += TOTALS;
+        } else {
+            mark_listed_removal(code, values, heaps, beside, removed, marks);
+            removed += 1;
         }
     }
+}
+
+// Whether each removal of so many beans may leave two heaps.
+fn may_split(code: &Code, from: usize, end: usize) -> bool
+    ensures { IsTrue result → (removed : ℕ) → from ≤ removed → removed < end → IsTrue (octal.allows code.now removed 2) }
+{
+    for removed in from..end {
+        if !code.allows(removed, 2) {
+            return false;
+        }
+    }
+    true
+}
+
+// Marks the nim-values of the options that remove so many beans and leave at most one heap, or a heap of the list.
+fn mark_listed_removal<T: Cell>(
+    code: &Code,
+    values: &[T],
+    heaps: &[u32],
+    beside: &[T],
+    removed: usize,
+    marks: &mut [bool],
+)
+    requires held { removed ≤ length values.now }
+    requires few { removed ≤ octal.len code.now }
+    requires beside { AreBeside (map T.number values.now) heaps.now (map T.number beside.now) }
+    requires table { IsTableFor (map T.number values.now) (length marks.old) }
+    ensures { AddsMarks marks.old marks.new (IsRareBy code.now (slice_index (map T.number values.now)) (length values.now) heaps.now removed) }
+{
+    mark_one_heap(code, values, removed, marks);
+    if code.allows(removed, 2) {
+        mark_listed_pairs(values, heaps, beside, values.len() - removed, marks);
+    }
+}
+
+// The same for `TOTALS` removals that may leave two heaps: each heap of the list is read once for all of them.
+fn mark_listed_removals<T: Cell>(
+    code: &Code,
+    values: &[T],
+    heaps: &[u32],
+    beside: &[T],
+    removed: usize,
+    marks: &mut [bool],
+)
+    requires held { removed + TOTALS ≤ length values.now + 1 }
+    requires few { removed + TOTALS ≤ octal.len code.now + 1 }
+    requires allowed { (each : ℕ) → removed ≤ each → each < removed + TOTALS → IsTrue (octal.allows code.now each 2) }
+    requires beside { AreBeside (map T.number values.now) heaps.now (map T.number beside.now) }
+    requires table { IsTableFor (map T.number values.now) (length marks.old) }
+    ensures { AddsMarks marks.old marks.new (IsBelow (λ more. IsRareBy code.now (slice_index (map T.number values.now)) (length values.now) heaps.now (removed + more)) TOTALS) }
+{
+    for more in 0..TOTALS {
+        mark_one_heap(code, values, removed + more, marks);
+    }
+    mark_listed_totals(
+        values,
+        heaps,
+        beside,
+        values.len() - removed - (TOTALS - 1),
+        marks,
+    );
 }
 
 /// Marks the nim-values of the options whose smaller heap is not empty and in the range.
@@ -99,6 +168,63 @@ pub(crate) fn mark_listed_pairs<T: Cell>(
         if 0 < heap && heap < rest {
             mark(marks, beside[at].number() ^ values[rest - heap].number());
         }
+    }
+}
+
+// Marks the nim-values of the pairs of heaps that are not empty, have one of `TOTALS` numbers of beans in a row, the least of
+// which is `rest`, and one of which is in the list.
+fn mark_listed_totals<T: Cell>(
+    values: &[T],
+    heaps: &[u32],
+    beside: &[T],
+    rest: usize,
+    marks: &mut [bool],
+)
+    requires held { rest + TOTALS ≤ length values.now + 1 }
+    requires beside { AreBeside (map T.number values.now) heaps.now (map T.number beside.now) }
+    requires table { IsTableFor (map T.number values.now) (length marks.old) }
+    ensures { AddsMarks marks.old marks.new (IsBelow (λ more. IsRarePair (slice_index (map T.number values.now)) heaps.now (rest + more) (length heaps.now)) TOTALS) }
+{
+    for at in 0..heaps.len() {
+        mark_pairs_with(values, heaps[at] as usize, beside[at].number(), rest, marks);
+    }
+}
+
+// The same for one heap, which has this value.
+fn mark_pairs_with<T: Cell>(
+    values: &[T],
+    heap: usize,
+    value: usize,
+    rest: usize,
+    marks: &mut [bool],
+)
+    requires held { rest + TOTALS ≤ length values.now + 1 }
+    requires within { heap < length values.now }
+    requires value { value ≡ slice_index (map T.number values.now) heap }
+    requires table { IsTableFor (map T.number values.now) (length marks.old) }
+    ensures { AddsMarks marks.old marks.new (IsBelow (λ more. IsPairWith (slice_index (map T.number values.now)) heap (rest + more)) TOTALS) }
+{
+    for more in 0..TOTALS {
+        mark_pair_with(values, heap, value, rest + more, marks);
+    }
+}
+
+// Marks the nim-value of the pair of heaps that are not empty and have so many beans, one of which is this heap.
+fn mark_pair_with<T: Cell>(
+    values: &[T],
+    heap: usize,
+    value: usize,
+    total: usize,
+    marks: &mut [bool],
+)
+    requires held { total ≤ length values.now }
+    requires within { heap < length values.now }
+    requires value { value ≡ slice_index (map T.number values.now) heap }
+    requires table { IsTableFor (map T.number values.now) (length marks.old) }
+    ensures { AddsMarks marks.old marks.new (IsPairWith (slice_index (map T.number values.now)) heap total) }
+{
+    if 0 < heap && heap < total {
+        mark(marks, value ^ values[total - heap].number());
     }
 }
 

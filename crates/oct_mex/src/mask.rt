@@ -9,7 +9,7 @@ use oct_code::Code;
 
 /// What parts the heaps: a heap is rare if an even number of the bits of its nim-value are in the mask; or, where the
 /// parity counts, of these bits and of its beans together with `turn`.
-#[derive(Clone, Copy)]
+#[derive(Clone, Copy, PartialEq, Eq)]
 pub struct Mask {
     pub bits: u32,
     pub parity: bool,

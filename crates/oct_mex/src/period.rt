@@ -3,16 +3,16 @@
 ghost use Rattle.std.specs.Prelude.{◌≡◌, ◌↔◌, ◌≢◌, ◌+◌, ◌-◌, ◌*◌, ◌^◌, ◌<◌, ◌≤◌, IfSome, IsTrue, MatchOption, ℕ, false, length, map, slice_index};
 ghost use Rattle.oct_code.specs.Code as octal;
 ghost use Rattle.oct_mex.specs.NimValues.{nim_values};
-ghost use Rattle.oct_mex.specs.Periods.{IsPeriodicFrom, IsShown, IsBreak, ComesAgain, NoneIsShown, NoneIsShownBefore};
+ghost use Rattle.oct_mex.specs.Periods.{IsPeriodicFrom, IsShown, IsBreak, ComesAgain, NoneIsShown, NoneIsShownBefore, NoneReturns};
 
-use crate::cell::Cell;
+use crate::cell::{Cell, LANES};
 use oct_code::{Code, LIMIT};
 
 // So many values are compared before the walk may end.
 const BLOCK: usize = 256;
 
-// So many values more than an eighth let expect a period.
-const TAIL: usize = 64;
+// Of so many of the last values the greatest one is taken for a seldom one.
+const SAMPLE: usize = 4_096;
 
 /// A period of the nim-values of a game: from the heap `start` on, each comes again `period` heaps later, for ever.
 #[derive(Clone, Copy)]
@@ -37,9 +37,6 @@ pub fn find_period(code: &Code, values: &[u32]) -> Option<SeenPeriod>
 }
 
 /// The same of values in cells.
-///
-/// The periods are tried from 1 on, each from the last heap that can show it. Most of them fail at one of the two heaps at
-/// which another one was seen to fail, so these are compared first.
 pub fn find_shown<T: Cell>(code: &Code, values: &[T]) -> Option<SeenPeriod>
     requires values { map T.number values.now ≡ nim_values code.now (length values.now) }
     requires limited { length values.now ≤ 2 ^ 32 }
@@ -48,86 +45,98 @@ pub fn find_shown<T: Cell>(code: &Code, values: &[T]) -> Option<SeenPeriod>
     ensures least { MatchOption result (NoneIsShown code.now (length values.now) (length values.now)) (λ seen. NoneIsShown code.now (length values.now) seen.period) }
     ensures holds { IfSome result (λ seen. IsPeriodicFrom code.now seen.start seen.period) }
 {
-    let digits = code.len();
-    let mut failed = 0;
-    let mut later = 0;
-    for period in 1..values.len() / 2 {
-        if digits + 2 * period + 2 <= values.len() {
-            let last = (values.len() - digits) / 2 - period;
-            match break_by(values, last, period, failed, later) {
-                None => {
-                    let start = first_start(values, last, period);
-                    return Some(SeenPeriod { start, period });
-                }
-                Some(heap) => {
-                    failed = heap;
-                    later = heap + period;
-                }
-            }
-        }
-    }
-    None
+    let from = values.len().saturating_sub(code.len()) / 2;
+    let Some(period) = least_return(values, from) else {
+        return None;
+    };
+    let start = first_start(values, from - period, period);
+    Some(SeenPeriod { start, period })
 }
 
-/// The least period that an eighth of the values, the last ones, let expect, and the least heap, from 1 on, from which on
-/// all values come again by it; none where they let expect none. It need not hold: this says when to look again, and
-/// what to look at.
-pub fn expected_period<T: Cell>(values: &[T]) -> Option<SeenPeriod>
-    requires { length values.now ≤ 2 ^ 32 }
+/// The least period that so many of the last values let expect, and the least heap, from 1 on, from which on all values come
+/// again by it; none where they let expect none. It need not hold: this says when to look again, and what to look at.
+pub fn expected_period<T: Cell>(values: &[T], tail: usize) -> Option<SeenPeriod>
+    requires some { 1 ≤ tail }
+    requires limited { length values.now ≤ 2 ^ 32 }
     ensures first { IfSome result (λ seen. 1 ≤ seen.start) }
     ensures some { IfSome result (λ seen. 1 ≤ seen.period) }
     ensures within { IfSome result (λ seen. seen.start + seen.period ≤ length values.now) }
     ensures again { IfSome result (λ seen. ComesAgain (map T.number values.now) seen.start seen.period) }
 {
-    let tail = values.len() / 8 + TAIL;
-    let mut failed = 0;
-    let mut later = 0;
-    for period in 1..values.len().saturating_sub(tail) {
-        let last = values.len() - tail - period;
-        match break_by(values, last, period, failed, later) {
-            None => {
-                let first = first_start(values, last, period);
-                return Some(SeenPeriod {
-                    start: first,
-                    period,
-                });
-            }
-            Some(heap) => {
-                failed = heap;
-                later = heap + period;
+    let from = values.len().saturating_sub(tail);
+    let Some(period) = least_return(values, from) else {
+        return None;
+    };
+    Some(SeenPeriod {
+        start: first_start(values, from - period, period),
+        period,
+    })
+}
+
+// The least period below `from` by which the values from `from` on come again: each is the value one period before.
+//
+// Most periods fail at the place of a seldom value or where another one was seen to fail, so these two are compared first.
+fn least_return<T: Cell>(values: &[T], from: usize) -> Option<usize>
+    requires behind { 0 < from → from < length values.now }
+    requires limited { length values.now ≤ 2 ^ 32 }
+    ensures some { IfSome result (λ period. 1 ≤ period) }
+    ensures less { IfSome result (λ period. period < from) }
+    ensures again { IfSome result (λ period. ComesAgain (map T.number values.now) (from - period) period) }
+    ensures least { MatchOption result (NoneReturns (map T.number values.now) from from) (λ period. NoneReturns (map T.number values.now) from period) }
+{
+    if from == 0 {
+        return None;
+    }
+    let place = seldom_place(values, from);
+    let mut later = place;
+    let mut period = next_return(values, place, 1, from);
+    while period < from {
+        if !differs(values, later - period, period) {
+            match first_break(values, from - period, period) {
+                None => return Some(period),
+                Some(heap) => later = heap + period,
             }
         }
+        period = next_return(values, place, period + 1, from);
     }
     None
 }
 
-// A heap from `start` on whose value does not come again one period later. The two heaps are tried first.
-fn break_by<T: Cell>(
-    values: &[T],
-    start: usize,
-    period: usize,
-    failed: usize,
-    later: usize,
-) -> Option<usize>
-    requires within { start + period ≤ length values.now }
-    ensures { MatchOption result (ComesAgain (map T.number values.now) start period) (IsBreak (map T.number values.now) start period) }
+// A place, from `from` on, of a value that is mostly seldom: the greatest one of the last values.
+fn seldom_place<T: Cell>(values: &[T], from: usize) -> usize
+    requires { from < length values.now }
+    ensures behind { from ≤ result }
+    ensures within { result < length values.now }
 {
-    if breaks_at(values, start, period, failed) {
-        return Some(failed);
+    let first = from.max(values.len().saturating_sub(SAMPLE));
+    let mut greatest = first;
+    for place in first..values.len() {
+        if values[greatest].number() < values[place].number() {
+            greatest = place;
+        }
     }
-    let before = later.saturating_sub(period);
-    if breaks_at(values, start, period, before) {
-        return Some(before);
-    }
-    first_break(values, start, period)
+    greatest
 }
 
-// Whether the heap is one from `start` on whose value does not come again one period later.
-fn breaks_at<T: Cell>(values: &[T], start: usize, period: usize, heap: usize) -> bool
-    requires within { start + period ≤ length values.now }
-    ensures { IsTrue result ↔ IsBreak (map T.number values.now) start period heap }
+// The least period, from this one on, by which the value at a place comes again there, or `end`. Many places are compared at a time.
+fn next_return<T: Cell>(values: &[T], place: usize, period: usize, end: usize) -> usize
+    requires held { place < length values.now }
+    requires within { end ≤ place }
+    requires ordered { period ≤ end }
+    ensures behind { period ≤ result }
+    ensures within { result ≤ end }
+    ensures returns { result < end → slice_index (map T.number values.now) place ≡ slice_index (map T.number values.now) (place - result) }
+    ensures none { (p : ℕ) → period ≤ p → p < result → slice_index (map T.number values.now) place ≢ slice_index (map T.number values.now) (place - p) }
 {
-    start <= heap && heap < values.len() - period && differs(values, heap, period)
+    let value = values[place];
+    let mut next = period;
+    while LANES <= end - next && !T::has_value(values, place + 1 - next - LANES, value) {
+        next += LANES;
+    }
+    while next < end && values[place - next].number() != value.number() {
+        next += 1;
+    }
+    next
 }
 
 // The first heap from `start` on whose value does not come again one period later.

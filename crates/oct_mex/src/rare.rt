@@ -26,6 +26,9 @@ const SPARE: usize = 64;
 // Fewer values have no mask.
 const FIRST_LOOK: usize = 256;
 
+// While fewer heaps are rare, one in so many, no other mask is sought: to count all values takes longer than it could spare.
+const FEW: usize = 4_096;
+
 /// A mask, and the rare heaps from 1 on in a list, with their nim-values in another. With no bits in the mask none is
 /// listed.
 #[derive(Drop)]
@@ -84,7 +87,7 @@ impl<T: Cell, A: Allocator + Copy> Rare<T, A> {
     }
 
     /// Follows a list of values by its last one. Takes no memory: where there is no room for a list, or it has too many
-    /// heaps, no mask serves until the next one is sought.
+    /// heaps, no mask serves until the next one is sought. Where that is the same, the lists stay.
     pub(crate) fn follow(&mut self, code: &Code, values: &[T])
         requires some { 0 < length values.now }
         requires limited { length values.now ≤ 2 ^ 32 }
@@ -93,13 +96,48 @@ impl<T: Cell, A: Allocator + Copy> Rare<T, A> {
         ensures fit { IsFit code.now self.new.mask }
         ensures listed { Lists self.new.mask (map T.number values.now) (length values.now) self.new.heaps.items (map T.number self.new.values.items) }
     {
-        if values.len() >= self.due {
-            self.due = values.len() + values.len() / 4;
-            self.mask = best_mask(code, values);
-            self.list(values);
-        } else {
+        if values.len() < self.due || self.has_few(values.len()) {
             self.note(values.len() - 1, values);
+            return;
         }
+        self.due = values.len() + values.len() / 4;
+        let best = best_mask(code, values);
+        if best == self.mask {
+            self.note(values.len() - 1, values);
+        } else {
+            self.mask = best;
+            self.list(values);
+        }
+    }
+
+    // Whether so few of this many heaps are rare that no other mask is sought.
+    fn has_few(&self, count: usize) -> bool {
+        self.mask.bits > 0 && self.heaps.len() < count / FEW
+    }
+
+    /// Gives the mask and the lists up: no mask serves, and none is sought any more.
+    pub(crate) fn give_up(&mut self)
+        ensures bits { self.new.mask.bits ≡ 0 }
+        ensures parity { self.new.mask.parity ≡ self.old.mask.parity }
+        ensures turn { self.new.mask.turn ≡ self.old.mask.turn }
+        ensures heaps { self.new.heaps.items ≡ [] }
+        ensures values { self.new.values.items ≡ [] }
+    {
+        self.due = usize::MAX;
+        self.clear();
+    }
+
+    // No mask serves until the next one is sought.
+    fn clear(&mut self)
+        ensures bits { self.new.mask.bits ≡ 0 }
+        ensures parity { self.new.mask.parity ≡ self.old.mask.parity }
+        ensures turn { self.new.mask.turn ≡ self.old.mask.turn }
+        ensures heaps { self.new.heaps.items ≡ [] }
+        ensures values { self.new.values.items ≡ [] }
+    {
+        self.mask.bits = 0;
+        self.heaps.clear();
+        self.values.clear();
     }
 
     // Lists the rare heaps anew.
@@ -130,9 +168,7 @@ impl<T: Cell, A: Allocator + Copy> Rare<T, A> {
                 self.heaps.push_reserved(heap as u32);
                 self.values.push_reserved(values[heap]);
             } else {
-                self.mask.bits = 0;
-                self.heaps.clear();
-                self.values.clear();
+                self.clear();
             }
         }
     }

@@ -1,6 +1,6 @@
 //! The nim-values of a game in a list that grows at its end.
 
-ghost use Rattle.std.specs.Prelude.{◌≡◌, ◌+◌, ◌*◌, ◌^◌, ◌⊎◌, ◌<◌, ◌≤◌, if◌then◌else◌, IfOk, IsTrue, OnOk, false, length, map, max, vec_len, vec_capacity};
+ghost use Rattle.std.specs.Prelude.{◌≡◌, ◌+◌, ◌*◌, ◌^◌, ◌⊎◌, ◌<◌, ◌≤◌, if◌then◌else◌, IfOk, IsTrue, OnOk, [], false, length, map, max, vec_len, vec_capacity};
 ghost use Rattle.std.specs.List.{All};
 ghost use Rattle.oct_code.specs.Code as octal;
 ghost use Rattle.oct_mex.specs.NimValues.{nim_value};
@@ -168,5 +168,16 @@ impl<T: Cell, A: Allocator + Copy> Row<T, A> {
         let cell = self.values[self.values.len() - period];
         self.values.push_reserved(cell);
         self.rare.follow(code, &self.values);
+    }
+
+    /// Gives the rare heaps up, where the further values are copied: no mask serves, and none is sought any more.
+    pub fn give_up_rare(&mut self)
+        ensures row { (c : octal.Code) → IsRow T.number c self.old → IsRow T.number c self.new }
+        ensures values { self.new.values ≡ self.old.values }
+        ensures used { self.new.used ≡ self.old.used }
+        ensures mask { self.new.rare.mask.bits ≡ 0 }
+        ensures heaps { self.new.rare.heaps.items ≡ [] }
+    {
+        self.rare.give_up();
     }
 }
