@@ -1,4 +1,5 @@
 pub mod Bits
 mod Framing
+mod Parts
 mod Turned
 pub mod Words

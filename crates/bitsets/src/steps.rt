@@ -6,9 +6,42 @@ ghost use Rattle.bitsets.specs.Sets.{Has, Adds, AddsSmall, IsMadeBehind};
 use crate::turning::turn_by;
 use crate::word::Word;
 
+// So many sets are made at a time, in an array: its length is known when the loops over it are compiled.
+const PART: usize = 64;
+
 /// Adds to each set of a block, the first of which is that of the place `place`, what the steps make: the exclusive ors of each
 /// step's value and the numbers of the set that stands before it by the step's offset. Best with equal values side by side.
 pub fn unite_steps<W: Word>(
+    block: &mut [W],
+    sets: &[W],
+    place: usize,
+    offsets: &[usize],
+    values: &[usize],
+)
+    requires beside { length values.now ≡ length offsets.now }
+    requires few { (k : ℕ) → k < length values.now → slice_index values.now k < 2 ^ W.digits }
+    requires before { (k : ℕ) → k < length offsets.now → slice_index offsets.now k ≤ place }
+    requires behind { (k : ℕ) → k < length offsets.now → place + length block.old ≤ length sets.now + slice_index offsets.now k }
+    requires small { place + length block.old < 2 ^ 63 }
+    ensures len { length block.new ≡ length block.old }
+    ensures adds { (i : ℕ) → i < length block.old → AddsSmall W.digits (slice_index (map W.number block.old) i) (slice_index (map W.number block.new) i) (IsMadeBehind (map W.number sets.now) (place + i) offsets.now values.now (length offsets.now)) }
+{
+    let mut part = [W::empty(); PART];
+    let mut done = 0;
+    while done + PART <= block.len() {
+        part.copy_from_slice(&block[done..done + PART]);
+        unite_part(&mut part, sets, place + done, offsets, values);
+        block[done..done + PART].copy_from_slice(&part);
+        done += PART;
+    }
+    if done < block.len() {
+        unite_part(&mut block[done..], sets, place + done, offsets, values);
+    }
+}
+
+// Adds to each set of a part of a block, the first of which is that of the place `place`, what the steps make.
+#[inline(always)]
+fn unite_part<W: Word>(
     block: &mut [W],
     sets: &[W],
     place: usize,
@@ -35,6 +68,7 @@ pub fn unite_steps<W: Word>(
 }
 
 // Adds to each set the numbers of another one.
+#[inline(always)]
 fn unite<W: Word>(sets: &mut [W], others: &[W])
     requires { length others.now ≡ length sets.old }
     ensures len { length sets.new ≡ length sets.old }

@@ -107,3 +107,28 @@ fn heap_of_kayles_has_its_value(rt: HostRuntime) {
     unite_steps(&mut block, &sets, 12, &offsets, &smaller);
     assert_eq!(&rt; block[0].least(), 4, "of 12 beans");
 }
+
+// A number of the set that stands at a place.
+fn number_of(place: usize) -> usize {
+    place.wrapping_mul(7) % 32
+}
+
+// What steps by 130 places, and by 135 with each number xored with 6, make of such sets at a place.
+fn made_at(place: usize) -> u32 {
+    u32::one(number_of(place.wrapping_sub(130)) % 32).united(u32::one(
+        (number_of(place.wrapping_sub(135)) ^ 6) % 32,
+    ))
+}
+
+#[test]
+fn steps_are_united_in_a_block_of_many_sets(rt: HostRuntime) {
+    let mut sets = [0_u32; 140];
+    for place in 0..sets.len() {
+        sets[place] = u32::one(number_of(place) % 32);
+    }
+    let mut block = [0_u32; 130];
+    unite_steps(&mut block, &sets, 140, &[130, 135], &[0, 6]);
+    for at in [0_usize, 63, 64, 127, 128, 129] {
+        assert_eq!(&rt; block[at], made_at(140 + at), "{at} places on");
+    }
+}

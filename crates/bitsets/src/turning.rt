@@ -6,6 +6,7 @@ ghost use Rattle.bitsets.specs.Sets.{Has};
 use crate::word::Word;
 
 /// Turns the bits of a number in each number of each set: each number is xored with it. With 0 the sets stay.
+#[inline(always)]
 pub fn turn_by<W: Word>(sets: &mut [W], number: usize)
     requires { number < 2 ^ W.digits }
     ensures len { length sets.new ≡ length sets.old }
@@ -23,6 +24,7 @@ pub fn turn_by<W: Word>(sets: &mut [W], number: usize)
 }
 
 // Turns one bit of each number of each set.
+#[inline(always)]
 fn turn_all<W: Word>(sets: &mut [W], bit: usize)
     requires { bit < W.digits }
     ensures len { length sets.new ≡ length sets.old }

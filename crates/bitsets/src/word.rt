@@ -3,9 +3,9 @@
 ghost use Rattle.std.specs.Prelude.{◌≡◌, ℕ, ◌^◌, ◌<◌, ◌≤◌, ◌↔◌, bit_or, bit_xor};
 ghost use Rattle.bitsets.specs.Sets.{Has};
 
-/// A word whose bits are a set of small numbers: those of 5 bits, which are below 32, or those of 6 bits, which are below 64. Words
-/// of half the bits are worked on twice as fast, and take half the memory. What is done with the bits of a word stands here, once
-/// for each width; what is done with the sets of a block is the same for each.
+/// A word whose bits are a set of small numbers: those of 5 bits, which are below 32, or those of 6 bits, which are below 64. Of
+/// words of half the bits twice as many fit an instruction, and they take half the memory. What is done with the bits of a word
+/// stands here, once for each width; what is done with the sets of a block is the same for each.
 pub trait Word: Copy {
     /// The number whose bits tell what is in the set.
     ghost number: { Self → ℕ };

@@ -47,6 +47,7 @@ pub(crate) fn pairs_of<T: Cell, W: Word, A: Allocator + Copy>(
 }
 
 /// The set of the values that stand before a place by these numbers.
+#[inline(always)]
 pub(crate) fn split_set<T: Cell, W: Word>(splits: &[usize], values: &[T], place: usize) -> W
     requires within { place < length values.now }
     requires splits { (k : ℕ) → k < length splits.now → slice_index splits.now k ≤ place }
@@ -61,6 +62,7 @@ pub(crate) fn split_set<T: Cell, W: Word>(splits: &[usize], values: &[T], place:
 }
 
 /// The nim-value that stands at a place.
+#[inline(always)]
 pub(crate) fn number_at<T: Cell>(values: &[T], place: usize) -> usize
     requires { place < length values.now }
     ensures { result ≡ slice_index (map T.number values.now) place }

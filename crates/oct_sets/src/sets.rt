@@ -16,7 +16,7 @@ use std::alloc::{AllocError, Allocator};
 /// Each value is below this number: wide words have as many bits.
 pub const SMALL: usize = 64;
 
-// Narrow words have so many bits. Each is worked on in half the time.
+// Narrow words have so many bits, so that twice as many fit an instruction.
 const NARROW: usize = 32;
 
 /// The sets of the values of near options, by a plan.
@@ -68,7 +68,7 @@ impl<A: Allocator + Copy> Sets<A> {
     }
 
     /// Each value has to be below this number: 32 or 64.
-    #[inline]
+    #[inline(always)]
     pub fn limit(&self) -> usize
         ensures { result ≡ limit_of self.now }
     {
@@ -79,7 +79,7 @@ impl<A: Allocator + Copy> Sets<A> {
     }
 
     /// No far heap of the plan is larger.
-    #[inline]
+    #[inline(always)]
     pub fn reach(&self) -> usize
         ensures { result ≡ reach_of self.now }
     {
@@ -91,7 +91,7 @@ impl<A: Allocator + Copy> Sets<A> {
 
     /// The nim-value of the next heap, if near options by the plan settle it: below the limit, and common. The values of the last
     /// heaps before it are given.
-    #[inline]
+    #[inline(always)]
     pub fn settle<T: Cell>(&self, mask: Mask, last: &[T]) -> Option<usize>
         requires shaped { IsShaped (reach_of self.now) (length last.now) self.now }
         requires limited { heap_of self.now ≤ 2 ^ 60 }
@@ -107,7 +107,7 @@ impl<A: Allocator + Copy> Sets<A> {
     }
 
     /// Goes on to the next heap, by the values of the last heaps, of which this one is the last. Takes no memory.
-    #[inline]
+    #[inline(always)]
     pub fn push<T: Cell>(&mut self, last: &[T])
         requires shaped { IsShaped (reach_of self.old) (length last.now) self.old }
         requires some { 0 < length last.now }

@@ -82,7 +82,7 @@ impl<W: Word, A: Allocator + Copy> SetsOf<W, A> {
 
     /// The nim-value of the next heap, if near options by the plan settle it: one of a word, and common. The values of the last heaps
     /// before it are given.
-    #[inline]
+    #[inline(always)]
     pub(crate) fn settle<T: Cell>(&self, mask: Mask, last: &[T]) -> Option<usize>
         requires shaped { IsShapedOf W.digits self.now.reach (length last.now) self.now }
         requires limited { self.now.heap ≤ 2 ^ 60 }
@@ -95,7 +95,7 @@ impl<W: Word, A: Allocator + Copy> SetsOf<W, A> {
     }
 
     // The set of the next heap: that of the block, and what near steps make besides.
-    #[inline]
+    #[inline(always)]
     fn near_set<T: Cell>(&self, last: &[T]) -> W
         requires shaped { IsShapedOf W.digits self.now.reach (length last.now) self.now }
         requires low { (i : ℕ) → i < length last.now → slice_index (map T.number last.now) i < 2 ^ W.digits }
@@ -111,7 +111,7 @@ impl<W: Word, A: Allocator + Copy> SetsOf<W, A> {
     }
 
     /// Goes on to the next heap, by the values of the last heaps, of which this one is the last. Takes no memory.
-    #[inline]
+    #[inline(always)]
     pub(crate) fn push<T: Cell>(&mut self, last: &[T])
         requires shaped { IsShapedOf W.digits self.old.reach (length last.now) self.old }
         requires some { 0 < length last.now }
@@ -130,7 +130,7 @@ impl<W: Word, A: Allocator + Copy> SetsOf<W, A> {
     }
 
     // Adds the word of the next heap. Where there is no room, the first words are forgotten.
-    #[inline]
+    #[inline(always)]
     fn add_pair<T: Cell>(&mut self, last: &[T])
         requires pairs { self.old.reach ≤ vec_len self.old.pairs }
         requires spare { self.old.reach < vec_capacity self.old.pairs }

@@ -12,6 +12,7 @@ use oct_mex::Mask;
 
 /// The least number that is not in the set of the values of near options of a heap, if it is one of a word, and a value
 /// like it is common there.
+#[inline(always)]
 pub(crate) fn settled_by<W: Word>(mask: Mask, heap: usize, set: W) -> Option<usize>
     requires { heap ≤ 2 ^ 60 }
     ensures small { IfSome result (λ value. value < 2 ^ W.digits) }
@@ -27,6 +28,7 @@ pub(crate) fn settled_by<W: Word>(mask: Mask, heap: usize, set: W) -> Option<usi
 }
 
 // Whether a heap of a nim-value is rare.
+#[inline(always)]
 fn is_rare(mask: Mask, heap: usize, value: usize) -> bool
     requires { heap ≤ 2 ^ 60 }
     ensures { result ≡ is_rare mask heap value }

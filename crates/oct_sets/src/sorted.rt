@@ -10,7 +10,8 @@ use oct_mex::Cell;
 use std::alloc::{AllocError, Allocator};
 
 /// A small heap and its nim-value. They are ordered by the place of the value in Gray's code, in which each number differs from the
-/// one before in one bit: so sets are turned by one bit from value to value, where all values are there.
+/// one before in one bit: so sets are turned by one bit from value to value, where all values are there. The bits stand in it the
+/// other way round, so that the low ones, which take longest to turn, are turned least.
 #[derive(Clone, Copy, PartialEq, Eq, PartialOrd, Ord)]
 pub struct SmallHeap {
     pub place: u16,
@@ -63,9 +64,10 @@ fn add<T: Cell, A: Allocator>(
     Ok(())
 }
 
-// The place of a number below 64 in Gray's code.
+// The place of a number below 64 in Gray's code, its bits the other way round: the first six of these bits tell it.
 fn place_of(value: u16) -> u16 {
-    let two = value ^ (value >> 1);
+    let turned = value.reverse_bits();
+    let two = turned ^ (turned >> 1);
     let four = two ^ (two >> 2);
     four ^ (four >> 4)
 }

@@ -1,63 +1,37 @@
-use Rattle.std.proofs.Common.{◌≡◌, ◌+◌, ◌-◌, ◌∙◌, length, map, slice_index, arith, ap, refl, subst}
-use Rattle.std.proofs.lemmas.Nat.{pow_pos, xor_lt}
-use Rattle.bitsets.specs.Sets.{Adds, Has}
-use Rattle.bitsets.proofs.Framing.{InFrame, frame_first, frame_last, frame_more, frame_turned}
-use Rattle.bitsets.proofs.Words.{in_range}
+use Rattle.std.proofs.Common.{◌≡◌, ◌+◌, ◌-◌, ◌≤◌, ◌∙◌, length, map, slice_index, ap, arith, subst₂, sym}
+use Rattle.std.proofs.lemmas.List.Edits.{length-between}
+use Rattle.bitsets.proofs.Parts.{IsMade, part_made}
+use Rattle.bitsets.proofs.Words.{put_after, put_length}
+use Rattle.bitsets.specs.declared.steps.TheConstants.{PART}
 use Rattle.bitsets.proofs.steps.unite_steps.Goals as goal
 
-pub turn_by-requires : goal.turn_by-requires
-turn_by-requires g c = xor_lt g.W.Word.digits c.loop-at.frame (slice_index c.args.values.now c.loop-at.at) c.loop-at.invariant.small (c.requires.few c.loop-at.at (omega (arith, c.requires.beside)))
-
-pub loop-at-init : goal.loop-at-init
-loop-at-init g c = record {
-  small = pow_pos g.W.Word.digits;
-  len = refl;
-  adds = λ i within. frame_first g.W.Word.digits (map g.W.Word.number c.args.sets.now) (c.args.place + i) c.args.offsets.now c.args.values.now (slice_index (map g.W.Word.number c.args.block.now) i);
-}
-
-pub loop-at-preserved : goal.loop-at-preserved
-loop-at-preserved g c =
-    let kept = c.loop-at.invariant in
-    let d = g.W.Word.digits in
+pub loop-done-preserved : goal.loop-done-preserved
+loop-done-preserved g c =
+    let kept = c.loop-done.invariant in
     let number = g.W.Word.number in
-    let sets = map number c.args.sets.now in
-    let offsets = c.args.offsets.now in
-    let values = c.args.values.now in
-    let at = c.loop-at.at in
-    let value = slice_index values at in
-    let offset = slice_index offsets at in
-    let from = c.args.place - offset in
-    let few = c.requires.few at (omega (arith, c.requires.beside)) in
+    let from = c.loop-done.done in
+    let to = from + PART in
+    let block = c.loop-done.block in
+    let part = c.copy_from_slice-in-loop-done.new.self in
+    let low : to ≤ length block = omega (arith, c.loop-done-test.true) in
+    let room : from + (to - from) ≤ length block = omega (arith, low) in
+    let full : length part ≡ to - from = ap length c.copy_from_slice-in-loop-done.ensures.after ∙ c.unite_part.ensures.len ∙ ap length c.copy_from_slice.ensures.after ∙ length-between block from to low in
     record {
-      small = few;
-      len = omega (arith, c.unite.ensures.len, c.turn_by.ensures.len, kept.len);
-      adds = λ i within.
-          let place = c.args.place + i in
-          let old = slice_index (map number c.args.block.now) i in
-          let mid = slice_index (map number c.turn_by.new.sets) i in
-          let new = slice_index (map number c.unite.new.sets) i in
-          let is : slice_index sets (from + i) ≡ slice_index sets (place - offset) = ap (slice_index sets) (omega (arith, c.requires.before at (omega arith))) in
-          let added : Adds mid new (Has (slice_index sets (place - offset))) =
-          subst (λ x. Adds mid new (Has x)) (in_range number c.args.sets.now from (from + length c.turn_by.new.sets) i (omega (arith, within, kept.len, c.turn_by.ensures.len)) ∙ is)
-          (c.unite.ensures.adds i (omega (arith, within, kept.len, c.turn_by.ensures.len))) in
-          frame_more d sets place offsets values old mid new value at refl
-          (frame_turned d sets place offsets values old (slice_index (map number c.loop-at.block) i) mid c.loop-at.frame value at kept.small few (kept.adds i within)
-          (λ v small. c.turn_by.ensures.turned i v (omega (arith, within, kept.len)) small))
-          added;
+      len = put_length number block from (to - from) part room full ∙ kept.len;
+      within = omega (arith, low, kept.len);
+      adds = part_made number g.W.Word.digits (map number c.args.sets.now) c.args.place c.args.offsets.now c.args.values.now c.args.block.now block part from to (omega arith) low full
+          kept.adds kept.left (λ i within. subst₂ (λ xs ys. IsMade number g.W.Word.digits (map number c.args.sets.now) c.args.place c.args.offsets.now c.args.values.now (c.args.place + from + i) (slice_index (map number xs) i) (slice_index (map number ys) i))
+          c.copy_from_slice.ensures.after (sym c.copy_from_slice-in-loop-done.ensures.after) (c.unite_part.ensures.adds i (omega (arith, within, full, ap length c.copy_from_slice.ensures.after, length-between block from to low))));
+      left = λ i after. put_after number block from (to - from) part room full i (omega (arith, after)) ∙ kept.left i (omega (arith, after));
     }
 
-pub returns-clause-adds : goal.returns-clause-adds
-returns-clause-adds g c = λ i within.
-    let kept = c.loop-at.invariant in
-    let d = g.W.Word.digits in
+pub returns-then-done-block-clause-adds : goal.returns-then-done-block-clause-adds
+returns-then-done-block-clause-adds g c = λ i within.
+    let kept = c.loop-done.invariant in
     let number = g.W.Word.number in
-    let sets = map number c.args.sets.now in
-    let offsets = c.args.offsets.now in
-    let values = c.args.values.now in
-    let place = c.args.place + i in
-    let old = slice_index (map number c.args.block.now) i in
-    let set = slice_index (map number c.loop-at.block) i in
-    let end : c.loop-at.at ≡ length offsets = omega arith in
-    frame_last d sets place offsets values old set (slice_index (map number c.turn_by-2.new.sets) i) c.loop-at.frame (length offsets) kept.small
-    (subst (λ k. InFrame d sets place offsets values old set c.loop-at.frame k) end (kept.adds i within))
-    (λ v small. c.turn_by-2.ensures.turned i v (omega (arith, within, kept.len)) small)
+    let from = c.loop-done.done in
+    let block = c.loop-done.block in
+    let made = c.unite_part-then-done-block in
+    let full : length made.new.block ≡ length block - from = made.ensures.len ∙ length-between block from (length block) (omega arith) in
+    part_made number g.W.Word.digits (map number c.args.sets.now) c.args.place c.args.offsets.now c.args.values.now c.args.block.now block made.new.block from (length block) (omega (arith, kept.len, kept.within)) (omega arith) full
+    kept.adds kept.left (λ j low. made.ensures.adds j (omega (arith, low, made.ensures.len))) i (omega (arith, within, kept.len))
