@@ -1,23 +1,29 @@
 //! The nim-values of a game in cells of 8 bits until one exceeds 255, and then of 16.
 
-ghost use Rattle.std.specs.Prelude.{◌≡◌, ◌+◌, ◌^◌, ◌<◌, ◌≤◌, if◌then◌else◌, false, max, vec_len, IfErr, IfOk, IfSome, OnErr, OnOk};
+ghost use Rattle.std.specs.Prelude.{◌≡◌, ◌+◌, ◌^◌, ◌<◌, ◌≤◌, if◌then◌else◌, false, max, vec_capacity, vec_len, IfErr, IfOk, IfSome, OnErr, OnOk};
 ghost use Rattle.oct_code.specs.Code as octal;
 ghost use Rattle.oct_mex.specs.NimValues.{nim_value};
 ghost use Rattle.oct_mex.specs.Periods.{GoesOn};
 ghost use Rattle.oct_mex.specs.Row.{IsRow};
 ghost use Rattle.oct_search.specs.BySets.{AreSetsOf};
 ghost use Rattle.oct_search.specs.Cells.{IsKnown, bound_of, len_of};
-ghost use Rattle.oct_search.specs.Certain.{IsExpected};
+ghost use Rattle.oct_search.specs.Certain.{IsCertain};
 ghost use Rattle.oct_search.specs.Found.{IsFound};
 ghost use Rattle.oct_search.specs.declared.error.SearchError.TheVariants.{PastValue};
 
-use crate::certificate::{Expected, look_ahead};
+use crate::by_sets::push_unlisted;
+use crate::certificate::look_ahead;
 use crate::error::SearchError;
 use crate::finder::{Finder, lengthen, make_room, room_behind};
 use crate::search::MOST;
 use oct_code::Code;
 use oct_mex::{Cell, Rare, Row, SeenPeriod, expected_period, find_shown};
 use std::alloc::{AllocError, Allocator};
+
+// So many of the last values, one in so many and some more, let expect a period.
+const SHARE: usize = 8;
+
+const SPARE: usize = 64;
 
 /// The nim-values of the heaps 0, 1, .. of a game.
 #[derive(Drop)]
@@ -67,51 +73,60 @@ impl<A: Allocator + Copy> Cells<A> {
         }
     }
 
-    /// The least period that the last values let expect, seen from some heap on, if they let expect one.
+    /// The least period that an eighth of the values, the last ones, let expect, seen from some heap on, if they let expect one.
     pub(crate) fn expected_period(&self) -> Option<SeenPeriod>
         requires { len_of self.now ≤ MOST }
         ensures { IfSome result (λ seen. seen.start + seen.period ≤ len_of self.now) }
     {
+        let tail = self.len() / SHARE + SPARE;
         match self {
-            Cells::Narrow(row) => expected_period(&row.values),
-            Cells::Wide(row) => expected_period(&row.values),
+            Cells::Narrow(row) => expected_period(&row.values, tail),
+            Cells::Wide(row) => expected_period(&row.values, tail),
         }
     }
 
-    /// The same, and whether the values are known to go on with it. It may need memory for marks.
+    /// A period with which the values are known to go on, if the last ones let expect one. It may need memory for marks.
     pub(crate) fn look_ahead(
         &self,
+        alloc: A,
         code: &Code,
         marks: &mut Vec<bool, A>,
-    ) -> Result<Option<Expected>, AllocError>
+    ) -> Result<Option<SeenPeriod>, AllocError>
         requires { IsKnown code.now self.now }
-        ensures { IfOk result (λ found. IfSome found (IsExpected code.now (len_of self.now))) }
+        ensures { IfOk result (λ found. IfSome found (IsCertain code.now (len_of self.now))) }
     {
         match self {
             Cells::Narrow(row) => {
                 lengthen(marks, row.used)?;
-                Ok(look_ahead(row, code, marks))
+                Ok(look_ahead(alloc, row, code, marks))
             }
             Cells::Wide(row) => {
                 lengthen(marks, row.used)?;
-                Ok(look_ahead(row, code, marks))
+                Ok(look_ahead(alloc, row, code, marks))
             }
         }
     }
 
-    /// Adds the value of the heap one period before. Without memory the values stay.
-    pub(crate) fn push_again(&mut self, code: &Code, period: usize) -> Result<(), AllocError>
+    /// Adds the values of the heaps below `end`, each that of the heap one period before. Without memory those that were added stay.
+    pub(crate) fn push_all_again(
+        &mut self,
+        code: &Code,
+        period: usize,
+        end: usize,
+    ) -> Result<(), AllocError>
         requires known { IsKnown code.now self.old }
-        requires limited { len_of self.old < MOST }
+        requires limited { end ≤ MOST }
         requires some { 1 ≤ period }
         requires on { GoesOn code.now (len_of self.old) period }
         ensures known { IsKnown code.now self.new }
-        ensures ok { OnOk result (len_of self.new ≡ len_of self.old + 1) }
-        ensures err { OnErr result (len_of self.new ≡ len_of self.old) }
+        ensures more { len_of self.old ≤ len_of self.new }
+        ensures most { len_of self.new ≤ max end (len_of self.old) }
+        ensures ok { OnOk result (len_of self.new ≡ max end (len_of self.old)) }
+        ensures err { OnErr result (len_of self.new < end) }
     {
         match self {
-            Cells::Narrow(row) => push_again_in(row, code, period),
-            Cells::Wide(row) => push_again_in(row, code, period),
+            Cells::Narrow(row) => push_all_again_in(row, code, period, end),
+            Cells::Wide(row) => push_all_again_in(row, code, period, end),
         }
     }
 
@@ -184,23 +199,52 @@ impl<A: Allocator + Copy> Cells<A> {
     }
 }
 
-// Adds the value of the heap one period before. Without memory the values stay.
-fn push_again_in<T: Cell, A: Allocator + Copy>(
+// Adds the values of the heaps below `end`, each that of the heap one period before. Without memory those that were added stay.
+fn push_all_again_in<T: Cell, A: Allocator + Copy>(
     row: &mut Row<T, A>,
     code: &Code,
     period: usize,
+    end: usize,
 ) -> Result<(), AllocError>
     requires row { IsRow T.number code.now row.old }
-    requires limited { vec_len row.old.values < MOST }
+    requires limited { end ≤ MOST }
     requires some { 1 ≤ period }
     requires on { GoesOn code.now (vec_len row.old.values) period }
     ensures row { IsRow T.number code.now row.new }
-    ensures ok { OnOk result (vec_len row.new.values ≡ vec_len row.old.values + 1) }
-    ensures err { OnErr result (vec_len row.new.values ≡ vec_len row.old.values) }
+    ensures more { vec_len row.old.values ≤ vec_len row.new.values }
+    ensures most { vec_len row.new.values ≤ max end (vec_len row.old.values) }
+    ensures ok { OnOk result (vec_len row.new.values ≡ max end (vec_len row.old.values)) }
+    ensures err { OnErr result (vec_len row.new.values < end) }
 {
-    make_room(row)?;
-    row.push_again(code, period);
+    while row.values.len() < end {
+        make_room(row)?;
+        let room = end.min(row.values.capacity());
+        push_again_to(row, code, period, room);
+    }
     Ok(())
+}
+
+// Adds the values of the heaps below `end`, for which there is room, each that of the heap one period before. Takes no memory.
+fn push_again_to<T: Cell, A: Allocator + Copy>(
+    row: &mut Row<T, A>,
+    code: &Code,
+    period: usize,
+    end: usize,
+)
+    requires row { IsRow T.number code.now row.old }
+    requires limited { end ≤ MOST }
+    requires room { end ≤ vec_capacity row.old.values }
+    requires more { vec_len row.old.values ≤ end }
+    requires some { 1 ≤ period }
+    requires on { GoesOn code.now (vec_len row.old.values) period }
+    ensures row { IsRow T.number code.now row.new }
+    ensures len { vec_len row.new.values ≡ end }
+{
+    row.give_up_rare();
+    while row.values.len() < end {
+        let cell = row.values[row.values.len() - period];
+        push_unlisted(row, cell);
+    }
 }
 
 // The same values in wider cells.

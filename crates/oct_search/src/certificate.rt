@@ -11,35 +11,38 @@ ghost use Rattle.oct_code.specs.Code as octal;
 ghost use Rattle.oct_mex.specs.Periods.{ComesAgain, GoesOn};
 ghost use Rattle.oct_mex.specs.Row.{IsRow};
 ghost use Rattle.oct_mex.specs.Windows.{IsSettled, window};
-ghost use Rattle.oct_search.specs.Certain.{IsExpected};
+ghost use Rattle.oct_search.specs.BySets.{ServeFor};
+ghost use Rattle.oct_search.specs.Certain.{IsCertain};
 
+use crate::by_sets::BySets;
 use oct_code::Code;
 use oct_mex::{Cell, Mask, Row, SeenPeriod, expected_period, settled_value};
 use std::alloc::Allocator;
 
-/// A period that the last values let expect.
-#[derive(Clone, Copy)]
-pub(crate) struct Expected {
-    pub seen: SeenPeriod,
-    /// Whether the values are known to go on with it.
-    pub is_certain: bool,
-}
+// So many of the last values, one in so many and some more, let expect a period that is tried.
+const SHARE: usize = 32;
 
-/// The least period that the last values let expect, and whether they are known to go on with it: they show it by themselves, or
-/// one run of settled heaps does. These are looked at only where they are fewer than the values that it spares.
+const SPARE: usize = 64;
+
+/// The least period that the last values let expect, if they are known to go on with it: they show it by themselves, or one run of
+/// settled heaps does. These are looked at only where they are fewer than the values that it spares.
 pub(crate) fn look_ahead<T: Cell, A: Allocator + Copy>(
+    alloc: A,
     row: &Row<T, A>,
     code: &Code,
     marks: &mut [bool],
-) -> Option<Expected>
+) -> Option<SeenPeriod>
     requires row { IsRow T.number code.now row.now }
     requires marks { row.now.used ≤ length marks.old }
-    ensures { IfSome result (IsExpected code.now (vec_len row.now.values)) }
+    ensures { IfSome result (IsCertain code.now (vec_len row.now.values)) }
 {
-    let seen = expected_period(&row.values)?;
+    let seen = expected_period(&row.values, row.values.len() / SHARE + SPARE)?;
     let spared = need_of(code, seen).saturating_sub(row.values.len());
-    let is_certain = spared == 0 || seen.period < spared && goes_on(row, code, seen, marks);
-    Some(Expected { seen, is_certain })
+    if spared == 0 || seen.period < spared && goes_on(alloc, row, code, seen, marks) {
+        Some(seen)
+    } else {
+        None
+    }
 }
 
 /// How many values show a period by themselves (Guy and Smith 1956).
@@ -53,6 +56,7 @@ pub(crate) fn need_of(code: &Code, seen: SeenPeriod) -> usize
 // Whether one run of settled heaps proves a period that is seen from some heap on. The window before it lies within the
 // values that come again.
 fn goes_on<T: Cell, A: Allocator + Copy>(
+    alloc: A,
     row: &Row<T, A>,
     code: &Code,
     seen: SeenPeriod,
@@ -74,7 +78,7 @@ fn goes_on<T: Cell, A: Allocator + Copy>(
     }
     let reach = (start - back).min((start - digits - 1) / 2);
     greatest(&row.rare.heaps) <= reach
-        && are_settled(row, code, start, reach, &mut marks[..row.used])
+        && are_settled(alloc, row, code, start, reach, &mut marks[..row.used])
 }
 
 /// The greatest heap of a list, or 0.
@@ -97,8 +101,10 @@ fn serves(mask: Mask, period: usize) -> bool
     mask.bits > 0 && (!mask.parity || period % 2 == 0)
 }
 
-// Whether the heaps up to `reach`, none above it being rare, settle the value of each heap from `start` on.
+// Whether the heaps up to `reach`, none above it being rare, settle the value of each heap from `start` on: by sets, as far as these
+// tell it, or else by marks.
 fn are_settled<T: Cell, A: Allocator + Copy>(
+    alloc: A,
     row: &Row<T, A>,
     code: &Code,
     start: usize,
@@ -109,15 +115,41 @@ fn are_settled<T: Cell, A: Allocator + Copy>(
     requires some { 0 < row.now.rare.mask.bits }
     requires few { (h : ℕ) → Contains row.now.rare.heaps.items h → h ≤ reach }
     requires room { reach + window code.now reach < start }
+    requires within { start ≤ vec_len row.now.values }
     requires limited { reach < 2 ^ 32 }
     requires marks { length marks.old ≡ row.now.used }
     ensures settled { IsTrue result → (n : ℕ) → start ≤ n → n < vec_len row.now.values → IsSettled code.now row.now.rare.mask reach n }
     ensures size { length marks.new ≡ length marks.old }
 {
+    let mut sets = BySets::behind(alloc, row, code, start);
     for heap in start..row.values.len() {
-        if settled_value(code, &row.values[..heap], &row.rare, heap, reach, marks).is_none() {
+        if !is_told(&sets, row, code, heap, reach)
+            && settled_value(code, &row.values[..heap], &row.rare, heap, reach, marks).is_none()
+        {
             return false;
+        }
+        if let Some(sets) = &mut sets {
+            sets.go_on(row, code, heap);
         }
     }
     true
+}
+
+// Whether sets that reach no farther than `reach` tell the value of a heap.
+fn is_told<T: Cell, A: Allocator + Copy>(
+    sets: &Option<BySets<A>>,
+    row: &Row<T, A>,
+    code: &Code,
+    heap: usize,
+    reach: usize,
+) -> bool
+    requires row { IsRow T.number code.now row.now }
+    requires within { heap ≤ vec_len row.now.values }
+    requires serve { IfSome sets.now (ServeFor code.now row.now heap) }
+    ensures { IsTrue result → IsSettled code.now row.now.rare.mask reach heap }
+{
+    match sets {
+        Some(sets) => sets.sets.reach() <= reach && sets.tell(row, code, heap),
+        None => false,
+    }
 }

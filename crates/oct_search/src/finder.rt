@@ -110,7 +110,7 @@ impl<A: Allocator + Copy> Finder<A> {
         let len = row.values.len();
         if len >= self.due {
             self.due = len + len / ANEW + 1;
-            self.sets = BySets::behind(alloc, row, code);
+            self.sets = BySets::behind(alloc, row, code, len);
         }
     }
 }

@@ -25,6 +25,9 @@ const FIRST_LOOK: usize = 64;
 // Fewer are not tried for one with which they go on.
 const FIRST_TRY: usize = 4_096;
 
+// One is tried for again where there are more by one in so many.
+const TRY: usize = 16;
+
 // So many are computed before it is told again how many are known.
 const PART: usize = 65_536;
 
@@ -155,38 +158,22 @@ impl<A: Allocator + Copy> Search<A> {
         Ok(())
     }
 
-    // Tries for a period with which the values go on, at lengths that grow by a quarter, until one is known.
+    // Tries for a period with which the values go on, at lengths that grow by a sixteenth, until one is known.
     fn look_ahead(&mut self) -> Result<(), AllocError>
         ensures { self.new ≡ self.old }
     {
-        if self.certain.is_none() && self.len() >= self.due {
-            self.expect()?;
+        let len = self.len();
+        if self.certain.is_none() && len >= self.due {
+            self.due = len + len / TRY;
+            self.certain = self
+                .cells
+                .look_ahead(self.alloc, &self.code, &mut self.finder.marks)?;
         }
         Ok(())
     }
 
-    // The least period that the last values let expect. Where it is time, it is tried whether the values are known to go on with it.
-    fn expect(&mut self) -> Result<Option<SeenPeriod>, AllocError>
-        ensures same { self.new ≡ self.old }
-        ensures within { IfOk result (λ found. IfSome found (λ seen. seen.start + seen.period ≤ self.old.len)) }
-    {
-        let len = self.len();
-        let is_due = len >= self.due;
-        self.due = self.due.max(len + len / 4);
-        if !is_due {
-            return Ok(self.cells.expected_period());
-        }
-        let Some(expected) = self.cells.look_ahead(&self.code, &mut self.finder.marks)? else {
-            return Ok(None);
-        };
-        if expected.is_certain {
-            self.certain = Some(expected.seen);
-        }
-        Ok(Some(expected.seen))
-    }
-
-    // Adds some of the next values, at most those of the heaps below `end`: the one a period before, or else those that sets tell,
-    // and behind them the mex. A refusal leaves the values as they are.
+    // Adds some of the next values, at most those of the heaps below `end`: those a period before, or else those that sets tell, and
+    // behind them the mex. At a refusal those that were added stay.
     fn push_some(&mut self, end: usize) -> Result<(), SearchError>
         requires some { self.old.len < end }
         requires limited { end ≤ MOST }
@@ -199,7 +186,7 @@ impl<A: Allocator + Copy> Search<A> {
     {
         if let Some(seen) = self.certain {
             self.finder.sets = None;
-            self.cells.push_again(&self.code, seen.period)?;
+            self.cells.push_all_again(&self.code, seen.period, end)?;
             return Ok(());
         }
         let settled = end.min(self.due);
@@ -228,18 +215,16 @@ impl<A: Allocator + Copy> Search<A> {
         ensures same { self.new ≡ self.old }
         ensures more { IfOk result (λ next. self.old.len < next) }
     {
+        self.look_ahead()?;
         let len = self.len();
         let next = FIRST_LOOK.max(len + len / 4);
         if let Some(seen) = self.certain {
             return Ok(self.look_by(seen, next, MOST + 1));
         }
-        let Some(seen) = self.expect()? else {
-            return Ok(next);
-        };
-        if self.certain.is_some() {
-            return Ok(self.look_by(seen, next, MOST + 1));
+        match self.cells.expected_period() {
+            Some(seen) => Ok(self.look_by(seen, next, next + len / 2)),
+            None => Ok(next),
         }
-        Ok(self.look_by(seen, next, next + len / 2))
     }
 
     // As many values as show a period, where there are fewer and it is below `end`, and else `next`.

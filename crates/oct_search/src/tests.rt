@@ -120,9 +120,8 @@ fn one_settled_period_is_enough(rt: HostRuntime) {
         let pushed = cells.push_next(rt.alloc(), &code, &mut finder);
         assert!(&rt; pushed.is_ok(), "memory");
     }
-    let found = cells.look_ahead(&code, &mut finder.marks);
+    let found = cells.look_ahead(rt.alloc(), &code, &mut finder.marks);
     let found = found.ok().expect(&rt, "memory").expect(&rt, "a period");
-    assert!(&rt; found.is_certain, "it need not go on");
-    assert_eq!(&rt; found.seen.period, 349, "the period");
-    assert_eq!(&rt; found.seen.start, 3_479, "the heap from which it is seen");
+    assert_eq!(&rt; found.period, 349, "the period");
+    assert_eq!(&rt; found.start, 3_479, "the heap from which it is seen");
 }

@@ -37,6 +37,7 @@ impl<A: Allocator + Copy> Window<A> {
 
     /// Adds the next value, by sets where there are some that tell it, else by a table of marks, and says whether the window
     /// tells it: else nothing changes. The sets go on with it, or are given up at a value that is too great for them. Takes no memory.
+    #[inline(always)]
     pub(crate) fn push_by(&mut self, sets: &mut Option<Sets<A>>, marks: &mut [bool]) -> bool
         requires shaped { IsShaped self.old }
         requires of { IfSome sets.old (AreSetsOf self.old) }
@@ -67,6 +68,7 @@ impl<A: Allocator + Copy> Window<A> {
     }
 
     // The next value, if the sets tell it.
+    #[inline(always)]
     fn next_by(&self, sets: &Option<Sets<A>>) -> Option<u16>
         requires shaped { IsShaped self.now }
         requires of { IfSome sets.now (AreSetsOf self.now) }
@@ -88,6 +90,7 @@ impl<A: Allocator + Copy> Window<A> {
     }
 
     // Goes on with the sets to the next heap, by the last value of the window.
+    #[inline(always)]
     fn follow(&self, sets: &mut Option<Sets<A>>)
         requires shaped { IsShaped self.now }
         requires limited { self.now.count ≤ FARTHEST }
@@ -104,6 +107,7 @@ impl<A: Allocator + Copy> Window<A> {
 }
 
 // Where there are sets, each value has to be below this number.
+#[inline(always)]
 fn limit_of<A: Allocator + Copy>(sets: &Option<Sets<A>>) -> usize
     ensures { IfSome sets.now (λ s. result ≡ limit_of s) }
 {

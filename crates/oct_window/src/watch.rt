@@ -82,6 +82,7 @@ impl<A: Allocator + Copy> Watch<A> {
     }
 
     // A step by sets, where there are some, or else by a table of marks. Of the marked values that at the place `look` is compared first.
+    #[inline(always)]
     fn step_by(
         &mut self,
         alloc: A,
@@ -156,6 +157,7 @@ impl<A: Allocator + Copy> Watch<A> {
     }
 
     // Marks the last values anew where the window has gone as far again.
+    #[inline(always)]
     fn mark_if_due(&mut self, alloc: A) -> Result<(), AllocError>
         requires { IsWatchable self.old }
         ensures watchable { IsWatchable self.new }
@@ -173,6 +175,7 @@ impl<A: Allocator + Copy> Watch<A> {
     }
 
     // Adds the next value, and says whether the marked values come again with it.
+    #[inline(always)]
     fn push_next(
         &mut self,
         sets: &mut Option<Sets<A>>,

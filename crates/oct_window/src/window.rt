@@ -99,6 +99,7 @@ impl<A: Allocator + Copy> Window<A> {
     }
 
     /// A copy of the last values, as many as tell the next one.
+    #[inline(never)]
     pub(crate) fn copy_last(&self, alloc: A) -> Result<Vec<u16, A>, AllocError>
         requires { IsShaped self.now }
         ensures len { IfOk result (λ last. vec_len last ≡ window self.now.code self.now.reach) }
@@ -109,6 +110,7 @@ impl<A: Allocator + Copy> Window<A> {
 
     /// Whether the last values are these. That at the place `look` is compared first, and where it is the same, another one the
     /// next time: mostly a seldom value comes to be the first, and no more is compared.
+    #[inline(always)]
     pub(crate) fn ends_with(&self, values: &[u16], look: &mut usize) -> bool
         requires shaped { IsShaped self.now }
         requires size { length values.now ≡ window self.now.code self.now.reach }
@@ -123,6 +125,7 @@ impl<A: Allocator + Copy> Window<A> {
     }
 
     /// Adds the next value, by a table of marks, and says whether the window tells it: else nothing changes. Takes no memory.
+    #[inline(never)]
     pub fn push_next(&mut self, marks: &mut [bool]) -> bool
         requires shaped { IsShaped self.old }
         requires limited { self.old.count < FARTHEST }
@@ -169,6 +172,7 @@ impl<A: Allocator + Copy> Window<A> {
     }
 
     // Makes room for a value where there is none: those between the small heaps and the last ones are forgotten.
+    #[inline(always)]
     pub(crate) fn make_room(&mut self)
         requires { IsShaped self.old }
         ensures shaped { IsShaped self.new }
@@ -184,6 +188,7 @@ impl<A: Allocator + Copy> Window<A> {
     }
 
     /// Forgets the values between those of the small heaps and the last ones.
+    #[inline(never)]
     pub(crate) fn forget(&mut self)
         requires { IsShaped self.old }
         ensures shaped { IsShaped self.new }
@@ -198,6 +203,7 @@ impl<A: Allocator + Copy> Window<A> {
     }
 
     // Adds the next value, for which there is room.
+    #[inline(always)]
     pub(crate) fn push(&mut self, cell: u16)
         requires shaped { IsShaped self.old }
         requires limited { self.old.count < FARTHEST }

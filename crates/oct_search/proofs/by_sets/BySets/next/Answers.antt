@@ -1,4 +1,4 @@
-use Rattle.std.proofs.Common.{◌≡◌, ◌^◌, ◌<◌, ◌≤◌, false, ap, refl, sym, ◌∙◌, subst, subst₂, arith, map, vec_len}
+use Rattle.std.proofs.Common.{◌≡◌, ◌^◌, ◌<◌, ◌≤◌, false, ap, sym, ◌∙◌, subst, subst₂, arith, map, vec_len}
 use Rattle.oct_mex.specs.NimValues.{nim_value}
 use Rattle.oct_mex.specs.Rare.{is_rare}
 use Rattle.oct_mex.specs.Windows.{IsSettled, window}
@@ -19,7 +19,7 @@ settle-requires-clause-shaped g c =
     subst (λ width. IsShaped (reach_of c.args.self.now.sets) width c.args.self.now.sets) (sym (c.last_values-last.ensures.len ∙ ap (window c.args.code.now) c.reach.ensures)) c.requires.right.shaped
 
 pub settle-requires-clause-low : goal.settle-requires-clause-low
-settle-requires-clause-low g c = c.last_values-last.ensures.low (limit_of c.args.self.now.sets) (omega (arith, c.if-row-limit.false, c.limit.ensures))
+settle-requires-clause-low g c = c.last_values-last.ensures.low (limit_of c.args.self.now.sets) c.requires.wide
 
 pub returns-then-value-row-clause-value : goal.returns-then-value-row-clause-value
 returns-then-value-row-clause-value g c =
@@ -28,7 +28,7 @@ returns-then-value-row-clause-value g c =
     let by = c.args.self.now in
     let are = c.requires.right in
     let heap = are.heap in
-    let last = subst (λ n. AreLast code n (map g.T.Cell.number c.last_values-last.result.now)) (sym heap) c.last_values-last.ensures.last in
+    let last = subst (λ n. AreLast code n (map g.T.Cell.number c.last_values-last.result.now)) (c.len.ensures ∙ sym heap) c.last_values-last.ensures.last in
     let parted = subst (IsParted code by.mask are.heaps (reach_of by.sets)) (sym heap) are.parted in
     let value : c.in_ok-value.value ≡ nim_value code (vec_len row.values) =
     c.in_ok-value.ensures.value code are.heaps (reach_of by.sets) are.right last parted ∙ ap (nim_value code) heap in
@@ -42,12 +42,12 @@ returns-then-value-row-clause-common g c =
     let by = c.args.self.now in
     let are = c.requires.right in
     let heap = are.heap in
-    let last = subst (λ n. AreLast code n (map g.T.Cell.number c.last_values-last.result.now)) (sym heap) c.last_values-last.ensures.last in
+    let last = subst (λ n. AreLast code n (map g.T.Cell.number c.last_values-last.result.now)) (c.len.ensures ∙ sym heap) c.last_values-last.ensures.last in
     let parted = subst (IsParted code by.mask are.heaps (reach_of by.sets)) (sym heap) are.parted in
     let n = vec_len row.values in
     let value : c.in_ok-value.value ≡ nim_value code n = c.in_ok-value.ensures.value code are.heaps (reach_of by.sets) are.right last parted ∙ ap (nim_value code) heap in
     let settled = subst (IsSettled code by.mask (reach_of by.sets)) heap (c.in_ok-value.ensures.settled code are.heaps (reach_of by.sets) are.right last parted) in
-    let same = c.if-not-is_same.ensures refl in
+    let same = c.requires.same in
     if_held g.T.Cell.number c.from_number.result c.in_ok-value.value (g.T.Cell.bound ≤ c.in_ok-value.value) (λ cell. is_rare row.rare.mask n (g.T.Cell.number cell) ≡ false) (λ cell. c.in_ok-value.value < 2 ^ 32)
     c.from_number.ensures (λ cell is. subst₂ (λ mask v. is_rare mask n v ≡ false) (sym same) (sym (is ∙ value)) settled.common)
 
@@ -58,7 +58,7 @@ returns-then-value-row-clause-settled g c =
     let by = c.args.self.now in
     let are = c.requires.right in
     let heap = are.heap in
-    let last = subst (λ n. AreLast code n (map g.T.Cell.number c.last_values-last.result.now)) (sym heap) c.last_values-last.ensures.last in
+    let last = subst (λ n. AreLast code n (map g.T.Cell.number c.last_values-last.result.now)) (c.len.ensures ∙ sym heap) c.last_values-last.ensures.last in
     let parted = subst (IsParted code by.mask are.heaps (reach_of by.sets)) (sym heap) are.parted in
     let n = vec_len row.values in
     let settled = subst (IsSettled code by.mask (reach_of by.sets)) heap (c.in_ok-value.ensures.settled code are.heaps (reach_of by.sets) are.right last parted) in
@@ -69,8 +69,3 @@ pub returns-then-value-row-clause-within : goal.returns-then-value-row-clause-wi
 returns-then-value-row-clause-within g c =
     if_held g.T.Cell.number c.from_number.result c.in_ok-value.value (g.T.Cell.bound ≤ c.in_ok-value.value) (λ cell. g.T.Cell.number cell < c.args.row.now.used) (λ cell. c.in_ok-value.value < 2 ^ 32)
     c.from_number.ensures (λ cell is. omega (arith, is, c.if-value-row.true))
-
-pub returns-then-value-row-clause-few : goal.returns-then-value-row-clause-few
-returns-then-value-row-clause-few g c =
-    if_held g.T.Cell.number c.from_number.result c.in_ok-value.value (g.T.Cell.bound ≤ c.in_ok-value.value) (λ cell. c.args.row.now.used ≤ limit_of c.args.self.now.sets) (λ cell. c.in_ok-value.value < 2 ^ 32)
-    c.from_number.ensures (λ cell is. omega (arith, c.if-row-limit.false, c.limit.ensures))

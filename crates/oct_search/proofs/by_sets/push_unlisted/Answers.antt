@@ -6,7 +6,7 @@ use Rattle.oct_mex.proofs.Marking.{table_stays}
 use Rattle.oct_mex.proofs.NimValues.{nim_values-length}
 use Rattle.oct_mex.proofs.Pushed.{numbers_push, values_push}
 use Rattle.oct_search.proofs.BySets.{lists_more}
-use Rattle.oct_search.proofs.by_sets.push_common.Goals as goal
+use Rattle.oct_search.proofs.by_sets.push_unlisted.Goals as goal
 
 pub returns-clause-row : goal.returns-clause-row
 returns-clause-row g c code kept is within not_rare =
