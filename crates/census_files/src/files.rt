@@ -92,7 +92,7 @@ pub(crate) fn no_file(alloc: Global, path: &str, there: &Metadata) -> Failure {
 /// What is said of a path where no plain file stands.
 pub(crate) fn no_file_text(alloc: Global, path: &str) -> Result<String, AllocError> {
     let path = shown(alloc, path)?;
-    format!(in alloc; "{path}: it is a pipe, a link or a device, and no plain file")
+    format!(in alloc; "{path}: it is a folder, a pipe, a link or a device, and no plain file")
 }
 
 // Whether the path names a stream that the program was started with.

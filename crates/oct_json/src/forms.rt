@@ -16,8 +16,8 @@ use oct_sheet::Remarks;
 use serde_json::Value;
 use std::alloc::{AllocError, Global};
 
-/// Appends what views show of one game with this least period, and with what these remarks say of it, as one JSON object, without spaces. The one error is that memory is
-/// refused, and then `out` stays as it is.
+/// Appends what views show of one game with this least period, and with what these remarks say of it, as one JSON object, without
+/// spaces. The one error is that memory is refused, and then `out` stays as it is.
 pub fn write_game_json(
     alloc: Global,
     game: &GameSheet<'_, Global>,

@@ -31,7 +31,8 @@ use std::alloc::{AllocError, Allocator};
 /// Appends what is told of those games of these codes for which each of the conditions holds, as `specs/Overview` spells it. Behind
 /// what is refuted stands whether it is withdrawn, and the name of the author; behind the line of a game, or in its object, stand the
 /// long periods that somebody says of it. Each game is built in its turn, of which `progress` is told before, and let go before the
-/// next; one of which nothing was said is told of too, if the conditions hold. The one error is that memory is refused, and then `out` stays as it is.
+/// next; one of which nothing was said is told of too, if the conditions hold. The one error is that memory is refused, and then `out`
+/// stays as it is.
 pub fn write_overview<P: GameProgress, A: Allocator + Copy>(
     said: &Record<A>,
     codes: &[Code],
