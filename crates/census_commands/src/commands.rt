@@ -5,17 +5,17 @@
 //! request to a state.
 
 use crate::endpoint::Meeting;
-use crate::position::{self, Position};
+use crate::position::Position;
 use crate::readers::Readers;
+use crate::watched;
 use census_core::{Fault, Form, Wanted};
-use census_failure::{Advice, Failure};
+use census_failure::Failure;
 use census_files::Out;
 use census_net::{Endpoint, Limits};
-use census_progress::ProgressLine;
 use census_requests::System;
-use census_requests::ask::{self, Ask};
-use census_requests::change::{self, Change};
-use census_requests::viewing::{self, Viewed};
+use census_requests::ask::Ask;
+use census_requests::change::Change;
+use census_requests::viewing::Viewed;
 use census_words::{Chapter, CommandRow, Shell};
 use clap::ArgMatches;
 use oct_code::Code;
@@ -264,86 +264,65 @@ where
 {
     let audience = readers.audience;
     match task {
-        Task::Fold => fold::run(rt.alloc(), input, output, errors)?,
-        Task::Read { files } => {
-            let mut progress = ProgressLine::new(rt, errors, audience.beside_output());
-            read::run(rt, files, output, &mut progress)?;
-        }
-        Task::View(viewed) => {
-            let mut progress = ProgressLine::new(rt, errors, audience.beside_output());
-            viewing::run(rt, viewed, output, &mut progress)?;
-        }
-        Task::Log { files, wanted } => log::run(rt, files, wanted, output)?,
-        Task::Diff(asked) => return diff::run(rt, asked, input, output),
-        Task::Left(asked) => left::run(rt, asked, input, output)?,
-        Task::Status { state, is_full } => status::run(rt, state, *is_full, output)?,
-        Task::Search(asked) => {
-            let mut progress = ProgressLine::new(rt, errors, audience);
-            search::run(rt, asked, output, &mut progress)?;
-        }
-        Task::Recheck(asked) => {
-            let mut progress = ProgressLine::new(rt, errors, audience);
-            return recheck::run(rt, asked, output, &mut progress);
-        }
+        Task::Fold => status_of(fold::run(rt.alloc(), input, output, errors)),
+        Task::Read { files } => status_of(watched::read(rt, files, output, errors, audience)),
+        Task::View(viewed) => status_of(watched::view(rt, viewed, output, errors, audience)),
+        Task::Log { files, wanted } => status_of(log::run(rt, files, wanted, output)),
+        Task::Diff(asked) => diff::run(rt, asked, input, output),
+        Task::Left(asked) => status_of(left::run(rt, asked, input, output)),
+        Task::Status { state, is_full } => status_of(status::run(rt, state, *is_full, output)),
+        Task::Search(asked) => status_of(watched::search(rt, asked, output, errors, audience)),
+        Task::Recheck(asked) => watched::recheck(rt, asked, output, errors, audience),
         Task::List { count, code } => {
-            let mut progress = ProgressLine::new(rt, errors, audience);
-            search::list(rt, *code, *count, output, &mut progress)?;
+            status_of(watched::list(rt, *code, *count, output, errors, audience))
         }
         Task::Check { code, file } => {
-            let mut advice = Advice::new(errors, audience);
-            return check::run(rt, code, file, input, output, &mut advice);
+            watched::check(rt, code, file, input, output, errors, audience)
         }
-        Task::Manual => manual::run(rt.alloc(), output)?,
-        Task::Completion { shell } => completion::run(rt.alloc(), *shell, output)?,
-        Task::Explain { words } => explain::run(rt.alloc(), words, output)?,
-        Task::Init { state, id } => init::run(rt, state, *id, output)?,
-        Task::Change(change) => {
-            let mut progress = ProgressLine::new(rt, errors, audience);
-            change::run(rt, change, input, output, &mut progress)?;
+        Task::Manual => status_of(manual::run(rt.alloc(), output)),
+        Task::Completion { shell } => status_of(completion::run(rt.alloc(), *shell, output)),
+        Task::Explain { words } => status_of(explain::run(rt.alloc(), words, output)),
+        Task::Init { state, id } => status_of(init::run(rt, state, *id, output)),
+        Task::Change(asked) => {
+            status_of(watched::change(rt, asked, input, output, errors, audience))
         }
-        Task::Ask(ask) => ask::run(rt, ask, output, &mut Advice::new(errors, audience))?,
-        Task::Position(asked) => {
-            let mut progress = ProgressLine::new(rt, errors, audience);
-            position::run(rt, asked, output, &mut progress)?;
-        }
-        Task::Draw(asked) => plot::run(rt, asked, output)?,
-        Task::Games(asked) => {
-            let mut progress = ProgressLine::new(rt, errors, audience.beside_output());
-            games::run(rt, asked, readers, output, &mut progress)?;
-        }
+        Task::Ask(asked) => status_of(watched::ask(rt, asked, output, errors, audience)),
+        Task::Position(asked) => status_of(watched::position(rt, asked, output, errors, audience)),
+        Task::Draw(asked) => status_of(plot::run(rt, asked, output)),
+        Task::Games(asked) => status_of(watched::games(rt, asked, output, errors, readers)),
         Task::Union { out, deltas } => {
-            let mut progress = ProgressLine::new(rt, errors, audience);
-            union::run(rt, *out, deltas, input, output, &mut progress)?;
+            status_of(watched::union(rt, *out, deltas, input, output, errors, audience))
         }
-        Task::Site(asked) => {
-            let mut progress = ProgressLine::new(rt, errors, audience);
-            return site::run(rt, asked, &mut progress);
-        }
+        Task::Site(asked) => watched::site(rt, asked, errors, audience),
         Task::Sqlite { state, out } => {
-            let mut advice = Advice::new(errors, audience);
-            sqlite::run(rt, state, *out, output, &mut advice)?;
+            status_of(watched::sqlite(rt, state, *out, output, errors, audience))
         }
         Task::Digest { files, form } => {
-            let mut progress = ProgressLine::new(rt, errors, audience.beside_output());
-            digest::run(rt, files, *form, output, &mut progress)?;
+            status_of(watched::digest(rt, files, *form, output, errors, audience))
         }
         Task::Serve { meeting, is_quiet } => {
-            let mut advice = Advice::new(errors, audience);
-            serve::run(rt, *meeting, *is_quiet, input, output, &mut advice)?;
+            let is_quiet = *is_quiet;
+            status_of(watched::serve(rt, *meeting, is_quiet, input, output, errors, audience))
         }
         Task::Sync {
             meeting,
             role,
             is_quiet,
         } => {
-            let mut advice = Advice::new(errors, audience);
-            let role = *role;
-            sync::run(rt, *meeting, role, *is_quiet, input, output, &mut advice)?;
+            let (role, is_quiet) = (*role, *is_quiet);
+            status_of(watched::sync(
+                rt, *meeting, role, is_quiet, input, output, errors, audience,
+            ))
         }
         Task::Hub { endpoint, limits } => {
-            census_net::hub(rt, *endpoint, *limits, output, errors)?;
+            status_of(census_net::hub(rt, *endpoint, *limits, output, errors))
         }
     }
+}
+
+// The exit status of what is done and right.
+fn status_of(done: Result<(), Failure>) -> Result<u8, Failure> {
+    done?;
     Ok(0)
 }
 

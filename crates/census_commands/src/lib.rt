@@ -5,6 +5,7 @@
 //!
 //! - `task_of` reads the task of a command from its words, and `done` does it, for its `Readers`.
 //! - `chapters` are the rows of all commands, as the help has them, and `is_unwatched` says which of them nobody watches.
+//! - `watched` does what is done beside a line that says how far it is, or beside advice.
 //! - `endpoint` reads the address of a peer. `position` answers what is asked of a position, by a search where the state does not
 //!   tell.
 //!
@@ -17,6 +18,7 @@ mod commands;
 mod endpoint;
 mod position;
 mod readers;
+mod watched;
 
 pub use commands::{Task, chapters, done, is_unwatched, task_of};
 pub use readers::Readers;

@@ -215,28 +215,69 @@ where
     let undone = undone_of(rt.alloc(), change, &bytes, output)?;
     let request = undone.as_ref().unwrap_or(&change.request);
     progress.give_turns(turns_in(request));
-    let mut saver = TurnSaver::new(rt, file, bytes.len(), output);
-    let reply = match perform_kept(rt.alloc(), request, &bytes, &read, progress, &mut saver) {
-        Ok(reply) => reply,
-        Err(fault) => {
-            let (state, read) = (Given::new(change.state, &bytes), Given::new(name, &read));
-            return Err(match saver.into_failure() {
-                Some(failure) => failure,
-                None => of_change(rt.alloc(), fault, request, state, read),
-            });
-        }
-    };
-    if let Some(text) = &reply.state {
-        file.replace_telling(rt, text, progress.advice())?;
-        if let Request::Merge = request {
-            warn_of_taken(rt.alloc(), &bytes, text, progress.advice());
-        }
-    }
+    let (state, given) = (Given::new(change.state, &bytes), Given::new(name, &read));
+    let (reply, printed) = replied(rt, file, request, state, given, output, progress)?;
+    replace(rt, file, request, &bytes, &reply, progress)?;
     Ok(Performed {
         before: bytes,
         reply,
-        printed: saver.printed(),
+        printed,
     })
+}
+
+// What a request makes of a state and of what is read beside it, and how many bytes of its text are printed already.
+fn replied<R, O, E>(
+    rt: &R,
+    file: &StateFile,
+    request: &Request,
+    state: Given<'_>,
+    read: Given<'_>,
+    output: &mut O,
+    progress: &mut ProgressLine<'_, R, E>,
+) -> Result<(Reply, usize), Failure>
+where
+    R: System,
+    O: Write,
+    E: Write,
+{
+    let mut saver = TurnSaver::new(rt, file, state.bytes.len(), output);
+    match perform_kept(
+        rt.alloc(),
+        request,
+        state.bytes,
+        read.bytes,
+        progress,
+        &mut saver,
+    ) {
+        Ok(reply) => Ok((reply, saver.printed())),
+        Err(fault) => Err(match saver.into_failure() {
+            Some(failure) => failure,
+            None => of_change(rt.alloc(), fault, request, state, read),
+        }),
+    }
+}
+
+// Replaces a state by what a reply says, and warns of what a delta brought.
+fn replace<R, E>(
+    rt: &R,
+    file: &StateFile,
+    request: &Request,
+    before: &[u8],
+    reply: &Reply,
+    progress: &mut ProgressLine<'_, R, E>,
+) -> Result<(), Failure>
+where
+    R: System,
+    E: Write,
+{
+    let Some(text) = &reply.state else {
+        return Ok(());
+    };
+    file.replace_telling(rt, text, progress.advice())?;
+    if let Request::Merge = request {
+        warn_of_taken(rt.alloc(), before, text, progress.advice());
+    }
+    Ok(())
 }
 
 // How many games have their turns where the request is done.

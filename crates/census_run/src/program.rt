@@ -84,16 +84,35 @@ where
                 audience,
                 ..readers
             };
-            let (mut input, mut output) = (Noted::new(input), Noted::new(output));
-            match attempted(rt, &matches, &mut input, &mut output, errors, readers) {
-                Ok(status) => status,
-                Err(failure) => {
-                    let failure = of_streams(alloc, failure, input.error(), output.error());
-                    report(alloc, errors, audience, &failure)
-                }
-            }
+            answered(rt, &matches, input, output, errors, readers)
         }
         Err(error) => show(alloc, &error, output, errors),
+    }
+}
+
+// Does what the matches of a command line ask for, tells its readers of a failure, and gives the exit status.
+fn answered<R, I, O, E>(
+    rt: &R,
+    matches: &ArgMatches<'_>,
+    input: &mut I,
+    output: &mut O,
+    errors: &mut E,
+    readers: Readers,
+) -> u8
+where
+    R: System + RandomSource,
+    I: Read,
+    O: Write,
+    E: Write,
+{
+    let (mut input, mut output) = (Noted::new(input), Noted::new(output));
+    match attempted(rt, matches, &mut input, &mut output, errors, readers) {
+        Ok(status) => status,
+        Err(failure) => {
+            let alloc = rt.alloc();
+            let failure = of_streams(alloc, failure, input.error(), output.error());
+            report(alloc, errors, readers.audience, &failure)
+        }
     }
 }
 
