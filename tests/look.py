@@ -142,9 +142,11 @@ def faults(page):
     for code, count, fault in (("0.8", "10", "Code Digit"), ("<b>x</b>", "10", "Code Form"), ("0.77", "0", "Number"), ("0.77", "many", "Number")):
         told = page.ask("game-form", "period", code=code, count=count)
         need(told.endswith(f"({fault})"), f"{code} {count}: {told}")
+        need(page.shown("period"), f"{code} {count}: the fault is not shown")
         need(not page.shown("game-answer"), "an answer stays beside a fault")
     told = page.ask("position-form", "winner", code="0.77", count="200", heaps="5 <i>six</i>")
     need("“<i>six</i>” is none" in told, told)
+    need(page.shown("winner"), "the fault of a heap is not shown")
     told = page.ask("position-form", "winner", code="0.6", count="100", heaps="5 100")
     need("heap of 100 is not known: 100 values prove no period" in told, told)
 
