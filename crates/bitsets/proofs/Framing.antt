@@ -1,44 +1,61 @@
 -- Sets whose numbers are turned by the bits of a number.
-use Rattle.std.proofs.Common.{List, Bool, true, slice_index, ◌≡◌, ℕ, ◌+◌, ◌-◌, ◌/◌, ◌%◌, ◌^◌, ◌<◌, ◌≤◌, ◌⊎◌, ◌↔◌, ◌&&◌, ◌||◌, nat_eq, inl, inr, arith, bit_xor, subst, sym, ◌∙◌, refl, ap}
+use Rattle.std.proofs.Common.{List, Bool, true, slice_index, ◌≡◌, ℕ, ◌+◌, ◌-◌, ◌*◌, ◌/◌, ◌%◌, ◌^◌, ◌<◌, ◌≤◌, ◌⊎◌, ◌↔◌, ◌&&◌, ◌||◌, nat_eq, inl, inr, arith, bit_xor, subst, sym, ◌∙◌, refl, ap}
 use Rattle.std.proofs.lemmas.Bool.{cases_eq, eqb-true}
 use Rattle.std.proofs.lemmas.Nat.{xor_comm, xor_lt}
+use Rattle.std.proofs.Math.Nat.{div-eq_of_lt}
 use Rattle.std.proofs.Math.Pow.{pow-lt, pow_mono}
 use Rattle.std.specs.Int.Bits.{xor_assoc, xor_self, xor_zero_r}
 use Rattle.bitsets.specs.Sets.{AddsSmall, Has, IsMadeBehind}
 use Rattle.bitsets.proofs.Turned.{all_below, and_both, at_below, or_cases}
 
+-- the number, without its first k bits
+abbrev pub above : ℕ → ℕ → ℕ
+above k x = x / 2 ^ k * 2 ^ k
+
+pub above_none : (k x : ℕ) → x < 2 ^ k → above k x ≡ 0
+above_none k x small = ap (λ q. q * 2 ^ k) (div-eq_of_lt small) ∙ omega arith
+
+pub above_all : (x : ℕ) → above 0 x ≡ x
+above_all x = omega arith
+
 abbrev is_next : ℕ → ℕ → Bool
 is_next k x =
-    (nat_eq (x / 2 ^ k % 2) 1 && nat_eq (x % 2 ^ (k + 1)) (bit_xor (x % 2 ^ k) (2 ^ k)))
-    || (nat_eq (x / 2 ^ k % 2) 0 && nat_eq (x % 2 ^ (k + 1)) (x % 2 ^ k))
+    (nat_eq (x / 2 ^ k % 2) 1 && nat_eq (above k x) (bit_xor (above (k + 1) x) (2 ^ k)))
+    || (nat_eq (x / 2 ^ k % 2) 0 && nat_eq (above k x) (above (k + 1) x))
 
 all_next : all_below (λ k. all_below (is_next k) 64) 6 ≡ true
 all_next = refl
 
 -- one more bit of a number
-pub next_bit : (x k : ℕ) → x < 64 → k < 6 → ((x / 2 ^ k % 2 ≡ 1) × (x % 2 ^ (k + 1) ≡ bit_xor (x % 2 ^ k) (2 ^ k))) ⊎ ((x / 2 ^ k % 2 ≡ 0) × (x % 2 ^ (k + 1) ≡ x % 2 ^ k))
+pub next_bit : (x k : ℕ) → x < 64 → k < 6 → ((x / 2 ^ k % 2 ≡ 1) × (above k x ≡ bit_xor (above (k + 1) x) (2 ^ k))) ⊎ ((x / 2 ^ k % 2 ≡ 0) × (above k x ≡ above (k + 1) x))
 next_bit x k small few =
     let is : is_next k x ≡ true = at_below (is_next k) 64 (at_below (λ j. all_below (is_next j) 64) 6 all_next k few) x small in
     let one = nat_eq (x / 2 ^ k % 2) 1 in
-    let one_is = nat_eq (x % 2 ^ (k + 1)) (bit_xor (x % 2 ^ k) (2 ^ k)) in
+    let one_is = nat_eq (above k x) (bit_xor (above (k + 1) x) (2 ^ k)) in
     let none = nat_eq (x / 2 ^ k % 2) 0 in
-    let none_is = nat_eq (x % 2 ^ (k + 1)) (x % 2 ^ k) in
+    let none_is = nat_eq (above k x) (above (k + 1) x) in
     elim (or_cases (one && one_is) (none && none_is) is) [
-      | inl e ↦ let b = and_both one one_is e in inl (eqb-true (x / 2 ^ k % 2) 1 b.0, eqb-true (x % 2 ^ (k + 1)) (bit_xor (x % 2 ^ k) (2 ^ k)) b.1)
-      | inr e ↦ let b = and_both none none_is e in inr (eqb-true (x / 2 ^ k % 2) 0 b.0, eqb-true (x % 2 ^ (k + 1)) (x % 2 ^ k) b.1)
+      | inl e ↦ let b = and_both one one_is e in inl (eqb-true (x / 2 ^ k % 2) 1 b.0, eqb-true (above k x) (bit_xor (above (k + 1) x) (2 ^ k)) b.1)
+      | inr e ↦ let b = and_both none none_is e in inr (eqb-true (x / 2 ^ k % 2) 0 b.0, eqb-true (above k x) (above (k + 1) x) b.1)
     ]
 
 -- a number of few bits
 pub is_small : (d x : ℕ) → d ≤ 6 → x < 2 ^ d → x < 64
 is_small d x few small = let most : 2 ^ d ≤ 2 ^ 6 = pow_mono few in omega (arith, small, most)
 
--- a set that is turned by one more bit, where the number has it
-pub turned_more : (d old mid new x k v : ℕ) → k < d → v < 2 ^ d → x % 2 ^ (k + 1) ≡ bit_xor (x % 2 ^ k) (2 ^ k)
-    → ((u : ℕ) → u < 2 ^ d → Has mid u ↔ Has old (bit_xor u (x % 2 ^ k))) → Has new v ↔ Has mid (bit_xor v (2 ^ k)) → Has new v ↔ Has old (bit_xor v (x % 2 ^ (k + 1)))
-turned_more d old mid new x k v few small e inner outer =
+-- a set that is turned by no bit yet
+pub turned_none : (set v x : ℕ) → x ≡ 0 → Has set v ↔ Has set (bit_xor v x)
+turned_none set v x none =
+    let same : bit_xor v x ≡ v = ap (bit_xor v) none ∙ xor_zero_r v in
+    ((λ h. subst (Has set) (sym same) h), (λ h. subst (Has set) same h))
+
+-- a set that is turned by one more bit
+pub turned_more : (d old mid new x y k v : ℕ) → k < d → v < 2 ^ d → y ≡ bit_xor x (2 ^ k)
+    → ((u : ℕ) → u < 2 ^ d → Has mid u ↔ Has old (bit_xor u x)) → Has new v ↔ Has mid (bit_xor v (2 ^ k)) → Has new v ↔ Has old (bit_xor v y)
+turned_more d old mid new x y k v few small e inner outer =
     let u = bit_xor v (2 ^ k) in
     let in_mid = inner u (xor_lt d v (2 ^ k) small (pow-lt few)) in
-    let same : bit_xor u (x % 2 ^ k) ≡ bit_xor v (x % 2 ^ (k + 1)) = xor_assoc v (2 ^ k) (x % 2 ^ k) ∙ ap (bit_xor v) (xor_comm (2 ^ k) (x % 2 ^ k) ∙ sym e) in
+    let same : bit_xor u x ≡ bit_xor v y = xor_assoc v (2 ^ k) x ∙ ap (bit_xor v) (xor_comm (2 ^ k) x ∙ sym e) in
     ((λ h. subst (Has old) same (in_mid.0 (outer.0 h))), (λ h. outer.1 (in_mid.1 (subst (Has old) (sym same) h))))
 
 pub twice : (v f : ℕ) → bit_xor (bit_xor v f) f ≡ v

@@ -9,6 +9,9 @@ use crate::word::Word;
 // So many sets are made at a time, in an array: its length is known when the loops over it are compiled.
 const PART: usize = 64;
 
+// So many at a time of those that are left.
+const FEW: usize = 8;
+
 /// Adds to each set of a block, the first of which is that of the place `place`, what the steps make: the exclusive ors of each
 /// step's value and the numbers of the set that stands before it by the step's offset. Best with equal values side by side.
 pub fn unite_steps<W: Word>(
@@ -26,13 +29,20 @@ pub fn unite_steps<W: Word>(
     ensures len { length block.new ≡ length block.old }
     ensures adds { (i : ℕ) → i < length block.old → AddsSmall W.digits (slice_index (map W.number block.old) i) (slice_index (map W.number block.new) i) (IsMadeBehind (map W.number sets.now) (place + i) offsets.now values.now (length offsets.now)) }
 {
-    let mut part = [W::empty(); PART];
     let mut done = 0;
     while done + PART <= block.len() {
+        let mut part = [W::empty(); PART];
         part.copy_from_slice(&block[done..done + PART]);
         unite_part(&mut part, sets, place + done, offsets, values);
         block[done..done + PART].copy_from_slice(&part);
         done += PART;
+    }
+    while done + FEW <= block.len() {
+        let mut few = [W::empty(); FEW];
+        few.copy_from_slice(&block[done..done + FEW]);
+        unite_part(&mut few, sets, place + done, offsets, values);
+        block[done..done + FEW].copy_from_slice(&few);
+        done += FEW;
     }
     if done < block.len() {
         unite_part(&mut block[done..], sets, place + done, offsets, values);

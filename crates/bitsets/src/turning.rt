@@ -16,7 +16,9 @@ pub fn turn_by<W: Word>(sets: &mut [W], number: usize)
     if number == 0 {
         return;
     }
-    for bit in 0..W::digits() {
+    // The highest bit comes first: by it halves of a word change places, which compilers do word by word, and the others they
+    // turn in many words at once.
+    for bit in (0..W::digits()).rev() {
         if number >> bit & 1 == 1 {
             turn_all(sets, bit);
         }

@@ -177,6 +177,7 @@ impl<T: Cell, A: Allocator + Copy> Row<T, A> {
         ensures used { self.new.used ≡ self.old.used }
         ensures mask { self.new.rare.mask.bits ≡ 0 }
         ensures heaps { self.new.rare.heaps.items ≡ [] }
+        ensures beside { self.new.rare.values.items ≡ [] }
     {
         self.rare.give_up();
     }

@@ -1,12 +1,13 @@
 -- Lists of steps, as they grow.
-use Rattle.std.proofs.Common.{◌≡◌, ℕ, ◌+◌, ◌<◌, ◌≤◌, ◌⊎◌, ◌++◌, ◌∷◌, [], IsTrue, Result, Ok, Err, OnOk, List, length, slice_index, slice_index_or, inl, inr, refl, sym, subst, ap, ◌∙◌, arith, length-append}
+use Rattle.std.proofs.Common.{◌≡◌, ℕ, ◌+◌, ◌<◌, ◌≤◌, ◌⊎◌, ◌++◌, ◌∷◌, [], IsTrue, Result, Ok, Err, OnOk, List, length, slice_index, slice_index_or, inl, inr, refl, sym, subst, subst₂, ap, ◌∙◌, arith, length-append}
 use Rattle.std.proofs.lemmas.Bool.{cases_eq, cases_lt}
 use Rattle.std.proofs.lemmas.List.{get_or_default}
 use Rattle.std.specs.List.{Contains}
 use Rattle.oct_code.specs.Code.{Code, len, allows}
 use Rattle.oct_mex.proofs.NimValues.{get-before, get-end}
-use Rattle.oct_sets.specs.Plans.{AddsSteps, HasHeap, HasStep, HasStepIn, IsEndStep, IsFarStep, IsHeapStep, IsPairStep, IsShapedPlan, IsShapedSteps}
+use Rattle.oct_sets.specs.Plans.{AddsSteps, HasHeap, HasStep, HasStepIn, IsEndStep, IsStepOver, IsHeapStep, IsPairStep, IsShapedPlan, IsShapedSteps}
 use Rattle.oct_sets.specs.declared.plan.Plan.{Plan}
+use Rattle.oct_sets.specs.declared.plan.TheConstants.{BLOCK, LOW}
 use Rattle.oct_sets.specs.declared.sorted.SmallHeap.{SmallHeap}
 use Rattle.oct_sets.specs.declared.steps.Steps.{Steps}
 
@@ -63,40 +64,75 @@ steps_more limit low high o v old new shaped offsets values least most small = r
   small = each_push old.values.items new.values.items v (λ x. x < limit) values shaped.small small;
 }
 
+-- ---- one step more stands for all moves that leave the heap
+
+module _ {A : Type 0} (c : Code) (old new : Steps A) (o v : ℕ) (beside : length old.values.items ≡ length old.offsets.items)
+    (offsets : new.offsets.items ≡ old.offsets.items ++ o ∷ []) (values : new.values.items ≡ old.values.items ++ v ∷ []) where
+  over_kept : (d x : ℕ) → IsStepOver c old d x → IsStepOver c new d x
+  over_kept d x f = record { removed = f.removed; heap = f.heap; few = f.few; allowed = f.allowed; step = step_kept old new o v beside offsets values f.heap x f.step; offset = f.offset }
+
+  over_has : (d x : ℕ) → IsPairStep c o v (len c + 1) d x → IsStepOver c new d x
+  over_has d x is = record {
+    removed = is.removed;
+    heap = o;
+    few = omega (arith, is.few);
+    allowed = is.allowed;
+    step = subst (λ y. HasStepIn new o y) (sym is.is) (step_has old new o v beside offsets values);
+    offset = is.offset;
+  }
+
+  over_only : (d x : ℕ) → IsStepOver c new d x → IsStepOver c old d x ⊎ IsPairStep c o v (len c + 1) d x
+  over_only d x f = elim (step_only old new o v beside offsets values f.heap x f.step) [
+    | inl was ↦ inl (record { removed = f.removed; heap = f.heap; few = f.few; allowed = f.allowed; step = was; offset = f.offset })
+    | inr is ↦ inr (record { removed = f.removed; few = omega (arith, f.few); allowed = f.allowed; offset = omega (arith, f.offset, is.0); is = is.1 })
+  ]
+
 -- ---- a plan with one more step
 
 module _ {A : Type 0} (c : Code) (old new : Plan A) (o v : ℕ) where
-  pub adds_near : new.far ≡ old.far → length old.near.values.items ≡ length old.near.offsets.items
+  pub adds_near : new.far ≡ old.far → new.low ≡ old.low → length old.near.values.items ≡ length old.near.offsets.items
       → new.near.offsets.items ≡ old.near.offsets.items ++ o ∷ [] → new.near.values.items ≡ old.near.values.items ++ v ∷ [] → AddsSteps c old new (λ d x. (d ≡ o) × (x ≡ v))
-  adds_near far beside offsets values = record {
-    keeps = λ d x h. elim h [ inl f ↦ inl (subst (λ s. IsFarStep c s d x) (sym far) f) | inr n ↦ inr (step_kept old.near new.near o v beside offsets values d x n) ];
+  adds_near far low beside offsets values = record {
+    keeps = λ d x h. elim h [
+      | inl over ↦ inl (subst₂ (λ f l. IsStepOver c f d x ⊎ IsStepOver c l d x) (sym far) (sym low) over)
+      | inr n ↦ inr (step_kept old.near new.near o v beside offsets values d x n)
+    ];
     has = λ d x is. inr (subst (λ e. HasStepIn new.near e x) (sym is.0) (subst (λ y. HasStepIn new.near o y) (sym is.1) (step_has old.near new.near o v beside offsets values)));
     only = λ d x h. elim h [
-      | inl f ↦ inl (inl (subst (λ s. IsFarStep c s d x) far f))
+      | inl over ↦ inl (inl (subst₂ (λ f l. IsStepOver c f d x ⊎ IsStepOver c l d x) far low over))
       | inr n ↦ elim (step_only old.near new.near o v beside offsets values d x n) [ inl was ↦ inl (inr was) | inr is ↦ inr is ]
     ];
   }
 
-  -- one far step stands for all moves that leave the heap
-  pub adds_far : new.near ≡ old.near → length old.far.values.items ≡ length old.far.offsets.items
+  pub adds_far : new.low ≡ old.low → new.near ≡ old.near → length old.far.values.items ≡ length old.far.offsets.items
       → new.far.offsets.items ≡ old.far.offsets.items ++ o ∷ [] → new.far.values.items ≡ old.far.values.items ++ v ∷ [] → AddsSteps c old new (IsPairStep c o v (len c + 1))
-  adds_far near beside offsets values = record {
+  adds_far low near beside offsets values = record {
     keeps = λ d x h. elim h [
-      | inl f ↦ inl (record { removed = f.removed; heap = f.heap; few = f.few; allowed = f.allowed; step = step_kept old.far new.far o v beside offsets values f.heap x f.step; offset = f.offset })
+      | inl over ↦ inl (elim over [ inl f ↦ inl (over_kept c old.far new.far o v beside offsets values d x f) | inr l ↦ inr (subst (λ s. IsStepOver c s d x) (sym low) l) ])
       | inr n ↦ inr (subst (λ s. HasStepIn s d x) (sym near) n)
     ];
-    has = λ d x is. inl (record {
-      removed = is.removed;
-      heap = o;
-      few = omega (arith, is.few);
-      allowed = is.allowed;
-      step = subst (λ y. HasStepIn new.far o y) (sym is.is) (step_has old.far new.far o v beside offsets values);
-      offset = is.offset;
-    });
+    has = λ d x is. inl (inl (over_has c old.far new.far o v beside offsets values d x is));
     only = λ d x h. elim h [
-      | inl f ↦ elim (step_only old.far new.far o v beside offsets values f.heap x f.step) [
-        | inl was ↦ inl (inl (record { removed = f.removed; heap = f.heap; few = f.few; allowed = f.allowed; step = was; offset = f.offset }))
-        | inr is ↦ inr (record { removed = f.removed; few = omega (arith, f.few); allowed = f.allowed; offset = omega (arith, f.offset, is.0); is = is.1 })
+      | inl over ↦ elim over [
+        | inl f ↦ elim (over_only c old.far new.far o v beside offsets values d x f) [ inl was ↦ inl (inl (inl was)) | inr is ↦ inr is ]
+        | inr l ↦ inl (inl (inr (subst (λ s. IsStepOver c s d x) low l)))
+      ]
+      | inr n ↦ inl (inr (subst (λ s. HasStepIn s d x) near n))
+    ];
+  }
+
+  pub adds_low : new.far ≡ old.far → new.near ≡ old.near → length old.low.values.items ≡ length old.low.offsets.items
+      → new.low.offsets.items ≡ old.low.offsets.items ++ o ∷ [] → new.low.values.items ≡ old.low.values.items ++ v ∷ [] → AddsSteps c old new (IsPairStep c o v (len c + 1))
+  adds_low far near beside offsets values = record {
+    keeps = λ d x h. elim h [
+      | inl over ↦ inl (elim over [ inl f ↦ inl (subst (λ s. IsStepOver c s d x) (sym far) f) | inr l ↦ inr (over_kept c old.low new.low o v beside offsets values d x l) ])
+      | inr n ↦ inr (subst (λ s. HasStepIn s d x) (sym near) n)
+    ];
+    has = λ d x is. inl (inr (over_has c old.low new.low o v beside offsets values d x is));
+    only = λ d x h. elim h [
+      | inl over ↦ elim over [
+        | inl f ↦ inl (inl (inl (subst (λ s. IsStepOver c s d x) far f)))
+        | inr l ↦ elim (over_only c old.low new.low o v beside offsets values d x l) [ inl was ↦ inl (inl (inr was)) | inr is ↦ inr is ]
       ]
       | inr n ↦ inl (inr (subst (λ s. HasStepIn s d x) near n))
     ];
@@ -188,24 +224,24 @@ on_both (Err e) P Q R p q f = tt
 
 -- ---- an empty plan
 
-pub shaped_none : {A : Type 0} (p : Plan A) → p.far.offsets.items ≡ [] → p.far.values.items ≡ [] → p.near.offsets.items ≡ [] → p.near.values.items ≡ [] → (limit reach width : ℕ) → IsShapedPlan limit reach width p
-shaped_none p fo fv noffs nvals limit reach width = record {
-  far = record {
-    beside = ap length fv ∙ sym (ap length fo);
-    from = λ k low. absurd (omega (arith, low, ap length fo));
-    to = λ k low. absurd (omega (arith, low, ap length fo));
-    small = λ k low. absurd (omega (arith, low, ap length fv));
-  };
-  near = record {
-    beside = ap length nvals ∙ sym (ap length noffs);
-    from = λ k low. absurd (omega (arith, low, ap length noffs));
-    to = λ k low. absurd (omega (arith, low, ap length noffs));
-    small = λ k low. absurd (omega (arith, low, ap length nvals));
-  };
+steps_none : {A : Type 0} (s : Steps A) → s.offsets.items ≡ [] → s.values.items ≡ [] → (limit low high : ℕ) → IsShapedSteps limit low high s
+steps_none s offsets values limit low high = record {
+  beside = ap length values ∙ sym (ap length offsets);
+  from = λ k few. absurd (omega (arith, few, ap length offsets));
+  to = λ k few. absurd (omega (arith, few, ap length offsets));
+  small = λ k few. absurd (omega (arith, few, ap length values));
 }
 
-pub has_none : {A : Type 0} (c : Code) (p : Plan A) (d x : ℕ) → p.far.offsets.items ≡ [] → p.near.offsets.items ≡ [] → HasStep c p d x → ⊥
-has_none c p d x far near h = elim h [ inl f ↦ omega (arith, f.step.within, ap length far) | inr n ↦ omega (arith, n.within, ap length near) ]
+pub shaped_none : {A : Type 0} (p : Plan A) → p.far.offsets.items ≡ [] → p.far.values.items ≡ [] → p.low.offsets.items ≡ [] → p.low.values.items ≡ [] → p.near.offsets.items ≡ [] → p.near.values.items ≡ []
+    → (limit reach width : ℕ) → IsShapedPlan limit reach width p
+shaped_none p foffs fvals loffs lvals noffs nvals limit reach width =
+    record { far = steps_none p.far foffs fvals limit BLOCK reach; low = steps_none p.low loffs lvals limit LOW reach; near = steps_none p.near noffs nvals limit 1 width }
+
+pub has_none : {A : Type 0} (c : Code) (p : Plan A) (d x : ℕ) → p.far.offsets.items ≡ [] → p.low.offsets.items ≡ [] → p.near.offsets.items ≡ [] → HasStep c p d x → ⊥
+has_none c p d x far low near h = elim h [
+  | inl over ↦ elim over [ inl f ↦ omega (arith, f.step.within, ap length far) | inr l ↦ omega (arith, l.step.within, ap length low) ]
+  | inr n ↦ omega (arith, n.within, ap length near)
+]
 
 -- ---- from places to elements
 

@@ -13,7 +13,7 @@ use Rattle.oct_mex.proofs.Mex.{mex_unique}
 use Rattle.oct_mex.proofs.Moves.{heaps_left_grown, heaps_left_one, heaps_two, move_of, parts}
 use Rattle.oct_mex.proofs.NimValues.{nim_sequence}
 use Rattle.oct_mex.proofs.Windows.{common_pair}
-use Rattle.oct_sets.specs.Plans.{HasHeap, HasStep, HasStepIn, IsAmong, IsEndStep, IsFarStep, IsHeapStep, IsMade, IsMadeBy, IsNearSet, IsPairMade, IsParted, IsPlan, IsStep, IsUnion}
+use Rattle.oct_sets.specs.Plans.{HasHeap, HasStep, HasStepIn, IsAmong, IsEndStep, IsStepOver, IsHeapStep, IsMade, IsMadeBy, IsNearSet, IsPairMade, IsParted, IsPlan, IsStep, IsUnion}
 use Rattle.oct_sets.proofs.Words.{turned_back, turned_forth}
 use Rattle.oct_sets.specs.declared.plan.Plan.{Plan}
 use Rattle.oct_sets.specs.declared.sorted.SmallHeap.{SmallHeap}
@@ -35,23 +35,26 @@ module _ {A : Type 0} (c : Code) (heaps : List ℕ) (reach : ℕ) (p : Plan A) (
         near = inl s.near;
       }
 
+  near_over : (s : Steps A) → ((d x : ℕ) → IsStepOver c s d x → HasStep c p d x) → (v : ℕ) → IsPairMade c n s (length s.offsets.items) v → IsNear c (nim_value c) n heaps reach v
+  near_over s has v m =
+      let heap = slice_index s.offsets.items m.at in
+      let value = slice_index s.values.items m.at in
+      let r = m.split.removed in
+      let same : n - heap - r ≡ n - (r + heap) = omega arith in
+      near_by v (r + heap) value
+      (plan.steps (r + heap) value (has (r + heap) value (record {
+        removed = r;
+        heap = heap;
+        few = m.split.few;
+        allowed = m.split.allowed;
+        step = record { at = m.at; within = m.within; offset = refl; value = refl };
+        offset = refl;
+      })))
+      (turned_back v value (nim_value c (n - (r + heap))) (m.split.is ∙ ap (nim_value c) same))
+
   near_of : (v : ℕ) → IsMadeBy c n p v → IsNear c (nim_value c) n heaps reach v
   near_of v made = elim made [
-    | inl m ↦
-        let heap = slice_index p.far.offsets.items m.at in
-        let value = slice_index p.far.values.items m.at in
-        let r = m.split.removed in
-        let same : n - heap - r ≡ n - (r + heap) = omega arith in
-        near_by v (r + heap) value
-        (plan.steps (r + heap) value (inl (record {
-          removed = r;
-          heap = heap;
-          few = m.split.few;
-          allowed = m.split.allowed;
-          step = record { at = m.at; within = m.within; offset = refl; value = refl };
-          offset = refl;
-        })))
-        (turned_back v value (nim_value c (n - (r + heap))) (m.split.is ∙ ap (nim_value c) same))
+    | inl over ↦ elim over [ inl f ↦ near_over p.far (λ d x h. inl (inl h)) v f | inr l ↦ near_over p.low (λ d x h. inl (inr h)) v l ]
     | inr m ↦ near_by v (slice_index p.near.offsets.items m.at) (slice_index p.near.values.items m.at)
         (plan.steps (slice_index p.near.offsets.items m.at) (slice_index p.near.values.items m.at) (inr (record { at = m.at; within = m.within; offset = refl; value = refl }))) m.is
   ]
@@ -63,8 +66,8 @@ module _ {A : Type 0} (c : Code) (heaps : List ℕ) (reach : ℕ) (p : Plan A) (
     is = is ∙ ap₂ (λ y z. bit_xor y (nim_value c z)) (sym h.value) (sym rest ∙ ap (λ o. n - o) (sym h.offset));
   }
 
-  made_far : (s : Steps A) (v d x b : ℕ) → IsFarStep c s d x → n - d ≡ b → v ≡ bit_xor x (nim_value c b) → IsPairMade c n s (length s.offsets.items) v
-  made_far s v d x b f rest is =
+  made_over : (s : Steps A) (v d x b : ℕ) → IsStepOver c s d x → n - d ≡ b → v ≡ bit_xor x (nim_value c b) → IsPairMade c n s (length s.offsets.items) v
+  made_over s v d x b f rest is =
       let same : b ≡ n - slice_index s.offsets.items f.step.at - f.removed = omega (arith, f.step.offset, f.offset, rest) in
       record {
         at = f.step.at;
@@ -78,7 +81,10 @@ module _ {A : Type 0} (c : Code) (heaps : List ℕ) (reach : ℕ) (p : Plan A) (
       }
 
   made_by : (v d x b : ℕ) → HasStep c p d x → n - d ≡ b → v ≡ bit_xor x (nim_value c b) → IsMadeBy c n p v
-  made_by v d x b h rest is = elim h [ inl f ↦ inl (made_far p.far v d x b f rest is) | inr e ↦ inr (made_in p.near v d x b e rest is) ]
+  made_by v d x b h rest is = elim h [
+    | inl over ↦ inl (elim over [ inl f ↦ inl (made_over p.far v d x b f rest is) | inr l ↦ inr (made_over p.low v d x b l rest is) ])
+    | inr e ↦ inr (made_in p.near v d x b e rest is)
+  ]
 
   made_of : (v r : ℕ) → IsRareBy c (nim_value c) n heaps r v → IsMadeBy c n p v
   made_of v r (o, rare) =

@@ -8,12 +8,16 @@ use Rattle.std.proofs.lemmas.Nat.{xor_comm}
 use Rattle.std.proofs.lemmas.Nat.Bits.{bit_at-zero}
 use Rattle.std.specs.Int.Bits.{xor_assoc, xor_self, xor_zero_r}
 use Rattle.bitsets.specs.Sets.{Adds, AddsSmall, Has, IsMadeBehind}
-use Rattle.std.specs.List.{Contains}
+use Rattle.std.specs.List.{Contains, slice_range}
+use borrow.Rule.Slice.PartMut.{put_mid}
+use Rattle.bitsets.proofs.Words.{in_range, put_after, put_before, put_here}
 use Rattle.oct_code.specs.Code.{Code, allows, len}
 use Rattle.oct_mex.specs.NimValues.{nim_value}
 use Rattle.oct_mex.proofs.NimValues.{get-before, get-end}
-use Rattle.oct_sets.specs.Plans.{AreLast, AreSplits, IsMade, IsOneBefore, IsPairMade, IsSplitValue}
-use Rattle.oct_sets.specs.Sets.{ArePairs}
+use Rattle.oct_sets.specs.Plans.{AreLast, AreSplits, IsFarMade, IsLowMade, IsMade, IsOneBefore, IsPairMade, IsSplitValue}
+use Rattle.oct_sets.specs.Sets.{ArePairs, IsBlock}
+use Rattle.oct_sets.specs.declared.plan.Plan.{Plan}
+use Rattle.oct_sets.specs.declared.plan.TheConstants.{BLOCK, LOW}
 use Rattle.oct_sets.specs.declared.steps.Steps.{Steps}
 
 -- the turn of a turned number
@@ -49,22 +53,55 @@ module _ {A : Type 0} (digits : ℕ) (c : Code) (n : ℕ) (pairs : List ℕ) (s 
         }),
       )
 
-  block_pair : (i v old new : ℕ) → i < low → v < 2 ^ digits → old ≡ 0 → AddsSmall digits old new (IsMadeBehind pairs (length pairs + i) s.offsets.items s.values.items (length s.offsets.items))
-      → Has new v ↔ IsPairMade c (n + i) s (length s.offsets.items) v
-  block_pair i v old new within small none adds = (
-    (λ h. elim ((adds v small).0 h) [ inl was ↦ absurd (has_none v (subst (λ w. Has w v) none was)) | inr m ↦ (made_pair i v within).0 m ]),
-    (λ m. (adds v small).1 (inr ((made_pair i v within).1 m))),
+  pair_added : (i v old new : ℕ) → i < low → v < 2 ^ digits → AddsSmall digits old new (IsMadeBehind pairs (length pairs + i) s.offsets.items s.values.items (length s.offsets.items))
+      → Has new v ↔ (Has old v ⊎ IsPairMade c (n + i) s (length s.offsets.items) v)
+  pair_added i v old new within small adds = (
+    (λ h. elim ((adds v small).0 h) [ inl was ↦ inl was | inr m ↦ inr ((made_pair i v within).0 m) ]),
+    (λ h. (adds v small).1 (elim h [ inl was ↦ inl was | inr m ↦ inr ((made_pair i v within).1 m) ])),
   )
 
   -- the same, by slices of the lists
-  pub block_slices : (ws os vs : List ℕ) (place i v old new : ℕ) → ws ≡ pairs → os ≡ s.offsets.items → vs ≡ s.values.items → place ≡ length pairs → i < low → v < 2 ^ digits → old ≡ 0
-      → AddsSmall digits old new (IsMadeBehind ws (place + i) os vs (length os)) → Has new v ↔ IsPairMade c (n + i) s (length s.offsets.items) v
-  block_slices ws os vs place i v old new ew eo ev ep within small none adds =
-      block_pair i v old new within small none
+  pub slices_added : (ws os vs : List ℕ) (place i v old new : ℕ) → ws ≡ pairs → os ≡ s.offsets.items → vs ≡ s.values.items → place ≡ length pairs → i < low → v < 2 ^ digits
+      → AddsSmall digits old new (IsMadeBehind ws (place + i) os vs (length os)) → Has new v ↔ (Has old v ⊎ IsPairMade c (n + i) s (length s.offsets.items) v)
+  slices_added ws os vs place i v old new ew eo ev ep within small adds =
+      pair_added i v old new within small
       (subst (λ k. AddsSmall digits old new (IsMadeBehind pairs (k + i) s.offsets.items s.values.items (length s.offsets.items))) ep
       (subst (λ xs. AddsSmall digits old new (IsMadeBehind pairs (place + i) s.offsets.items xs (length s.offsets.items))) ev
       (subst (λ xs. AddsSmall digits old new (IsMadeBehind pairs (place + i) xs vs (length xs))) eo
       (subst (λ xs. AddsSmall digits old new (IsMadeBehind xs (place + i) os vs (length os))) ew adds))))
+
+-- what is added to no number
+pub added_to_none : (old new v : ℕ) (P : Type 0) → old ≡ 0 → Has new v ↔ (Has old v ⊎ P) → Has new v ↔ P
+added_to_none old new v P none adds = (
+  (λ h. elim (adds.0 h) [ inl was ↦ absurd (has_none v (subst (λ w. Has w v) none was)) | inr is ↦ is ]),
+  (λ is. adds.1 (inr is)),
+)
+
+-- low steps are added to one group more of a block
+pub group_more : {W A : Type 0} (number : W → ℕ) (digits : ℕ) (c : Code) (start ready : ℕ) (p : Plan A) (block part : List W) → ready + LOW ≤ length block → ready + LOW ≤ BLOCK → length part ≡ ready + LOW - ready
+    → ((i v : ℕ) → i < LOW → v < 2 ^ digits → Has (slice_index (map number part) i) v ↔ (Has (slice_index (map number (slice_range block ready (ready + LOW))) i) v ⊎ IsLowMade c (start + ready + i) p v))
+    → IsBlock digits c start p ready (map number block) → IsBlock digits c start p (ready + LOW) (map number (put_mid ready (ready + LOW - ready) block part))
+group_more number digits c start ready p block part low few full made was =
+    let wide = ready + LOW - ready in
+    let room : ready + wide ≤ length block = omega (arith, low) in
+    record {
+      first = λ i v within small. elim (cases_lt i ready) [
+        | inl less ↦ subst (λ w. Has w v ↔ (IsFarMade c (start + i) p v ⊎ IsLowMade c (start + i) p v)) (sym (put_before number block ready wide part room full i less)) (was.first i v less small)
+        | inr more ↦
+            let at = i - ready in
+            let far = was.others i v more (omega (arith, within, few)) small in
+            let same : ready + at ≡ i = omega (arith, more) in
+            let here : start + ready + at ≡ start + i = omega (arith, same) in
+            let old_is : slice_index (map number (slice_range block ready (ready + LOW))) at ≡ slice_index (map number block) i =
+            in_range number block ready (ready + LOW) at (omega (arith, more, within)) ∙ ap (slice_index (map number block)) same in
+            let told = subst (λ k. Has (slice_index (map number part) at) v ↔ (Has (slice_index (map number (slice_range block ready (ready + LOW))) at) v ⊎ IsLowMade c k p v)) here (made at v (omega (arith, more, within)) small) in
+            subst (λ w. Has w v ↔ (IsFarMade c (start + i) p v ⊎ IsLowMade c (start + i) p v)) (sym (put_here number block ready wide part room full i more (omega (arith, within, more)))) (
+              (λ h. elim (told.0 h) [ inl o ↦ inl (far.0 (subst (λ w. Has w v) old_is o)) | inr l ↦ inr l ]),
+              (λ h. told.1 (elim h [ inl f ↦ inl (subst (λ w. Has w v) (sym old_is) (far.1 f)) | inr l ↦ inr l ])),
+            )
+      ];
+      others = λ i v after within small. subst (λ w. Has w v ↔ IsFarMade c (start + i) p v) (sym (put_after number block ready wide part room full i (omega (arith, after)))) (was.others i v (omega (arith, after)) within small);
+    }
 
 -- ---- the word of a heap
 

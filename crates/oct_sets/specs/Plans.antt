@@ -9,7 +9,7 @@ use Rattle.oct_mex.specs.Rare.{is_rare, IsFit}
 use Rattle.oct_mex.specs.Windows.{IsNear}
 use Rattle.oct_mex.specs.declared.mask.Mask.{Mask}
 use Rattle.oct_sets.specs.declared.plan.Plan.{Plan}
-use Rattle.oct_sets.specs.declared.plan.TheConstants.{BLOCK}
+use Rattle.oct_sets.specs.declared.plan.TheConstants.{BLOCK, LOW}
 use Rattle.oct_sets.specs.declared.sorted.SmallHeap.{SmallHeap}
 use Rattle.oct_sets.specs.declared.steps.Steps.{Steps}
 
@@ -30,7 +30,7 @@ pub record IsShapedSteps {A : Type 0} (limit low high : ℕ) (s : Steps A) : Typ
   pub small : (k : ℕ) → k < length s.values.items → slice_index s.values.items k < limit
 
 -- a move over a small heap of a list: two heaps are left, one of them as large as an offset that stands beside x
-pub record IsFarStep {A : Type 0} (c : Code) (s : Steps A) (d x : ℕ) : Type 0 where
+pub record IsStepOver {A : Type 0} (c : Code) (s : Steps A) (d x : ℕ) : Type 0 where
   pub removed : ℕ
   pub heap : ℕ
   pub few : removed ≤ len c
@@ -40,11 +40,13 @@ pub record IsFarStep {A : Type 0} (c : Code) (s : Steps A) (d x : ℕ) : Type 0 
 
 -- the step is one of the plan
 abbrev pub HasStep : {A : Type 0} → Code → Plan A → ℕ → ℕ → Type 0
-HasStep c p d x = IsFarStep c p.far d x ⊎ HasStepIn p.near d x
+HasStep c p d x = (IsStepOver c p.far d x ⊎ IsStepOver c p.low d x) ⊎ HasStepIn p.near d x
 
--- no far heap is larger than `reach`, nor smaller than a block, no near offset larger than `width`, and each value below `limit`
+-- no far heap is larger than `reach`, nor smaller than a block, no low one larger than `reach`, nor smaller than a group, no near
+-- offset larger than `width`, and each value below `limit`
 pub record IsShapedPlan {A : Type 0} (limit reach width : ℕ) (p : Plan A) : Type 0 where
   pub far : IsShapedSteps limit BLOCK reach p.far
+  pub low : IsShapedSteps limit LOW reach p.low
   pub near : IsShapedSteps limit 1 width p.near
 
 -- the steps that P holds of are in the plan besides
@@ -136,9 +138,17 @@ pub record IsPairMade {A : Type 0} (c : Code) (n : ℕ) (s : Steps A) (end v : �
   pub within : at < end
   pub split : IsSplitValue c (n - slice_index s.offsets.items at) (bit_xor v (slice_index s.values.items at))
 
+-- v is what a far step of the plan makes
+abbrev pub IsFarMade : {A : Type 0} → Code → ℕ → Plan A → ℕ → Type 0
+IsFarMade c n p v = IsPairMade c n p.far (length p.far.offsets.items) v
+
+-- v is what a low step of the plan makes
+abbrev pub IsLowMade : {A : Type 0} → Code → ℕ → Plan A → ℕ → Type 0
+IsLowMade c n p v = IsPairMade c n p.low (length p.low.offsets.items) v
+
 -- v is what a step of the plan makes
 abbrev pub IsMadeBy : {A : Type 0} → Code → ℕ → Plan A → ℕ → Type 0
-IsMadeBy c n p v = IsPairMade c n p.far (length p.far.offsets.items) v ⊎ IsMade c n p.near (length p.near.offsets.items) v
+IsMadeBy c n p v = (IsFarMade c n p v ⊎ IsLowMade c n p v) ⊎ IsMade c n p.near (length p.near.offsets.items) v
 
 -- the set has what the plan makes below `limit`
 abbrev pub IsUnion : {A : Type 0} → ℕ → Code → ℕ → Plan A → ℕ → Type 0

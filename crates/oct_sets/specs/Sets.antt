@@ -1,11 +1,11 @@
 -- The sets of a block of heaps.
-use Rattle.std.specs.Prelude.{◌≡◌, ℕ, ◌+◌, ◌-◌, ◌*◌, ◌^◌, ◌<◌, ◌≤◌, ◌↔◌, List, length, map, slice_index}
+use Rattle.std.specs.Prelude.{◌≡◌, ℕ, ◌+◌, ◌-◌, ◌*◌, ◌%◌, ◌^◌, ◌<◌, ◌≤◌, ◌⊎◌, ◌↔◌, List, length, map, slice_index}
 use Rattle.std.specs.Vec.{vec_len, vec_capacity}
 use Rattle.bitsets.specs.Sets.{Has}
 use Rattle.oct_code.specs.Code.{Code, len}
-use Rattle.oct_sets.specs.Plans.{AreSplits, HasStep, IsPairMade, IsPlan, IsShapedPlan, IsSplitValue}
+use Rattle.oct_sets.specs.Plans.{AreSplits, HasStep, IsFarMade, IsLowMade, IsPlan, IsShapedPlan, IsSplitValue}
 use Rattle.oct_sets.specs.declared.plan.Plan.{Plan}
-use Rattle.oct_sets.specs.declared.plan.TheConstants.{BLOCK}
+use Rattle.oct_sets.specs.declared.plan.TheConstants.{BLOCK, LOW}
 use Rattle.oct_sets.specs.declared.sets.Sets.{Sets}
 use Rattle.oct_sets.specs.declared.sets.Sets.TheVariants.{Narrow, Wide}
 use Rattle.oct_sets.specs.declared.sets_of.SetsOf.{SetsOf}
@@ -23,22 +23,25 @@ pub record IsShapedOf {W A : Type 0} (digits most width : ℕ) (s : SetsOf W A) 
   pub least : width ≤ s.heap
   pub block : vec_len s.block ≡ BLOCK
   pub started : s.start ≤ s.heap
-  pub within : s.heap < s.start + BLOCK
+  pub within : s.heap < s.ready
+  pub groups : (s.ready - s.start) % LOW ≡ 0
+  pub ready : s.ready ≤ s.start + BLOCK
 
 -- for each of the last heaps before n, the values of what moves that leave two heaps leave of it
 abbrev pub ArePairs : Code → ℕ → List ℕ → Type 0
 ArePairs c n pairs = (j v : ℕ) → j < length pairs → Has (slice_index pairs j) v ↔ IsSplitValue c (n + j - length pairs) v
 
--- for each heap of the block that begins at n, what far steps make
-abbrev pub IsBlock : {A : Type 0} → ℕ → Code → ℕ → Plan A → List ℕ → Type 0
-IsBlock digits c n p block = (i v : ℕ) → i < BLOCK → v < 2 ^ digits → Has (slice_index block i) v ↔ IsPairMade c (n + i) p.far (length p.far.offsets.items) v
+-- for each heap of the block that begins at n, what far steps make, and for so many of the first ones what low steps make too
+pub record IsBlock {A : Type 0} (digits : ℕ) (c : Code) (n : ℕ) (p : Plan A) (ready : ℕ) (block : List ℕ) : Type 0 where
+  pub first : (i v : ℕ) → i < ready → v < 2 ^ digits → Has (slice_index block i) v ↔ (IsFarMade c (n + i) p v ⊎ IsLowMade c (n + i) p v)
+  pub others : (i v : ℕ) → ready ≤ i → i < BLOCK → v < 2 ^ digits → Has (slice_index block i) v ↔ IsFarMade c (n + i) p v
 
 -- its plan, its words and its block are so of the game
 pub record IsRightOf {W A : Type 0} (number : W → ℕ) (digits : ℕ) (c : Code) (heaps : List ℕ) (reach : ℕ) (s : SetsOf W A) : Type 0 where
   pub plan : IsPlan c heaps reach (HasStep c s.plan)
   pub splits : AreSplits c s.splits.items
   pub pairs : ArePairs c s.heap (map number s.pairs.items)
-  pub block : IsBlock digits c s.start s.plan (map number s.block.items)
+  pub block : IsBlock digits c s.start s.plan (s.ready - s.start) (map number s.block.items)
   pub room : 2 * reach + len c < s.start
 
 -- ---- those of either width

@@ -11,8 +11,11 @@ use crate::steps::Steps;
 use oct_code::Code;
 use std::alloc::{AllocError, Allocator};
 
-/// The sets of so many heaps are made at a time.
+/// The sets of so many heaps are made at a time by far steps.
 pub const BLOCK: usize = 64;
+
+/// A block has groups of so many heaps. What low steps make is added to the sets of one group at a time.
+pub const LOW: usize = 8;
 
 /// Steps to the options by which heaps are settled.
 #[derive(Drop)]
@@ -20,6 +23,8 @@ pub struct Plan<A: Allocator> {
     /// Those that leave a small heap as large as a block or larger: the offset is the heap alone, and the step stands for all
     /// moves that leave it. They serve a whole block at a time.
     pub far: Steps<A>,
+    /// Those that leave a smaller heap, as large as a group or larger, in the same way. They serve a group at a time.
+    pub low: Steps<A>,
     /// The others, heap after heap.
     pub near: Steps<A>,
 }
@@ -40,6 +45,7 @@ impl<A: Allocator + Copy> Plan<A> {
     {
         let mut plan = Plan {
             far: Steps::new(alloc),
+            low: Steps::new(alloc),
             near: Steps::new(alloc),
         };
         plan.add_ends(code, none)?;
@@ -72,15 +78,17 @@ impl<A: Allocator + Copy> Plan<A> {
         Ok(())
     }
 
-    // Adds the steps to the options that leave a heap of this size and value: one far step for all of them, or near ones.
+    // Adds the steps to the options that leave a heap of this size and value: one far or low step for all of them, or near ones.
     fn add_heap(&mut self, code: &Code, heap: usize, value: usize) -> Result<(), AllocError>
         requires some { 1 ≤ heap }
         requires limited { heap < 2 ^ 32 }
         ensures shaped { (limit reach : ℕ) → value < limit → IsShapedPlan limit reach (reach + len code.now) self.old → heap ≤ reach → OnOk result (IsShapedPlan limit reach (reach + len code.now) self.new) }
         ensures adds { (limit reach : ℕ) → value < limit → IsShapedPlan limit reach (reach + len code.now) self.old → heap ≤ reach → OnOk result (AddsSteps code.now self.old self.new (IsPairStep code.now heap value (len code.now + 1))) }
     {
-        if heap < BLOCK {
+        if heap < LOW {
             self.add_near(code, heap, value)
+        } else if heap < BLOCK {
+            self.low.push(heap, value)
         } else {
             self.far.push(heap, value)
         }

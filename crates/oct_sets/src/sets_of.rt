@@ -9,7 +9,7 @@ ghost use Rattle.oct_sets.specs.Plans.{AreFirst, AreLast, AreSplits, IsParted, I
 ghost use Rattle.oct_sets.specs.Sets.{ArePairs, IsBlock, IsRightOf, IsShapedOf};
 
 use crate::pairs::{keep_last, number_at, pairs_of, split_set, splits_of};
-use crate::plan::{BLOCK, Plan};
+use crate::plan::{BLOCK, LOW, Plan};
 use crate::settled::settled_by;
 use crate::sorted::sorted;
 use crate::witnesses::witnesses;
@@ -33,6 +33,8 @@ pub struct SetsOf<W, A: Allocator> {
     pub block: Vec<W, A>,
     /// The first heap of the block.
     pub start: usize,
+    /// The heaps of the block before this one have what low steps make too.
+    pub ready: usize,
     /// The next heap: one of the block.
     pub heap: usize,
 }
@@ -74,6 +76,7 @@ impl<W: Word, A: Allocator + Copy> SetsOf<W, A> {
             pairs,
             block,
             start: heap,
+            ready: heap,
             heap,
         };
         sets.fill();
@@ -124,8 +127,12 @@ impl<W: Word, A: Allocator + Copy> SetsOf<W, A> {
     {
         self.add_pair(last);
         self.heap += 1;
-        if self.heap == self.start + BLOCK {
-            self.fill();
+        if self.heap == self.ready {
+            if self.heap == self.start + BLOCK {
+                self.fill();
+            } else {
+                self.add_low();
+            }
         }
     }
 
@@ -150,19 +157,38 @@ impl<W: Word, A: Allocator + Copy> SetsOf<W, A> {
             .push_reserved(split_set(&self.splits, last, last.len() - 1));
     }
 
-    // Makes the sets of the block that begins with the next heap: once in a block, so it stands apart from what is done for each heap.
+    // Makes the sets of the block that begins with the next heap, those of its first group with low steps too: once in a block, so it
+    // stands apart from what is done for each heap.
     #[inline(never)]
     fn fill(&mut self)
+        requires far { IsShapedSteps (2 ^ W.digits) BLOCK self.old.reach self.old.plan.far }
+        requires low { IsShapedSteps (2 ^ W.digits) LOW self.old.reach self.old.plan.low }
+        requires pairs { self.old.reach ≤ vec_len self.old.pairs }
+        requires behind { vec_len self.old.pairs ≤ self.old.heap }
+        requires block { vec_len self.old.block ≡ BLOCK }
+        requires limited { self.old.heap ≤ 2 ^ 60 }
+        ensures same { self.new ≡ record self.old { start = self.old.heap; ready = self.old.heap + LOW; block = self.new.block } }
+        ensures len { vec_len self.new.block ≡ BLOCK }
+        ensures block { (c : octal.Code) → ArePairs c self.old.heap (map W.number self.old.pairs.items) → IsBlock W.digits c self.old.heap self.old.plan LOW (map W.number self.new.block.items) }
+    {
+        self.add_far();
+        self.add_low();
+    }
+
+    // Makes the sets of the block that begins with the next heap, by far steps alone.
+    #[inline(always)]
+    fn add_far(&mut self)
         requires far { IsShapedSteps (2 ^ W.digits) BLOCK self.old.reach self.old.plan.far }
         requires pairs { self.old.reach ≤ vec_len self.old.pairs }
         requires behind { vec_len self.old.pairs ≤ self.old.heap }
         requires block { vec_len self.old.block ≡ BLOCK }
         requires limited { self.old.heap ≤ 2 ^ 60 }
-        ensures same { self.new ≡ record self.old { start = self.old.heap; block = self.new.block } }
+        ensures same { self.new ≡ record self.old { start = self.old.heap; ready = self.old.heap; block = self.new.block } }
         ensures len { vec_len self.new.block ≡ BLOCK }
-        ensures block { (c : octal.Code) → ArePairs c self.old.heap (map W.number self.old.pairs.items) → IsBlock W.digits c self.old.heap self.old.plan (map W.number self.new.block.items) }
+        ensures block { (c : octal.Code) → ArePairs c self.old.heap (map W.number self.old.pairs.items) → IsBlock W.digits c self.old.heap self.old.plan 0 (map W.number self.new.block.items) }
     {
         self.start = self.heap;
+        self.ready = self.heap;
         let block: &mut [W] = &mut self.block;
         clear(block);
         let far = &self.plan.far;
@@ -173,6 +199,34 @@ impl<W: Word, A: Allocator + Copy> SetsOf<W, A> {
             &far.offsets,
             &far.values,
         );
+    }
+
+    // Adds what low steps make to the sets of the group of heaps of the block that begins with the next heap.
+    #[inline(never)]
+    fn add_low(&mut self)
+        requires low { IsShapedSteps (2 ^ W.digits) LOW self.old.reach self.old.plan.low }
+        requires pairs { self.old.reach ≤ vec_len self.old.pairs }
+        requires behind { vec_len self.old.pairs ≤ self.old.heap }
+        requires block { vec_len self.old.block ≡ BLOCK }
+        requires next { self.old.heap ≡ self.old.ready }
+        requires started { self.old.start ≤ self.old.ready }
+        requires room { self.old.ready + LOW ≤ self.old.start + BLOCK }
+        requires limited { self.old.heap ≤ 2 ^ 60 }
+        ensures same { self.new ≡ record self.old { ready = self.old.ready + LOW; block = self.new.block } }
+        ensures len { vec_len self.new.block ≡ BLOCK }
+        ensures block { (c : octal.Code) → ArePairs c self.old.heap (map W.number self.old.pairs.items) → IsBlock W.digits c self.old.start self.old.plan (self.old.ready - self.old.start) (map W.number self.old.block.items) → IsBlock W.digits c self.old.start self.old.plan (self.old.ready + LOW - self.old.start) (map W.number self.new.block.items) }
+    {
+        let from = self.ready - self.start;
+        let group = &mut self.block[from..from + LOW];
+        let low = &self.plan.low;
+        unite_steps(
+            group,
+            &self.pairs,
+            self.pairs.len(),
+            &low.offsets,
+            &low.values,
+        );
+        self.ready += LOW;
     }
 }
 

@@ -176,12 +176,8 @@ impl<T: Cell> Known<'_, T> {
 
     // The number that one step over a small heap of a value meets at a place.
     fn met(self, place: usize, removed: usize, heap: usize, value: usize) -> u64 {
-        let Some(left) = place.checked_sub(removed) else {
-            return 0;
-        };
-        let Some(rest) = left.checked_sub(heap) else {
-            return 0;
-        };
+        // Where there are too few beans, this is a place behind all others.
+        let rest = place.wrapping_sub(removed).wrapping_sub(heap);
         match self.last.get(rest) {
             Some(other) => set_of(other.number() ^ value),
             None => 0,
@@ -214,10 +210,14 @@ impl<T: Cell> Known<'_, T> {
 
     // How many numbers that are not met a heap meets, in a part of those that lack some; and more for a value that the plan has.
     fn worth(self, heap: usize, lacking: &[Lacking], values: u64) -> usize {
+        let step = lacking.len() / SCORED + 1;
         let mut worth: usize = 0;
-        for other in lacking.iter().step_by(lacking.len() / SCORED + 1) {
-            let met = self.met_by(other.place, heap) & other.numbers;
-            worth = worth.saturating_add(met.count_ones() as usize);
+        let mut at = 0;
+        while at < lacking.len() {
+            let Lacking { place, numbers } = lacking[at];
+            let met = self.met_by(place, heap) & numbers;
+            worth = worth.wrapping_add(met.count_ones() as usize);
+            at += step;
         }
         if self.set_of(heap) & values != 0 {
             worth.saturating_mul(PRICE)

@@ -1,25 +1,21 @@
-use Rattle.std.proofs.Common.{◌≡◌, ◌+◌, ◌<◌, ◌++◌, ◌↔◌, length, drop, map, slice_index, take, ap, arith, subst, sym, vec_len}
-use Rattle.bitsets.specs.Sets.{Has}
-use Rattle.bitsets.proofs.Words.{as_many}
-use Rattle.oct_sets.specs.Plans.{IsPairMade}
-use Rattle.oct_sets.specs.declared.plan.TheConstants.{BLOCK}
-use Rattle.oct_sets.proofs.Words.{block_slices, taken}
+use Rattle.std.proofs.Common.{◌≡◌, ◌+◌, ◌-◌, Vec, map, subst₂, ap, arith, sym}
+use Rattle.oct_sets.specs.Sets.{ArePairs}
+use Rattle.oct_sets.specs.declared.plan.TheConstants.{LOW}
+use Rattle.oct_sets.specs.declared.sets_of.SetsOf.{SetsOf}
+use Rattle.oct_sets.proofs.Kept.{block_as}
 use Rattle.oct_sets.proofs.sets_of.SetsOf.fill.Goals as goal
 
 pub returns-clause-block : goal.returns-clause-block
-returns-clause-block g c code are i v within small =
+returns-clause-block g c code are =
     let s = c.args.self.now in
+    let mid = c.add_far.new.self in
+    let digits = g.W.Word.digits in
     let number = g.W.Word.number in
-    let words = map number s.pairs.items in
-    let many : length words ≡ vec_len s.pairs = omega (arith, as_many number s.pairs.items) in
-    let far = c.requires.far in
-    let new = c.unite_steps.new.block in
-    let long : length new ≡ vec_len s.block = omega (arith, c.unite_steps.ensures.len, c.clear.ensures.len, c.deref_mut-block.ensures.len) in
-    let low : i < length c.clear.new.block = omega (arith, within, c.requires.block, c.clear.ensures.len, c.deref_mut-block.ensures.len) in
-    let made : Has (slice_index (map number new) i) v ↔ IsPairMade code (s.heap + i) s.plan.far (length s.plan.far.offsets.items) v =
-    block_slices g.W.Word.digits code s.heap words s.plan.far BLOCK are (omega (arith, c.requires.behind, many)) far.from (λ k in_list. omega (arith, far.to k in_list, c.requires.pairs, many))
-    (map number c.deref.result.now) c.deref-2.result.now c.deref-3.result.now c.len.result i v (slice_index (map number c.clear.new.block) i) (slice_index (map number new) i)
-    (ap (map number) c.deref.ensures.value) c.deref-2.ensures.value c.deref-3.ensures.value (omega (arith, c.len.ensures, many)) within small
-    (c.clear.ensures.none i (omega (arith, low, c.clear.ensures.len))) (c.unite_steps.ensures.adds i low) in
-    subst (λ xs. Has (slice_index (map number xs) i) v ↔ IsPairMade code (s.heap + i) s.plan.far (length s.plan.far.offsets.items) v)
-    (sym (taken (vec_len s.block) new (drop (length new) s.block.items) long)) made
+    let same = c.add_far.ensures.same in
+    let start : mid.start ≡ s.heap = ap (λ (s : SetsOf g.row.W.Denot g.row.A.Denot). s.start) same in
+    let ready : mid.ready ≡ s.heap = ap (λ (s : SetsOf g.row.W.Denot g.row.A.Denot). s.ready) same in
+    let plan = ap (λ (s : SetsOf g.row.W.Denot g.row.A.Denot). s.plan) same in
+    let here = subst₂ (λ n (ws : Vec g.row.W.Denot g.row.A.Denot). ArePairs code n (map number ws.items)) (sym (ap (λ (s : SetsOf g.row.W.Denot g.row.A.Denot). s.heap) same)) (sym (ap (λ (s : SetsOf g.row.W.Denot g.row.A.Denot). s.pairs) same)) are in
+    block_as digits code mid.start s.heap mid.plan s.plan (mid.ready + LOW - mid.start) LOW (map number c.add_low.new.self.block.items) start plan (omega (arith, ready, start))
+    (c.add_low.ensures.block code here
+    (block_as digits code s.heap mid.start s.plan mid.plan 0 (mid.ready - mid.start) (map number mid.block.items) (sym start) (sym plan) (omega (arith, ready, start)) (c.add_far.ensures.block code are)))

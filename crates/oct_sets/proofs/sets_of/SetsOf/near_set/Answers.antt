@@ -6,8 +6,7 @@ use Rattle.bitsets.proofs.Bits.{has_or}
 use Rattle.bitsets.proofs.Words.{at}
 use Rattle.oct_mex.specs.NimValues.{nim_value}
 use Rattle.oct_mex.proofs.Cells.{as_many}
-use Rattle.oct_sets.specs.Plans.{IsMade, IsPairMade}
-use Rattle.oct_sets.specs.declared.plan.TheConstants.{BLOCK}
+use Rattle.oct_sets.specs.Plans.{IsFarMade, IsLowMade, IsMade}
 use Rattle.oct_sets.proofs.Words.{made_more}
 use Rattle.oct_sets.proofs.sets_of.SetsOf.near_set.Goals as goal
 
@@ -28,14 +27,13 @@ loop-at-init g c = record {
   union = λ code heaps reach right last v small.
       let s = c.args.self.now in
       let number = g.W.Word.number in
-      let far = s.plan.far in
       let shaped = c.requires.shaped in
       let k = s.heap - s.start in
-      let within : k < BLOCK = omega (arith, shaped.within, shaped.started) in
-      let is : number c.index-set.result.now ≡ slice_index (map number s.block.items) k = at number s.block.items k c.index-set.result.now (omega (arith, within, shaped.block)) c.index-set.ensures in
+      let within : k < s.ready - s.start = omega (arith, shaped.within, shaped.started) in
+      let is : number c.index-set.result.now ≡ slice_index (map number s.block.items) k = at number s.block.items k c.index-set.result.now (omega (arith, within, shaped.ready, shaped.block)) c.index-set.ensures in
       let place : s.start + k ≡ s.heap = omega (arith, shaped.started) in
-      let told : Has (number c.index-set.result.now) v ↔ IsPairMade code s.heap far (length far.offsets.items) v =
-      subst₂ (λ w n. Has w v ↔ IsPairMade code n far (length far.offsets.items) v) (sym is) place (right.block k v within small) in
+      let told : Has (number c.index-set.result.now) v ↔ (IsFarMade code s.heap s.plan v ⊎ IsLowMade code s.heap s.plan v) =
+      subst₂ (λ w n. Has w v ↔ (IsFarMade code n s.plan v ⊎ IsLowMade code n s.plan v)) (sym is) place (right.block.first k v within small) in
       ((λ h. inl (told.0 h)), (λ m. elim m [ inl p ↦ told.1 p | inr n ↦ absurd (omega (arith, n.within)) ]));
 }
 
@@ -68,7 +66,7 @@ loop-at-preserved g c = record {
       let is : bit_xor c.number_at-value.result c.index-in-loop-at.result.now ≡ bit_xor (slice_index near.values.items at) c.number_at-value.result =
       xor_comm c.number_at-value.result c.index-in-loop-at.result.now ∙ ap (λ x. bit_xor x c.number_at-value.result) value in
       made_more code s.heap near at (number c.loop-at.set) (number c.united-set.result) (number c.one.result) (bit_xor c.number_at-value.result c.index-in-loop-at.result.now) c.number_at-value.result
-      (subst (λ w. Adds (number c.loop-at.set) w (Has (number c.one.result))) (sym c.united-set.ensures) (has_or (number c.loop-at.set) (number c.one.result))) c.one.ensures is known (IsPairMade code s.heap s.plan.far (length s.plan.far.offsets.items)) v (c.loop-at.invariant.union code heaps reach right last v small);
+      (subst (λ w. Adds (number c.loop-at.set) w (Has (number c.one.result))) (sym c.united-set.ensures) (has_or (number c.loop-at.set) (number c.one.result))) c.one.ensures is known (λ u. IsFarMade code s.heap s.plan u ⊎ IsLowMade code s.heap s.plan u) v (c.loop-at.invariant.union code heaps reach right last v small);
 }
 
 pub returns : goal.returns
@@ -76,5 +74,5 @@ returns g c = record {
   union = λ code heaps reach right last v small.
       let s = c.args.self.now in
       let number = g.W.Word.number in
-      subst (λ k. Has (number c.loop-at.set) v ↔ (IsPairMade code s.heap s.plan.far (length s.plan.far.offsets.items) v ⊎ IsMade code s.heap s.plan.near k v)) (omega (arith, c.loop-at-test.false, c.len-at-end.ensures, c.loop-at.auto.at-end)) (c.loop-at.invariant.union code heaps reach right last v small);
+      subst (λ k. Has (number c.loop-at.set) v ↔ ((IsFarMade code s.heap s.plan v ⊎ IsLowMade code s.heap s.plan v) ⊎ IsMade code s.heap s.plan.near k v)) (omega (arith, c.loop-at-test.false, c.len-at-end.ensures, c.loop-at.auto.at-end)) (c.loop-at.invariant.union code heaps reach right last v small);
 }
