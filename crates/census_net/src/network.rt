@@ -1,11 +1,10 @@
 //! Sessions over TCP, or a socket of this machine.
 
-use crate::endpoint::{Endpoint, accepted, bound, connected, leave};
-use crate::record_file::Loaded;
 use crate::session::{Agreement, Streams};
+use census_endpoint::{Endpoint, Loaded, accepted, bound, connected, leave};
 use census_failure::{Advice, Failure};
 use census_state::Fault;
-use census_transport::{Bounded, Connection, Stream};
+use census_transport::{Bounded, Connection, Listener, Stream};
 use oct_sync::Role;
 use std::fs::File;
 use std::io::Write;
@@ -28,10 +27,25 @@ where
 {
     let (mut loaded, _) = Loaded::read(rt, endpoint.state)?;
     let listener = bound(rt, endpoint.location)?;
-    let taken = accepted(rt, &listener, endpoint.location);
+    serve_next(rt, endpoint, &listener, &mut loaded, advice)
+}
+
+// Takes one connection of the listener, takes the socket away where it is one, and serves the session.
+fn serve_next<R, E>(
+    rt: &R,
+    endpoint: Endpoint<'_>,
+    listener: &Listener,
+    loaded: &mut Loaded,
+    advice: &mut Advice<'_, E>,
+) -> Result<(), Failure>
+where
+    R: Files<File = File> + AllocGlobal + Net<Stream = TcpStream, Listener = TcpListener> + Clock,
+    E: Write,
+{
+    let taken = accepted(rt, listener, endpoint.location);
     leave(rt, endpoint.location);
     let stream = taken?;
-    both_ways(rt, endpoint, &stream)?.answer(rt, endpoint.state, &mut loaded, advice)
+    both_ways(rt, endpoint, &stream)?.answer(rt, endpoint.state, loaded, advice)
 }
 
 /// Connects to the location, and has one session with what serves there, as this kind of client, over what the state said,
@@ -60,16 +74,23 @@ fn both_ways<'a, R: AllocGlobal + Clock>(
     endpoint: Endpoint<'a>,
     stream: &'a Stream,
 ) -> Result<Streams<'a, Connection<'a, R>, Connection<'a, R>>, Failure> {
-    match (
-        Connection::new(rt, stream, endpoint.patience),
-        Connection::new(rt, stream, endpoint.patience),
-    ) {
-        (Ok(input), Ok(output)) => Ok(Streams {
-            name: endpoint.location.name(),
-            input: Bounded::new(input, endpoint.allowance.most),
-            output,
-            allowance: endpoint.allowance,
-        }),
-        _ => Err(Failure::of(rt.alloc(), Fault::Net, endpoint.location.name())),
+    let input = one_way(rt, endpoint, stream)?;
+    Ok(Streams {
+        name: endpoint.location.name(),
+        input: Bounded::new(input, endpoint.allowance.most),
+        output: one_way(rt, endpoint, stream)?,
+        allowance: endpoint.allowance,
+    })
+}
+
+// One direction of a connection. The fault is `Net`.
+fn one_way<'a, R: AllocGlobal + Clock>(
+    rt: &'a R,
+    endpoint: Endpoint<'a>,
+    stream: &'a Stream,
+) -> Result<Connection<'a, R>, Failure> {
+    match Connection::new(rt, stream, endpoint.patience) {
+        Ok(connection) => Ok(connection),
+        Err(_) => Err(Failure::of(rt.alloc(), Fault::Net, endpoint.location.name())),
     }
 }

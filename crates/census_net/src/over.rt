@@ -1,8 +1,7 @@
 //! Sessions over two streams that are lent, as a shell and `ssh` lend standard input and output.
 
-use crate::allowance::Allowance;
-use crate::record_file::Loaded;
 use crate::session::{Agreement, Streams};
+use census_endpoint::{Allowance, Loaded};
 use census_failure::{Advice, Failure, INPUT_NAME};
 use census_transport::{Bounded, LentInput, LentOutput};
 use oct_sync::Role;

@@ -1,9 +1,7 @@
 //! One session over two streams: the frames, what is saved after them, and what a server says behind them.
 
-use crate::allowance::Allowance;
-use crate::record_file::Loaded;
 use crate::refused::{refused_text, remedy_text};
-use crate::unsaved::{is_of_peer, unsaved};
+use census_endpoint::{Allowance, Loaded, is_of_peer, unsaved};
 use census_failure::{Advice, Failure};
 use census_fold::{
     CLOSING_LENGTH, REFUSAL_LENGTH, Refusal, author_count, check_authors, closing_digits,

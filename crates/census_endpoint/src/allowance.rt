@@ -15,7 +15,7 @@ pub struct Allowance {
 
 impl Allowance {
     /// The failure of a peer that sent more bytes.
-    pub(crate) fn exceeded(self, alloc: Global) -> Failure {
+    pub fn exceeded(self, alloc: Global) -> Failure {
         Failure::from(Fault::TooLong)
             .found(most_text(alloc, self.most))
             .advise(more_text(alloc))

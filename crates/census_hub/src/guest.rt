@@ -1,7 +1,7 @@
 //! One session of a hub, which goes on when its connection is ready.
 
-use crate::allowance::Allowance;
 use crate::kept::{Kept, Settled};
+use census_endpoint::Allowance;
 use census_failure::Failure;
 use census_fold::{Refusal, closing_frame, refusal_frame};
 use census_state::Fault;
@@ -9,6 +9,7 @@ use census_transport::{HEAD, Patience, PeerAddress, Visitor};
 use mio::{Registry, Token};
 use oct_answer::Missing;
 use oct_delta::decode_clock;
+use oct_join::Clock;
 use oct_record::Record;
 use oct_sync::{Progress, Session, SyncError};
 use std::alloc::Global;
@@ -325,15 +326,21 @@ impl Guest {
 
     // Owes the peer the clock of the state, and behind it the frames of all that the peer's clock does not cover.
     fn answer(&mut self, alloc: Global, kept: &mut Kept) -> Result<(), Failure> {
-        let frame = mem::replace(&mut self.greeting, Vec::new(alloc));
-        let Ok(clock) = decode_clock(alloc, frame.get(HEAD..).unwrap_or(&[])) else {
-            return Err(Failure::from(Fault::OutOfMemory));
-        };
+        let clock = self.peer_clock(alloc)?;
         let snapshot = kept.snapshot(alloc)?;
         snapshot.put_clock(&mut self.owed)?;
         self.missing = Some(Missing::new(alloc, snapshot, clock));
         self.answered = Some(kept.revision());
         Ok(())
+    }
+
+    // The peer's clock, of whose frame the session has taken all.
+    fn peer_clock(&mut self, alloc: Global) -> Result<Clock<Global>, Failure> {
+        let frame = mem::replace(&mut self.greeting, Vec::new(alloc));
+        match decode_clock(alloc, frame.get(HEAD..).unwrap_or(&[])) {
+            Ok(clock) => Ok(clock),
+            Err(_) => Err(Failure::from(Fault::OutOfMemory)),
+        }
     }
 
     // Owes the peer the digest of what it should hold now, behind the last frame. It can't be said where the state changed

@@ -16,23 +16,23 @@ const MOST_OPERATIONS: usize = u32::MAX as usize;
 
 /// What stands in a state after a session.
 #[derive(Drop)]
-pub(crate) struct Saved {
+pub struct Saved {
     /// How many operations are new to the file, and how many there are.
-    pub(crate) text: Vec<u8>,
+    pub text: Vec<u8>,
     /// An operation by the state's own number that its file never held; none where there is none.
-    pub(crate) foreign: Option<Dot>,
+    pub foreign: Option<Dot>,
 }
 
 /// A state file as it was when it was last read or written. While it is open, no other has its inode.
 #[derive(Drop)]
-pub(crate) struct Standing {
+pub struct Standing {
     file: File,
     stamp: FileStamp,
 }
 
 impl Standing {
     /// The file that stands at the path. The fault is `File`.
-    pub(crate) fn at<R>(rt: &R, state: &str) -> Result<Standing, Failure>
+    pub fn at<R>(rt: &R, state: &str) -> Result<Standing, Failure>
     where
         R: Files<File = File> + AllocGlobal,
     {
@@ -50,12 +50,12 @@ impl Standing {
     }
 
     /// All its bytes. What is written into it meanwhile is seen afterwards. The fault is `File`, `TooLong` or `OutOfMemory`.
-    pub(crate) fn read(&mut self, alloc: Global, state: &str) -> Result<Vec<u8>, Failure> {
+    pub fn read(&mut self, alloc: Global, state: &str) -> Result<Vec<u8>, Failure> {
         read_open(alloc, &mut self.file, state)
     }
 
     /// Whether it stands at the path still, and was not changed since. Nothing of it is read.
-    pub(crate) fn stands<R: Files>(&self, rt: &R, state: &str) -> bool {
+    pub fn stands<R: Files>(&self, rt: &R, state: &str) -> bool {
         match fs::metadata(rt, state) {
             Ok(there) => FileStamp::of(&there) == self.stamp,
             Err(_) => false,
@@ -98,13 +98,13 @@ impl Loaded {
     }
 
     /// The same, for a session that takes what comes.
-    pub(crate) fn said_mut(&mut self) -> &mut Record<Global> {
+    pub fn said_mut(&mut self) -> &mut Record<Global> {
         &mut self.said
     }
 
     /// Saves the union of what the state file holds now and what is held, while no other command changes the file. Where it
     /// stands as it was read, it is not read again, and not written where the session brought nothing.
-    pub(crate) fn save<R>(&self, rt: &R, state: &str) -> Result<Saved, Failure>
+    pub fn save<R>(&self, rt: &R, state: &str) -> Result<Saved, Failure>
     where
         R: Files<File = File> + AllocGlobal,
     {
@@ -141,11 +141,7 @@ fn own_count(said: &Record<Global>) -> usize {
 }
 
 /// What the state of this name says. The fault is `Load`, and `OutOfMemory`.
-pub(crate) fn record_of(
-    alloc: Global,
-    name: &str,
-    bytes: &[u8],
-) -> Result<Record<Global>, Failure> {
+pub fn record_of(alloc: Global, name: &str, bytes: &[u8]) -> Result<Record<Global>, Failure> {
     match Record::load(alloc, bytes) {
         Ok(said) => Ok(said),
         Err(cause) => Err(of_state(alloc, cause, Given { name, bytes })),
@@ -153,7 +149,7 @@ pub(crate) fn record_of(
 }
 
 /// Saves the union of what the state file holds now and what is held, while no other command changes the file.
-pub(crate) fn save_held<R>(
+pub fn save_held<R>(
     rt: &R,
     file: &StateFile,
     state: &str,
@@ -175,7 +171,7 @@ where
 
 /// Saves what is held, where the file holds nothing else, and so many operations of it. It is written as it is put together, so
 /// that no memory is taken for its text. The fault is `TooMany`, `TooLong`, or that of the file.
-pub(crate) fn save_grown<R>(
+pub fn save_grown<R>(
     rt: &R,
     file: &StateFile,
     state: &str,

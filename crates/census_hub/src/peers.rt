@@ -1,17 +1,19 @@
 //! A hub: many sessions at once, in one thread.
 
-use crate::endpoint::{Endpoint, Location, bound, leave};
+use crate::entrance::{Entrance, LISTENER};
 use crate::guest::{Bounds, Guest, sooner};
 use crate::kept::{Kept, Settled};
-use crate::unsaved::{is_of_peer, unsaved};
+use crate::session_line::{append_text, line_of};
 use census_diagnosis::unserved;
+use census_endpoint::{Endpoint, is_of_peer, leave, unsaved};
 use census_failure::{Failure, escaped, explanation, foreign_text};
 use census_state::Fault;
-use census_transport::{Door, Listener, Moment, OUTPUT, PeerAddress, Visitor, has_room};
-use mio::{Events, Poll, Token};
+use census_transport::{Moment, OUTPUT, PeerAddress, Visitor, has_room};
+use mio::Token;
 use oct_ops::Dot;
+use oct_record::Record;
 use slab::Slab;
-use std::alloc::{AllocError, Global};
+use std::alloc::Global;
 use std::fs::File;
 use std::io::{self, ErrorKind, Write};
 use std::net::{Net, TcpListener, TcpStream};
@@ -25,17 +27,8 @@ const MAX_READ: usize = 65_536;
 /// For how many milliseconds no connection is taken after one could not be.
 const PAUSE: u64 = 100;
 
-/// How many digits of a digest are shown.
-const DIGITS: usize = 8;
-
-/// How long a line may be before further authors are only counted. With that it has 4,000 bytes at most.
-const LONGEST: usize = 3_900;
-
 /// After how many seconds a silent peer gives way to one for which there is no room.
 const SILENCE: u64 = 10;
-
-/// The listener among the sources of events. The others are the guests, by their keys.
-const LISTENER: Token = Token(usize::MAX);
 
 /// How many peers a hub takes.
 #[derive(Clone, Copy)]
@@ -53,9 +46,7 @@ struct Host<'a, R> {
     endpoint: Endpoint<'a>,
     limits: Limits,
     kept: Kept,
-    door: Door,
-    poll: Poll,
-    events: Events,
+    entrance: Entrance,
     guests: Slab<Guest>,
     /// What is read from a connection.
     buffer: Vec<u8>,
@@ -101,15 +92,13 @@ where
     // Reads the state, and then listens at the address.
     fn open(rt: &'a R, endpoint: Endpoint<'a>, limits: Limits) -> Result<Host<'a, R>, Failure> {
         let kept = Kept::read(rt, endpoint.state)?;
-        let (door, poll) = listening(rt, endpoint.location)?;
+        let entrance = Entrance::open(rt, endpoint.location, limits.sessions)?;
         Ok(Host {
             rt,
             endpoint,
             limits,
             kept,
-            door,
-            poll,
-            events: Events::with_capacity(rt.alloc(), limits.sessions)?,
+            entrance,
             guests: Slab::with_capacity(rt.alloc(), limits.sessions)?,
             buffer: zeros(rt.alloc(), MAX_READ)?,
             left: limits.peers,
@@ -134,7 +123,7 @@ where
     // Says where it listens.
     fn say_where<O: Write>(&self, output: &mut O) -> Result<(), Failure> {
         let alloc = self.rt.alloc();
-        let line = match self.door.address() {
+        let line = match self.entrance.door.address() {
             Ok(Some(address)) => format!(in alloc; "listening on {address}\n")?,
             Ok(None) => {
                 let path = escaped(alloc, self.endpoint.location.name())?;
@@ -223,52 +212,77 @@ where
         }
         self.pause = None;
         for _ in 0..self.limits.sessions {
-            if !self.has_call(now) {
+            if self.pause.is_some() || !self.has_call(now) {
                 return;
             }
-            match self.door.accept() {
-                Ok((stream, peer)) => {
-                    self.left = self.left.saturating_sub(1);
-                    self.make_room(now, errors);
-                    if let Err(failure) = self.seat(stream, peer, now) {
-                        say_failure(self.rt, errors, peer, failure);
-                    }
-                }
-                Err(e) if e.kind() == ErrorKind::WouldBlock => self.is_called = false,
-                Err(e) if e.kind() == ErrorKind::Interrupted => {}
-                Err(_) => {
-                    self.pause = now.checked_add(Duration::from_millis(PAUSE));
-                    return;
-                }
+            match self.entrance.door.accept() {
+                Ok((stream, peer)) => self.take_in(stream, peer, now, errors),
+                Err(error) => self.wait_after(error.kind(), now),
             }
+        }
+    }
+
+    // Makes room for a peer that connected, and begins its session, or says why it has none.
+    fn take_in<E: Write>(
+        &mut self,
+        stream: Visitor,
+        peer: PeerAddress,
+        now: Instant,
+        errors: &mut E,
+    ) {
+        self.left = self.left.saturating_sub(1);
+        self.make_room(now, errors);
+        if let Err(failure) = self.seat(stream, peer, now) {
+            say_failure(self.rt, errors, peer, failure);
+        }
+    }
+
+    // After a connection that could not be taken: until one is reported none waits, or there is a pause. It is tried again at once
+    // where a signal interrupted it.
+    fn wait_after(&mut self, kind: ErrorKind, now: Instant) {
+        match kind {
+            ErrorKind::WouldBlock => self.is_called = false,
+            ErrorKind::Interrupted => {}
+            _ => self.pause = now.checked_add(Duration::from_millis(PAUSE)),
         }
     }
 
     // Begins the session of a connection. The fault is `Net`, and `OutOfMemory`.
     fn seat(&mut self, stream: Visitor, peer: PeerAddress, now: Instant) -> Result<(), Failure> {
-        let bounds = Bounds {
-            patience: self.endpoint.patience,
-            allowance: self.endpoint.allowance,
-        };
-        let alloc = self.rt.alloc();
-        let mut guest = Guest::new(alloc, stream, peer, bounds, self.kept.empty(alloc), now);
-        let token = Token(self.guests.vacant_key());
-        if let Err(error) = guest.register(self.poll.registry(), token) {
-            return Err(self.unserved(error));
-        }
+        let mut guest = self.guest(stream, peer, now);
+        self.register(&mut guest)?;
         match self.guests.insert(guest) {
             Ok(_) => Ok(()),
             Err(_) => Err(Failure::from(Fault::OutOfMemory)),
         }
     }
 
+    // A peer whose session begins now.
+    fn guest(&self, stream: Visitor, peer: PeerAddress, now: Instant) -> Guest {
+        let bounds = Bounds {
+            patience: self.endpoint.patience,
+            allowance: self.endpoint.allowance,
+        };
+        let alloc = self.rt.alloc();
+        Guest::new(alloc, stream, peer, bounds, self.kept.empty(alloc), now)
+    }
+
+    // Has the connection of the guest that is seated next reported when it is ready. The fault is `Net`.
+    fn register(&self, guest: &mut Guest) -> Result<(), Failure> {
+        let token = Token(self.guests.vacant_key());
+        match guest.register(self.entrance.poll.registry(), token) {
+            Ok(()) => Ok(()),
+            Err(error) => Err(self.unserved(error)),
+        }
+    }
+
     // Waits until something is ready, or a time has come. The fault is `Net`.
     fn wait(&mut self, now: Instant) -> Result<(), Failure> {
         let timeout = self.timeout(now);
-        if let Err(error) = self.poll.poll(&mut self.events, timeout) {
+        if let Err(error) = self.entrance.poll.poll(&mut self.entrance.events, timeout) {
             return Err(self.unserved(error));
         }
-        for event in &self.events {
+        for event in &self.entrance.events {
             if event.token() == LISTENER {
                 self.is_called = true;
             } else if let Some(guest) = self.guests.get_mut(event.token().0) {
@@ -307,26 +321,37 @@ where
         output: &mut O,
         errors: &mut E,
     ) {
+        match self.step(key, now) {
+            Ok(false) => {}
+            Ok(true) => self.see_off(key, output, errors),
+            Err(failure) => self.turn_out(key, failure, errors),
+        }
+    }
+
+    // Lets the session of this key go on, where there is one, and says whether it is over. The fault is that of the session.
+    fn step(&mut self, key: usize, now: Instant) -> Result<bool, Failure> {
         let Some(guest) = self.guests.get_mut(key) else {
-            return;
+            return Ok(false);
         };
         let state = self.endpoint.state;
-        match guest.step(self.rt, state, &mut self.kept, &mut self.buffer, now) {
-            Ok(()) => {
-                if guest.is_over() {
-                    if let Some(guest) = self.guests.try_remove(key) {
-                        self.say(&guest, output, errors);
-                    }
-                }
-            }
-            Err(failure) => {
-                if let Some(guest) = self.guests.try_remove(key) {
-                    if guest.is_caller() {
-                        self.left = self.left.saturating_add(1);
-                    } else {
-                        self.give_up(guest, failure, errors);
-                    }
-                }
+        guest.step(self.rt, state, &mut self.kept, &mut self.buffer, now)?;
+        Ok(guest.is_over())
+    }
+
+    // Says how the session of this key ended, which is done, and closes its connection.
+    fn see_off<O: Write, E: Write>(&mut self, key: usize, output: &mut O, errors: &mut E) {
+        if let Some(guest) = self.guests.try_remove(key) {
+            self.say(&guest, output, errors);
+        }
+    }
+
+    // Gives the peer of this key up, whose session this fault ended. One that only looked whether a hub listens counts for none.
+    fn turn_out<E: Write>(&mut self, key: usize, failure: Failure, errors: &mut E) {
+        if let Some(guest) = self.guests.try_remove(key) {
+            if guest.is_caller() {
+                self.left = self.left.saturating_add(1);
+            } else {
+                self.give_up(guest, failure, errors);
             }
         }
     }
@@ -334,16 +359,24 @@ where
     // Says how a session ended that was done.
     fn say<O: Write, E: Write>(&mut self, guest: &Guest, output: &mut O, errors: &mut E) {
         if let Some(settled) = guest.settled() {
-            let printed = match self.line(guest.peer, settled) {
-                Ok(line) => self.print(&line, output),
-                Err(failure) => Err(failure),
-            };
-            self.dropped = match printed {
+            self.dropped = match self.say_settled(guest.peer, settled, output) {
                 Ok(()) => 0,
                 Err(_) => self.dropped.saturating_add(1),
             };
             warn_of_number(self.rt.alloc(), errors, settled.foreign());
         }
+    }
+
+    // Prints the line of a session that was done. The fault is that of `line_of`, or of `print`.
+    fn say_settled<O: Write>(
+        &mut self,
+        peer: PeerAddress,
+        settled: &Settled,
+        output: &mut O,
+    ) -> Result<(), Failure> {
+        let moment = Moment::now(self.rt);
+        let line = line_of(self.rt.alloc(), moment, peer, settled, &mut self.kept)?;
+        self.print(&line, output)
     }
 
     // Prints a line, and before it how many were dropped, where any were. The fault is `Write`, also where the output has no
@@ -359,40 +392,11 @@ where
                 "{} lines dropped {}\n",
                 Moment::now(self.rt),
                 self.dropped
-            )?;
-            lines.extend_from_slice(text.as_bytes())?;
+            );
+            append_text(&mut lines, text)?;
         }
         lines.extend_from_slice(line)?;
         Ok(write_out(output, &lines)?)
-    }
-
-    // The line of a session that was done: when and whose it was, how many operations are new and how many there are, the first
-    // digits of their digest, by whom the new ones are, and which dots are used twice since, as far as a line may be long; and how
-    // many authors are left out of its clock.
-    fn line(&mut self, peer: PeerAddress, settled: &Settled) -> Result<Vec<u8>, Failure> {
-        let alloc = self.rt.alloc();
-        let mut line = Vec::new(alloc);
-        let front = format!(in alloc; "{} peer {peer} ", Moment::now(self.rt))?;
-        line.extend_from_slice(front.as_bytes())?;
-        line.extend_from_slice(settled.saved.text.trim_ascii_end())?;
-        line.extend_from_slice(b" digest ")?;
-        let digits = self.kept.digest(alloc)?;
-        line.extend_from_slice(digits.get(..DIGITS).unwrap_or(digits))?;
-        for (at, share) in settled.news.iter().enumerate() {
-            let mark = if at == 0 { ';' } else { ',' };
-            if line.len() > LONGEST {
-                let rest = settled.news.len().saturating_sub(at);
-                let text = format!(in alloc; "{mark} and {rest} authors")?;
-                line.extend_from_slice(text.as_bytes())?;
-                break;
-            }
-            let text = format!(in alloc; "{mark} {} by {}", share.count, share.author)?;
-            line.extend_from_slice(text.as_bytes())?;
-        }
-        append_forks(alloc, &mut line, &settled.forks)?;
-        append_cut(alloc, &mut line, self.kept.cut())?;
-        line.extend_from_slice(b"\n")?;
-        Ok(line)
     }
 
     // Closes the connection of a session that a fault ended, and says which. What came before is saved, but not after
@@ -401,69 +405,36 @@ where
         let peer = guest.peer;
         let is_to_save = guest.settled().is_none() && is_of_peer(&failure);
         let brought = guest.into_brought();
-        let mut failure = failure;
-        if is_to_save && !brought.is_empty() {
-            let authors = self.endpoint.allowance.authors;
-            let state = self.endpoint.state;
-            match self.kept.settle(self.rt, state, &brought, authors) {
-                Ok(settled) => warn_of_number(self.rt.alloc(), errors, settled.foreign()),
-                Err(why) => failure = unsaved(self.rt.alloc(), failure, &why),
-            }
-        }
+        let failure = if is_to_save && !brought.is_empty() {
+            self.salvaged(&brought, failure, errors)
+        } else {
+            failure
+        };
         say_failure(self.rt, errors, peer, failure);
     }
-}
 
-// Appends the dots that are used twice, as far as a line may be long.
-fn append_forks(alloc: Global, line: &mut Vec<u8>, forks: &[Dot]) -> Result<(), AllocError> {
-    for (at, dot) in forks.iter().enumerate() {
-        let mark = if at == 0 { "; fork" } else { "," };
-        if line.len() > LONGEST {
-            let rest = forks.len().saturating_sub(at);
-            let text = format!(in alloc; "{mark} and {rest} forks")?;
-            return line.extend_from_slice(text.as_bytes());
+    // Saves what came before a session ended by this failure, and gives the failure.
+    fn salvaged<E: Write>(
+        &mut self,
+        brought: &Record<Global>,
+        failure: Failure,
+        errors: &mut E,
+    ) -> Failure {
+        let authors = self.endpoint.allowance.authors;
+        let state = self.endpoint.state;
+        match self.kept.settle(self.rt, state, brought, authors) {
+            Ok(settled) => {
+                warn_of_number(self.rt.alloc(), errors, settled.foreign());
+                failure
+            }
+            Err(why) => unsaved(self.rt.alloc(), failure, &why),
         }
-        let text = format!(in alloc; "{mark} {}.{}", dot.author(), dot.number())?;
-        line.extend_from_slice(text.as_bytes())?;
     }
-    Ok(())
-}
-
-// Appends how many authors a clock leaves out, where it does.
-fn append_cut(alloc: Global, line: &mut Vec<u8>, cut: usize) -> Result<(), AllocError> {
-    if cut == 0 {
-        return Ok(());
-    }
-    let text = format!(in alloc; "; clock cut by {cut} authors")?;
-    line.extend_from_slice(text.as_bytes())
 }
 
 // When a guest gives way that was last heard then.
 fn way_given(heard: Instant) -> Option<Instant> {
     heard.checked_add(Duration::from_secs(SILENCE))
-}
-
-// Listens at the location without waiting, and reports each connection under the token of the listener. The fault is `Net`.
-fn listening<R>(rt: &R, location: Location<'_>) -> Result<(Door, Poll), Failure>
-where
-    R: Files + AllocGlobal + Net<Stream = TcpStream, Listener = TcpListener>,
-{
-    let listener = bound(rt, location)?;
-    match polled(rt, listener) {
-        Ok(both) => Ok(both),
-        Err(error) => Err(unserved(rt.alloc(), location.name(), error)),
-    }
-}
-
-// Has the listener's connections reported, and waits for none.
-fn polled<R>(rt: &R, listener: Listener) -> io::Result<(Door, Poll)>
-where
-    R: Net<Stream = TcpStream, Listener = TcpListener>,
-{
-    let mut door = Door::of(listener)?;
-    let poll = Poll::new(rt)?;
-    door.register(poll.registry(), LISTENER)?;
-    Ok((door, poll))
 }
 
 // Says why a session ended early, and what that means.

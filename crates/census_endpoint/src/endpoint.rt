@@ -57,7 +57,7 @@ pub struct Endpoint<'a> {
 }
 
 /// Listens at the location. The fault is `Net`.
-pub(crate) fn bound<R>(rt: &R, location: Location<'_>) -> Result<Listener, Failure>
+pub fn bound<R>(rt: &R, location: Location<'_>) -> Result<Listener, Failure>
 where
     R: Files + AllocGlobal + Net<Stream = TcpStream, Listener = TcpListener>,
 {
@@ -73,28 +73,40 @@ where
     }
 }
 
-// Makes a socket at the path, in place of one at which nobody listens any more. Whoever comes before its permissions are these is
-// sent away.
+// Makes a socket at the path, with these permissions. Whoever comes before it has them is sent away.
 fn bound_at<R>(rt: &R, path: &str, mode: u32) -> io::Result<UnixListener>
 where
     R: Files + AllocGlobal + Net<Stream = TcpStream, Listener = TcpListener>,
 {
-    let listener = match UnixListener::bind(rt, path) {
+    let listener = placed(rt, path)?;
+    fs::set_permissions(rt, path, Permissions::from_mode(mode))?;
+    turn_away(&listener)?;
+    Ok(listener)
+}
+
+// Makes a socket at the path, in place of one at which nobody listens any more.
+fn placed<R>(rt: &R, path: &str) -> io::Result<UnixListener>
+where
+    R: Files + AllocGlobal + Net<Stream = TcpStream, Listener = TcpListener>,
+{
+    match UnixListener::bind(rt, path) {
         Err(error) if error.kind() == ErrorKind::AddrInUse && is_left(rt, path) => {
             fs::remove_file(rt, path)?;
-            UnixListener::bind(rt, path)?
+            UnixListener::bind(rt, path)
         }
-        done => done?,
-    };
-    fs::set_permissions(rt, path, Permissions::from_mode(mode))?;
+        done => done,
+    }
+}
+
+// Sends away whoever waits to be taken.
+fn turn_away(listener: &UnixListener) -> io::Result<()> {
     listener.set_nonblocking(true)?;
     for _ in 0..WAITING {
         if listener.accept().is_err() {
             break;
         }
     }
-    listener.set_nonblocking(false)?;
-    Ok(listener)
+    listener.set_nonblocking(false)
 }
 
 // Whether a socket stands at the path at which nobody listens. A hub that listens there takes no notice of that.
@@ -112,7 +124,7 @@ where
 }
 
 /// Takes the socket away again that was made at the location, where it is one.
-pub(crate) fn leave<R: Files>(rt: &R, location: Location<'_>) {
+pub fn leave<R: Files>(rt: &R, location: Location<'_>) {
     if let Location::Socket { path, .. } = location {
         let _ = fs::remove_file(rt, path);
     }
@@ -120,11 +132,7 @@ pub(crate) fn leave<R: Files>(rt: &R, location: Location<'_>) {
 
 /// Connects to what is at the location, or to the first of an address's places that answers within the peer's patience. Where
 /// nobody listens, it is tried again for two seconds, since a server may be just starting. The fault is `Net`.
-pub(crate) fn connected<R>(
-    rt: &R,
-    location: Location<'_>,
-    patience: Patience,
-) -> Result<Stream, Failure>
+pub fn connected<R>(rt: &R, location: Location<'_>, patience: Patience) -> Result<Stream, Failure>
 where
     R: AllocGlobal + Net<Stream = TcpStream, Listener = TcpListener> + Clock,
 {
@@ -195,7 +203,7 @@ where
 }
 
 /// The next connection. The fault is `Net`.
-pub(crate) fn accepted<R: AllocGlobal>(
+pub fn accepted<R: AllocGlobal>(
     rt: &R,
     listener: &Listener,
     location: Location<'_>,

@@ -1,15 +1,15 @@
 //! What a hub keeps of its state between sessions.
 
-use crate::record_file::{Saved, Standing, record_of, save_grown, save_held};
-use crate::shares::{Share, count_of, news, shares};
+use crate::shares::Share;
+use crate::tally::Tally;
+use census_endpoint::{Saved, Standing, record_of, save_grown, save_held};
 use census_failure::Failure;
 use census_files::StateFile;
-use census_fold::{authors_cut, check_authors, new_forks, record_digest};
+use census_fold::{check_authors, record_digest};
 use census_state::{Fault, unchanged};
 use oct_answer::Snapshot;
 use oct_ops::Dot;
 use oct_record::Record;
-use oct_store::Fork;
 use std::alloc::Global;
 use std::fs::File;
 use std::rc::Rc;
@@ -22,16 +22,12 @@ pub(crate) struct Kept {
     said: Record<Global>,
     /// What it holds, as those are sent it whose clocks came since it changed.
     snapshot: Option<Rc<Snapshot<Global>, Global>>,
-    /// How many of its operations are by each author.
-    shares: Vec<Share>,
-    /// The dots that are used twice in it.
-    forks: Vec<Fork>,
+    /// By whom its operations are, and which dots are used twice in it.
+    tally: Tally,
     /// Its digest, where somebody asked for it since it changed.
     digest: Option<Vec<u8>>,
     /// How often what it says was changed or read again.
     revision: u64,
-    /// How many authors are left out of its clock.
-    cut: usize,
     standing: Standing,
 }
 
@@ -64,11 +60,9 @@ impl Kept {
         let bytes = standing.read(rt.alloc(), state)?;
         let said = record_of(rt.alloc(), state, &bytes)?;
         Ok(Kept {
-            shares: shares(rt.alloc(), &said)?,
-            forks: said.store().forks()?,
+            tally: Tally::of(rt.alloc(), &said)?,
             digest: None,
             revision: 0,
-            cut: authors_cut(&said)?,
             snapshot: None,
             said,
             standing,
@@ -171,7 +165,7 @@ impl Kept {
 
     /// How many authors are left out of the clock of what is saved.
     pub(crate) fn cut(&self) -> usize {
-        self.cut
+        self.tally.cut()
     }
 
     // The same, while no other command changes the file, which is read first where it is not known.
@@ -232,26 +226,27 @@ impl Kept {
     where
         R: Files<File = File> + AllocGlobal,
     {
-        check_authors(&self.said, self.shares.len(), authors)?;
+        check_authors(&self.said, self.tally.authors(), authors)?;
         let alloc = rt.alloc();
-        let shares = shares(alloc, &self.said)?;
-        let news = news(alloc, &self.shares, &shares)?;
-        let twice = self.said.store().forks()?;
-        let forks = new_forks(alloc, &self.forks, &twice)?;
-        let cut = authors_cut(&self.said)?;
-        let saved = self.write_grown(rt, file, state, before, &shares)?;
-        self.cut = cut;
-        self.shares = shares;
-        self.forks = twice;
-        self.digest = None;
-        let revision = self.revision;
-        self.revision = revision.saturating_add(1);
+        let tally = Tally::of(alloc, &self.said)?;
+        let news = tally.news(alloc, &self.tally)?;
+        let forks = tally.new_forks(alloc, &self.tally)?;
+        let saved = self.write_grown(rt, file, state, before, &tally)?;
         Ok(Settled {
             saved,
             news,
             forks,
-            before: revision,
+            before: self.renewed(tally),
         })
+    }
+
+    // Takes this for what is known of what is saved now, and gives the revision of what was saved before.
+    fn renewed(&mut self, tally: Tally) -> u64 {
+        self.tally = tally;
+        self.digest = None;
+        let before = self.revision;
+        self.revision = before.saturating_add(1);
+        before
     }
 
     // Writes all where the file holds what was there before, and nothing else. It is not read again, unless an operation came by
@@ -262,13 +257,13 @@ impl Kept {
         file: &StateFile,
         state: &str,
         before: usize,
-        shares: &[Share],
+        tally: &Tally,
     ) -> Result<Saved, Failure>
     where
         R: Files<File = File> + AllocGlobal,
     {
         let author = self.said.author();
-        if count_of(shares, author) != count_of(&self.shares, author) {
+        if tally.count_of(author) != self.tally.count_of(author) {
             return save_held(rt, file, state, &self.said);
         }
         save_grown(rt, file, state, before, &self.said)
