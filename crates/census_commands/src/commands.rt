@@ -1,94 +1,28 @@
-//! The commands of the program: each in a file of its own, with its row of the table, what its words ask for, and what it does.
+//! The commands of the program, from all crates of commands: what each asks for, and where its row stands in the help.
 //!
-//! What is said of a command beside its file stands here: its module, its case of `Task`, which command reads it from the words
-//! and does it, and where its row stands in the help. What many commands have in common is outside: `change` and `ask` do a
-//! request to a state.
+//! What is said of a command beside its file stands here: its case of `Task`, which command reads it from the words and does it,
+//! and its chapter. The `use` lines say in which crate a command stands.
 
-use crate::endpoint::Meeting;
-use crate::position::Position;
-use crate::readers::Readers;
-use crate::watched;
-use census_core::{Fault, Form, Wanted};
+use crate::{completion, explain, manual, watched};
+use census_by_files::{delta, diff, digest, fold, left, log, merge, read, union};
+use census_core::Fault;
 use census_failure::Failure;
-use census_files::Out;
-use census_net::{Endpoint, Limits};
-use census_requests::System;
+use census_own_state::{
+    claim, compute, extend, import, init, note, period, renumber, status, survey, unnote,
+};
+use census_published::{bfile, find, games, json, page, plot, report, show, site, sqlite};
 use census_requests::ask::Ask;
 use census_requests::change::Change;
 use census_requests::viewing::Viewed;
+use census_requests::{Readers, System};
+use census_searches::position::Position;
+use census_searches::{check, recheck, search, value, winning_move};
+use census_sessions::{hub, serve, sync};
 use census_words::{Chapter, CommandRow, Shell};
 use clap::ArgMatches;
-use oct_code::Code;
-use oct_sync::Role;
-use std::alloc::Global;
 use std::io::{Read, Write};
 use std::random::RandomSource;
 use std::rt::Files;
-
-// What is said of all sessions, between two texts.
-macro_rules! of_sessions {
-    ($front:literal, $back:literal) => {
-        concat!(
-            $front,
-            "\
-What other commands add to the state meanwhile stays. The state is saved also where a session ends
-early. The connection is neither encrypted nor authenticated: an address other than the loopback is
-for a trusted network or a tunnel.
-",
-            $back
-        )
-    };
-}
-
-pub(crate) mod bfile;
-pub(crate) mod check;
-pub(crate) mod claim;
-pub(crate) mod completion;
-pub(crate) mod compute;
-pub(crate) mod delta;
-pub(crate) mod diff;
-pub(crate) mod digest;
-pub(crate) mod explain;
-pub(crate) mod extend;
-pub(crate) mod find;
-pub(crate) mod fold;
-pub(crate) mod games;
-pub(crate) mod hub;
-pub(crate) mod import;
-pub(crate) mod init;
-pub(crate) mod json;
-pub(crate) mod left;
-pub(crate) mod log;
-pub(crate) mod manual;
-pub(crate) mod merge;
-pub(crate) mod note;
-pub(crate) mod page;
-pub(crate) mod period;
-pub(crate) mod plot;
-pub(crate) mod read;
-pub(crate) mod recheck;
-pub(crate) mod renumber;
-pub(crate) mod report;
-pub(crate) mod search;
-pub(crate) mod serve;
-pub(crate) mod show;
-pub(crate) mod site;
-pub(crate) mod sqlite;
-pub(crate) mod status;
-pub(crate) mod survey;
-pub(crate) mod sync;
-pub(crate) mod union;
-pub(crate) mod unnote;
-pub(crate) mod value;
-pub(crate) mod winning_move;
-
-use diff::Compared;
-use games::Asked;
-use left::Left;
-use plot::Drawn;
-use recheck::Recheck;
-use search::Searched;
-use site::Site;
 
 /// What a command line asks for. Names of files and addresses are as they stand there.
 #[derive(Drop)]
@@ -96,52 +30,29 @@ pub enum Task<'a> {
     /// The catalogue of the lines of standard input.
     Fold,
     /// The catalogue of what files hold together.
-    Read {
-        files: Vec<&'a str>,
-    },
+    Read { files: Vec<&'a str> },
     /// What was said in files: the operations that are wanted.
-    Log {
-        files: Vec<&'a str>,
-        wanted: Wanted<Global>,
-    },
+    Log(log::Log<'a>),
     /// What one file has and another has not.
-    Diff(Compared<'a>),
+    Diff(diff::Compared<'a>),
     /// The games of a list that lack values in files.
-    Left(Left<'a>),
+    Left(left::Left<'a>),
     /// What a state file holds, in a few lines.
-    Status {
-        state: &'a str,
-        is_full: bool,
-    },
-    /// The period of each game.
-    Search(Searched<'a>),
+    Status(status::Status<'a>),
+    /// The period of each game, or the first values of one, as a b-file.
+    Search(search::Search<'a>),
     /// The long periods that notes of a state say, searched again.
-    Recheck(Recheck<'a>),
-    /// The first values of a game, as a b-file.
-    List {
-        count: u64,
-        code: Code,
-    },
+    Recheck(recheck::Recheck<'a>),
     /// How the values of a b-file compare with those of a game.
-    Check {
-        code: &'a str,
-        file: &'a str,
-    },
+    Check(check::Check<'a>),
     /// What faults mean.
-    Explain {
-        words: Vec<&'a str>,
-    },
+    Explain { words: Vec<&'a str> },
     /// The completions for a shell.
-    Completion {
-        shell: Shell,
-    },
+    Completion { shell: Shell },
     /// The page of the manual.
     Manual,
     /// A new state file of this author.
-    Init {
-        state: &'a str,
-        id: u32,
-    },
+    Init(init::NewState<'a>),
     /// A command that changes a state file.
     Change(Change<'a>),
     /// A command that reads a state file.
@@ -150,43 +61,24 @@ pub enum Task<'a> {
     Position(Position<'a>),
     /// What a state file says, in a view.
     View(Viewed<'a>),
-    /// The picture of some heaps of a game of a state file.
-    Draw(Drawn<'a>),
+    /// The picture of a game of a state file, or of some of its heaps.
+    Plot(plot::Picture<'a>),
     /// What is listed of games of a state file.
-    Games(Asked<'a>),
+    Games(games::Asked<'a>),
     /// The union of delta files as one.
-    Union {
-        out: Out<'a>,
-        deltas: Vec<&'a str>,
-    },
+    Union(union::Union<'a>),
     /// The site of a state file, in a folder.
-    Site(Site<'a>),
+    Site(site::Site<'a>),
     /// The script that makes a database of a state file, and the file that it is written to, where one is named.
-    Sqlite {
-        state: &'a str,
-        out: Option<Out<'a>>,
-    },
+    Sqlite(sqlite::Script<'a>),
     /// The digest of each file.
-    Digest {
-        files: Vec<&'a str>,
-        form: Form,
-    },
+    Digest(digest::Digest<'a>),
     /// One session with a replica that connects.
-    Serve {
-        meeting: Meeting<'a>,
-        is_quiet: bool,
-    },
+    Serve(serve::Served<'a>),
     /// One session with a replica that serves, as this kind of client.
-    Sync {
-        meeting: Meeting<'a>,
-        role: Role,
-        is_quiet: bool,
-    },
+    Sync(sync::Synced<'a>),
     /// A session with each of the replicas that connect, within these limits.
-    Hub {
-        endpoint: Endpoint<'a>,
-        limits: Limits,
-    },
+    Hub(hub::Hub<'a>),
 }
 
 /// What the command of this name asks for with these words.
@@ -201,50 +93,57 @@ where
     I: Read,
 {
     let alloc = rt.alloc();
-    match name {
-        "fold" => Ok(Task::Fold),
-        "read" => read::task(alloc, found),
-        "log" => log::task(alloc, found),
-        "diff" => diff::task(rt, found, input),
-        "left" => left::task(alloc, found),
-        "status" => status::task(found),
-        "search" => search::task(rt, found, input),
-        "recheck" => recheck::task(alloc, found),
-        "check" => check::task(found),
-        "explain" => explain::task(alloc, found),
-        "completion" => completion::task(alloc, found),
-        "manual" => Ok(Task::Manual),
-        "init" => init::task(rt, found),
-        "renumber" => renumber::task(rt, found),
-        "import" => import::task(found),
-        "claim" => claim::task(alloc, found),
-        "compute" => compute::task(alloc, found),
-        "extend" => extend::task(rt, found, input),
-        "survey" => survey::task(rt, found, input),
-        "period" => period::task(alloc, found),
-        "note" => note::task(alloc, found),
-        "unnote" => unnote::task(alloc, found),
-        "show" => show::task(rt, found, input),
-        "games" => games::task(rt, found, input),
-        "page" => page::task(alloc, found),
-        "find" => find::task(rt, found, input),
-        "value" => value::task(alloc, found),
-        "move" => winning_move::task(alloc, found),
-        "bfile" => bfile::task(alloc, found),
-        "plot" => plot::task(alloc, found),
-        "json" => json::task(rt, found, input),
-        "sqlite" => sqlite::task(found),
-        "report" => report::task(rt, found, input),
-        "site" => site::task(found),
-        "delta" => delta::task(rt, found, input),
-        "merge" => merge::task(found),
-        "union" => union::task(alloc, found),
-        "digest" => digest::task(alloc, found),
-        "serve" => serve::task(alloc, found),
-        "sync" => sync::task(alloc, found),
-        "hub" => hub::task(alloc, found),
-        _ => Err(Failure::from(Fault::Words)),
-    }
+    let task = match name {
+        "fold" => Task::Fold,
+        "read" => Task::Read {
+            files: read::task(alloc, found)?,
+        },
+        "log" => Task::Log(log::task(alloc, found)?),
+        "diff" => Task::Diff(diff::task(rt, found, input)?),
+        "left" => Task::Left(left::task(alloc, found)?),
+        "status" => Task::Status(status::task(found)?),
+        "search" => Task::Search(search::task(rt, found, input)?),
+        "recheck" => Task::Recheck(recheck::task(alloc, found)?),
+        "check" => Task::Check(check::task(found)?),
+        "explain" => Task::Explain {
+            words: explain::task(alloc, found)?,
+        },
+        "completion" => Task::Completion {
+            shell: completion::task(alloc, found)?,
+        },
+        "manual" => Task::Manual,
+        "init" => Task::Init(init::task(rt, found)?),
+        "renumber" => Task::Change(renumber::task(rt, found)?),
+        "import" => Task::Change(import::task(found)?),
+        "claim" => Task::Change(claim::task(alloc, found)?),
+        "compute" => Task::Change(compute::task(alloc, found)?),
+        "extend" => Task::Change(extend::task(rt, found, input)?),
+        "survey" => Task::Change(survey::task(rt, found, input)?),
+        "period" => Task::Change(period::task(alloc, found)?),
+        "note" => Task::Change(note::task(alloc, found)?),
+        "unnote" => Task::Change(unnote::task(alloc, found)?),
+        "show" => Task::View(show::task(rt, found, input)?),
+        "games" => Task::Games(games::task(rt, found, input)?),
+        "page" => Task::Ask(page::task(alloc, found)?),
+        "find" => Task::Ask(find::task(rt, found, input)?),
+        "value" => Task::Position(value::task(alloc, found)?),
+        "move" => Task::Position(winning_move::task(alloc, found)?),
+        "bfile" => Task::Ask(bfile::task(alloc, found)?),
+        "plot" => Task::Plot(plot::task(alloc, found)?),
+        "json" => Task::View(json::task(rt, found, input)?),
+        "sqlite" => Task::Sqlite(sqlite::task(found)?),
+        "report" => Task::View(report::task(rt, found, input)?),
+        "site" => Task::Site(site::task(found)?),
+        "delta" => Task::Ask(delta::task(rt, found, input)?),
+        "merge" => Task::Change(merge::task(found)?),
+        "union" => Task::Union(union::task(alloc, found)?),
+        "digest" => Task::Digest(digest::task(alloc, found)?),
+        "serve" => Task::Serve(serve::task(alloc, found)?),
+        "sync" => Task::Sync(sync::task(alloc, found)?),
+        "hub" => Task::Hub(hub::task(alloc, found)?),
+        _ => return Err(Failure::from(Fault::Words)),
+    };
+    Ok(task)
 }
 
 /// Does the task, and gives the exit status: 0, or 1 where a file was checked and is not right.
@@ -265,58 +164,57 @@ where
     let audience = readers.audience;
     match task {
         Task::Fold => status_of(fold::run(rt.alloc(), input, output, errors)),
-        Task::Read { files } => status_of(watched::read(rt, files, output, errors, audience)),
+        Task::Read { files } => status_of(census_by_files::watched::read(
+            rt, files, output, errors, audience,
+        )),
         Task::View(viewed) => status_of(watched::view(rt, viewed, output, errors, audience)),
-        Task::Log { files, wanted } => status_of(log::run(rt, files, wanted, output)),
+        Task::Log(asked) => status_of(log::run(rt, asked, output)),
         Task::Diff(asked) => diff::run(rt, asked, input, output),
         Task::Left(asked) => status_of(left::run(rt, asked, input, output)),
-        Task::Status { state, is_full } => status_of(status::run(rt, state, *is_full, output)),
-        Task::Search(asked) => status_of(watched::search(rt, asked, output, errors, audience)),
-        Task::Recheck(asked) => watched::recheck(rt, asked, output, errors, audience),
-        Task::List { count, code } => {
-            status_of(watched::list(rt, *code, *count, output, errors, audience))
+        Task::Status(asked) => status_of(status::run(rt, asked, output)),
+        Task::Search(asked) => status_of(census_searches::watched::search(
+            rt, asked, output, errors, audience,
+        )),
+        Task::Recheck(asked) => {
+            census_searches::watched::recheck(rt, asked, output, errors, audience)
         }
-        Task::Check { code, file } => {
-            watched::check(rt, code, file, input, output, errors, audience)
+        Task::Check(asked) => {
+            census_searches::watched::check(rt, asked, input, output, errors, audience)
         }
         Task::Manual => status_of(manual::run(rt.alloc(), output)),
         Task::Completion { shell } => status_of(completion::run(rt.alloc(), *shell, output)),
         Task::Explain { words } => status_of(explain::run(rt.alloc(), words, output)),
-        Task::Init { state, id } => status_of(init::run(rt, state, *id, output)),
+        Task::Init(asked) => status_of(init::run(rt, asked, output)),
         Task::Change(asked) => {
             status_of(watched::change(rt, asked, input, output, errors, audience))
         }
         Task::Ask(asked) => status_of(watched::ask(rt, asked, output, errors, audience)),
-        Task::Position(asked) => status_of(watched::position(rt, asked, output, errors, audience)),
-        Task::Draw(asked) => status_of(plot::run(rt, asked, output)),
-        Task::Games(asked) => status_of(watched::games(rt, asked, output, errors, readers)),
-        Task::Union { out, deltas } => {
-            status_of(watched::union(rt, *out, deltas, input, output, errors, audience))
-        }
-        Task::Site(asked) => watched::site(rt, asked, errors, audience),
-        Task::Sqlite { state, out } => {
-            status_of(watched::sqlite(rt, state, *out, output, errors, audience))
-        }
-        Task::Digest { files, form } => {
-            status_of(watched::digest(rt, files, *form, output, errors, audience))
-        }
-        Task::Serve { meeting, is_quiet } => {
-            let is_quiet = *is_quiet;
-            status_of(watched::serve(rt, *meeting, is_quiet, input, output, errors, audience))
-        }
-        Task::Sync {
-            meeting,
-            role,
-            is_quiet,
-        } => {
-            let (role, is_quiet) = (*role, *is_quiet);
-            status_of(watched::sync(
-                rt, *meeting, role, is_quiet, input, output, errors, audience,
-            ))
-        }
-        Task::Hub { endpoint, limits } => {
-            status_of(census_net::hub(rt, *endpoint, *limits, output, errors))
-        }
+        Task::Position(asked) => status_of(census_searches::watched::position(
+            rt, asked, output, errors, audience,
+        )),
+        Task::Plot(asked) => status_of(census_published::watched::plot(
+            rt, asked, output, errors, audience,
+        )),
+        Task::Games(asked) => status_of(census_published::watched::games(
+            rt, asked, output, errors, readers,
+        )),
+        Task::Union(asked) => status_of(census_by_files::watched::union(
+            rt, asked, input, output, errors, audience,
+        )),
+        Task::Site(asked) => census_published::watched::site(rt, asked, errors, audience),
+        Task::Sqlite(asked) => status_of(census_published::watched::sqlite(
+            rt, asked, output, errors, audience,
+        )),
+        Task::Digest(asked) => status_of(census_by_files::watched::digest(
+            rt, asked, output, errors, audience,
+        )),
+        Task::Serve(asked) => status_of(census_sessions::watched::serve(
+            rt, asked, input, output, errors, audience,
+        )),
+        Task::Sync(asked) => status_of(census_sessions::watched::sync(
+            rt, asked, input, output, errors, audience,
+        )),
+        Task::Hub(asked) => status_of(hub::run(rt, asked, output, errors)),
     }
 }
 

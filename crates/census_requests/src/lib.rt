@@ -9,13 +9,15 @@
 //! - `viewing` shows what a state says, as it is made.
 //! - `noting` issues notes of periods that no period claim proves, and `rechecking` gives those that are there, and searches again
 //!   for the periods that they say.
-//! - `printing` has what several commands print, and `System` is what all of it asks of the machine.
+//! - `printing` has what several commands print, `System` is what all of it asks of the machine, and `Readers` are who reads what
+//!   is written.
 #![tactic(auto)]
 
 pub mod ask;
 pub mod change;
 mod noting;
 mod printing;
+mod readers;
 mod rechecking;
 mod system;
 mod undone;
@@ -24,6 +26,7 @@ pub mod viewing;
 
 pub use noting::{check_state, note_found};
 pub use printing::{print_file, print_unless, tell_done};
+pub use readers::Readers;
 pub use rechecking::{notes_of, recheck_long};
 pub use system::System;
 pub use unknown::one_code;

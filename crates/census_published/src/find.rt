@@ -1,0 +1,44 @@
+//! `census find`: the period that known values prove.
+
+use census_arguments::{form, listed};
+use census_core::Request;
+use census_failure::Failure;
+use census_requests::ask::{Ask, asking};
+use census_words::{CommandRow, words};
+use clap::ArgMatches;
+use std::io::Read;
+use std::rt::Files;
+
+/// Its row in the table.
+pub const ROW: CommandRow = CommandRow {
+    name: "find",
+    words: &[words::STATE, words::CODES],
+    options: &[words::LIST, words::PART, words::EACH_JSON],
+    line: "The period that the known values of each game prove",
+    about: "Says which period the known values of each game prove",
+    after: "\
+A line for each game names the least period P that its known values prove, the least heap E from
+which on it holds, and how many values prove it: 2E + 2P + k, k the number of digits of the code. Or
+it says `no period in N values`, as many as are known. A period that is named holds for all heaps.
+The state stays as it is. With --json a line is an object, whose `period` is null where there is none.
+The games are named as for extend.
+
+Exit status: 0 done (also where there is no period), 1 refused: Load (the state), Code;
+2 command line, 3 file, 4 memory
+
+Example:
+  census find anna.state 0.77",
+};
+
+/// What its words ask for.
+pub fn task<'a, R, I>(rt: &R, found: &ArgMatches<'a>, input: &mut I) -> Result<Ask<'a>, Failure>
+where
+    R: Files + AllocGlobal,
+    I: Read,
+{
+    let request = Request::Find {
+        codes: listed(rt, found, words::CODES.name, input)?,
+        form: form(found),
+    };
+    asking(found, None, request)
+}
