@@ -1,6 +1,6 @@
 # make             proves and builds the program
 # make test        every test that runs the program, in some minutes and with no kit; it builds nothing
-# make check       every proof from nothing, and then these tests, some of them in a longer form; .ci/run also tries all wrong bodies
+# make check       every proof from nothing, and then these tests, some of them in a longer form; .ci/run also tries the wrong bodies
 # make install     the executable, its page of the manual and its completions for shells, below PREFIX
 # make dist        makes the build the released executable
 # make web         proves and builds the module of the web page, and puts it there
