@@ -5,7 +5,7 @@ use Rattle.std.proofs.lemmas.List.{get_or_default}
 use Rattle.std.specs.List.{Contains}
 use Rattle.oct_code.specs.Code.{Code, len, allows}
 use Rattle.oct_mex.proofs.NimValues.{get-before, get-end}
-use Rattle.oct_sets.specs.Plans.{AddsSteps, HasHeap, HasStep, HasStepIn, IsEndStep, IsStepOver, IsHeapStep, IsPairStep, IsShapedPlan, IsShapedSteps}
+use Rattle.oct_sets.specs.Plans.{AddsSteps, HasHeap, HasStep, HasStepIn, IsEndStep, IsStepOver, IsHeapStep, IsOffsetOf, IsPairStep, IsShapedFar, IsShapedPlan, IsShapedSteps, IsSmallStep}
 use Rattle.oct_sets.specs.declared.plan.Plan.{Plan}
 use Rattle.oct_sets.specs.declared.plan.TheConstants.{BLOCK, LOW}
 use Rattle.oct_sets.specs.declared.sorted.SmallHeap.{SmallHeap}
@@ -64,79 +64,157 @@ steps_more limit low high o v old new shaped offsets values least most small = r
   small = each_push old.values.items new.values.items v (λ x. x < limit) values shaped.small small;
 }
 
--- ---- one step more stands for all moves that leave the heap
+-- ---- one step more stands for all moves that leave the heap, or its twin
 
-module _ {A : Type 0} (c : Code) (old new : Steps A) (o v : ℕ) (beside : length old.values.items ≡ length old.offsets.items)
+-- a move that leaves a heap of this offset, whose value is v, besides
+pub record IsOver (c : Code) (back apart o v d x : ℕ) : Type 0 where
+  pub heap : ℕ
+  pub of : IsOffsetOf back apart o heap
+  pub pair : IsPairStep c heap v (len c + 1) d x
+
+module _ {A : Type 0} (c : Code) (back apart : ℕ) (old new : Steps A) (o v : ℕ) (beside : length old.values.items ≡ length old.offsets.items)
     (offsets : new.offsets.items ≡ old.offsets.items ++ o ∷ []) (values : new.values.items ≡ old.values.items ++ v ∷ []) where
-  over_kept : (d x : ℕ) → IsStepOver c old d x → IsStepOver c new d x
-  over_kept d x f = record { removed = f.removed; heap = f.heap; few = f.few; allowed = f.allowed; step = step_kept old new o v beside offsets values f.heap x f.step; offset = f.offset }
-
-  over_has : (d x : ℕ) → IsPairStep c o v (len c + 1) d x → IsStepOver c new d x
-  over_has d x is = record {
-    removed = is.removed;
-    heap = o;
-    few = omega (arith, is.few);
-    allowed = is.allowed;
-    step = subst (λ y. HasStepIn new o y) (sym is.is) (step_has old new o v beside offsets values);
-    offset = is.offset;
+  over_kept : (d x : ℕ) → IsStepOver c back apart old d x → IsStepOver c back apart new d x
+  over_kept d x f = record {
+    removed = f.removed;
+    heap = f.heap;
+    behind = f.behind;
+    few = f.few;
+    allowed = f.allowed;
+    step = step_kept old new o v beside offsets values f.behind x f.step;
+    over = f.over;
+    offset = f.offset;
   }
 
-  over_only : (d x : ℕ) → IsStepOver c new d x → IsStepOver c old d x ⊎ IsPairStep c o v (len c + 1) d x
-  over_only d x f = elim (step_only old new o v beside offsets values f.heap x f.step) [
-    | inl was ↦ inl (record { removed = f.removed; heap = f.heap; few = f.few; allowed = f.allowed; step = was; offset = f.offset })
-    | inr is ↦ inr (record { removed = f.removed; few = omega (arith, f.few); allowed = f.allowed; offset = omega (arith, f.offset, is.0); is = is.1 })
+  over_has : (d x : ℕ) → IsOver c back apart o v d x → IsStepOver c back apart new d x
+  over_has d x is = record {
+    removed = is.pair.removed;
+    heap = is.heap;
+    behind = o;
+    few = omega (arith, is.pair.few);
+    allowed = is.pair.allowed;
+    step = subst (λ y. HasStepIn new o y) (sym is.pair.is) (step_has old new o v beside offsets values);
+    over = is.of;
+    offset = is.pair.offset;
+  }
+
+  over_only : (d x : ℕ) → IsStepOver c back apart new d x → IsStepOver c back apart old d x ⊎ IsOver c back apart o v d x
+  over_only d x f = elim (step_only old new o v beside offsets values f.behind x f.step) [
+    | inl was ↦ inl (record { removed = f.removed; heap = f.heap; behind = f.behind; few = f.few; allowed = f.allowed; step = was; over = f.over; offset = f.offset })
+    | inr is ↦ inr (record {
+      heap = f.heap;
+      of = subst (λ k. IsOffsetOf back apart k f.heap) is.0 f.over;
+      pair = record { removed = f.removed; few = omega (arith, f.few); allowed = f.allowed; offset = f.offset; is = is.1 };
+    })
   ]
+
+-- a heap that is smaller than `back` is the one of its offset
+pub over_alone : (c : Code) (back apart o v : ℕ) → o < back → (d x : ℕ) → IsOver c back apart o v d x → IsPairStep c o v (len c + 1) d x
+over_alone c back apart o v less d x is = elim is.of [
+  | inl one ↦ subst (λ h. IsPairStep c h v (len c + 1) d x) one.1 is.pair
+  | inr two ↦ absurd (omega (arith, less, two.0))
+]
+
+pub alone_over : (c : Code) (back apart o v : ℕ) → o < back → (d x : ℕ) → IsPairStep c o v (len c + 1) d x → IsOver c back apart o v d x
+alone_over c back apart o v less d x is = record { heap = o; of = inl (less, refl); pair = is }
+
+pub over_twins : (c : Code) (back apart h v d x : ℕ) → IsOver c back apart (back + h) v d x → IsPairStep c h v (len c + 1) d x ⊎ IsPairStep c (h + apart) v (len c + 1) d x
+over_twins c back apart h v d x is = elim is.of [
+  | inl one ↦ absurd (omega (arith, one.0))
+  | inr two ↦ elim two.1 [
+    | inl first ↦ let e : is.heap ≡ h = omega (arith, first) in inl (subst (λ k. IsPairStep c k v (len c + 1) d x) e is.pair)
+    | inr second ↦ let e : is.heap ≡ h + apart = omega (arith, second) in inr (subst (λ k. IsPairStep c k v (len c + 1) d x) e is.pair)
+  ]
+]
+
+pub twins_over : (c : Code) (back apart h v d x : ℕ) → IsPairStep c h v (len c + 1) d x ⊎ IsPairStep c (h + apart) v (len c + 1) d x → IsOver c back apart (back + h) v d x
+twins_over c back apart h v d x is = elim is [
+  | inl first ↦ record { heap = h; of = inr (omega arith, inl (omega arith)); pair = first }
+  | inr second ↦ record { heap = h + apart; of = inr (omega arith, inr (omega arith)); pair = second }
+]
+
+over_as : {A : Type 0} (c : Code) (a b : Plan A) (s t : Steps A) (d x : ℕ) → a.back ≡ b.back → a.apart ≡ b.apart → s ≡ t → IsStepOver c a.back a.apart s d x → IsStepOver c b.back b.apart t d x
+over_as c a b s t d x back apart same is = subst (λ r. IsStepOver c b.back b.apart r d x) same (subst₂ (λ k j. IsStepOver c k j s d x) back apart is)
 
 -- ---- a plan with one more step
 
-module _ {A : Type 0} (c : Code) (old new : Plan A) (o v : ℕ) where
+module _ {A : Type 0} (c : Code) (old new : Plan A) (o v : ℕ) (back : new.back ≡ old.back) (apart : new.apart ≡ old.apart) where
+  kept_as : (s t : Steps A) → t ≡ s → (d x : ℕ) → IsStepOver c old.back old.apart s d x → IsStepOver c new.back new.apart t d x
+  kept_as s t same d x is = over_as c old new s t d x (sym back) (sym apart) (sym same) is
+
+  was_as : (s t : Steps A) → t ≡ s → (d x : ℕ) → IsStepOver c new.back new.apart t d x → IsStepOver c old.back old.apart s d x
+  was_as s t same d x is = over_as c new old t s d x back apart same is
+
   pub adds_near : new.far ≡ old.far → new.low ≡ old.low → length old.near.values.items ≡ length old.near.offsets.items
       → new.near.offsets.items ≡ old.near.offsets.items ++ o ∷ [] → new.near.values.items ≡ old.near.values.items ++ v ∷ [] → AddsSteps c old new (λ d x. (d ≡ o) × (x ≡ v))
   adds_near far low beside offsets values = record {
     keeps = λ d x h. elim h [
-      | inl over ↦ inl (subst₂ (λ f l. IsStepOver c f d x ⊎ IsStepOver c l d x) (sym far) (sym low) over)
+      | inl over ↦ inl (elim over [ inl f ↦ inl (kept_as old.far new.far far d x f) | inr l ↦ inr (kept_as old.low new.low low d x l) ])
       | inr n ↦ inr (step_kept old.near new.near o v beside offsets values d x n)
     ];
     has = λ d x is. inr (subst (λ e. HasStepIn new.near e x) (sym is.0) (subst (λ y. HasStepIn new.near o y) (sym is.1) (step_has old.near new.near o v beside offsets values)));
     only = λ d x h. elim h [
-      | inl over ↦ inl (inl (subst₂ (λ f l. IsStepOver c f d x ⊎ IsStepOver c l d x) far low over))
+      | inl over ↦ inl (inl (elim over [ inl f ↦ inl (was_as old.far new.far far d x f) | inr l ↦ inr (was_as old.low new.low low d x l) ]))
       | inr n ↦ elim (step_only old.near new.near o v beside offsets values d x n) [ inl was ↦ inl (inr was) | inr is ↦ inr is ]
     ];
   }
 
   pub adds_far : new.low ≡ old.low → new.near ≡ old.near → length old.far.values.items ≡ length old.far.offsets.items
-      → new.far.offsets.items ≡ old.far.offsets.items ++ o ∷ [] → new.far.values.items ≡ old.far.values.items ++ v ∷ [] → AddsSteps c old new (IsPairStep c o v (len c + 1))
+      → new.far.offsets.items ≡ old.far.offsets.items ++ o ∷ [] → new.far.values.items ≡ old.far.values.items ++ v ∷ [] → AddsSteps c old new (IsOver c old.back old.apart o v)
   adds_far low near beside offsets values = record {
     keeps = λ d x h. elim h [
-      | inl over ↦ inl (elim over [ inl f ↦ inl (over_kept c old.far new.far o v beside offsets values d x f) | inr l ↦ inr (subst (λ s. IsStepOver c s d x) (sym low) l) ])
+      | inl over ↦ inl (elim over [ inl f ↦ inl (kept_as new.far new.far refl d x (over_kept c old.back old.apart old.far new.far o v beside offsets values d x f)) | inr l ↦ inr (kept_as old.low new.low low d x l) ])
       | inr n ↦ inr (subst (λ s. HasStepIn s d x) (sym near) n)
     ];
-    has = λ d x is. inl (inl (over_has c old.far new.far o v beside offsets values d x is));
+    has = λ d x is. inl (inl (kept_as new.far new.far refl d x (over_has c old.back old.apart old.far new.far o v beside offsets values d x is)));
     only = λ d x h. elim h [
       | inl over ↦ elim over [
-        | inl f ↦ elim (over_only c old.far new.far o v beside offsets values d x f) [ inl was ↦ inl (inl (inl was)) | inr is ↦ inr is ]
-        | inr l ↦ inl (inl (inr (subst (λ s. IsStepOver c s d x) low l)))
+        | inl f ↦ elim (over_only c old.back old.apart old.far new.far o v beside offsets values d x (was_as new.far new.far refl d x f)) [ inl was ↦ inl (inl (inl was)) | inr is ↦ inr is ]
+        | inr l ↦ inl (inl (inr (was_as old.low new.low low d x l)))
       ]
       | inr n ↦ inl (inr (subst (λ s. HasStepIn s d x) near n))
     ];
   }
 
   pub adds_low : new.far ≡ old.far → new.near ≡ old.near → length old.low.values.items ≡ length old.low.offsets.items
-      → new.low.offsets.items ≡ old.low.offsets.items ++ o ∷ [] → new.low.values.items ≡ old.low.values.items ++ v ∷ [] → AddsSteps c old new (IsPairStep c o v (len c + 1))
+      → new.low.offsets.items ≡ old.low.offsets.items ++ o ∷ [] → new.low.values.items ≡ old.low.values.items ++ v ∷ [] → AddsSteps c old new (IsOver c old.back old.apart o v)
   adds_low far near beside offsets values = record {
     keeps = λ d x h. elim h [
-      | inl over ↦ inl (elim over [ inl f ↦ inl (subst (λ s. IsStepOver c s d x) (sym far) f) | inr l ↦ inr (over_kept c old.low new.low o v beside offsets values d x l) ])
+      | inl over ↦ inl (elim over [ inl f ↦ inl (kept_as old.far new.far far d x f) | inr l ↦ inr (kept_as new.low new.low refl d x (over_kept c old.back old.apart old.low new.low o v beside offsets values d x l)) ])
       | inr n ↦ inr (subst (λ s. HasStepIn s d x) (sym near) n)
     ];
-    has = λ d x is. inl (inr (over_has c old.low new.low o v beside offsets values d x is));
+    has = λ d x is. inl (inr (kept_as new.low new.low refl d x (over_has c old.back old.apart old.low new.low o v beside offsets values d x is)));
     only = λ d x h. elim h [
       | inl over ↦ elim over [
-        | inl f ↦ inl (inl (inl (subst (λ s. IsStepOver c s d x) far f)))
-        | inr l ↦ elim (over_only c old.low new.low o v beside offsets values d x l) [ inl was ↦ inl (inl (inr was)) | inr is ↦ inr is ]
+        | inl f ↦ inl (inl (inl (was_as old.far new.far far d x f)))
+        | inr l ↦ elim (over_only c old.back old.apart old.low new.low o v beside offsets values d x (was_as new.low new.low refl d x l)) [ inl was ↦ inl (inl (inr was)) | inr is ↦ inr is ]
       ]
       | inr n ↦ inl (inr (subst (λ s. HasStepIn s d x) near n))
     ];
   }
+
+-- the offsets of a list with one more are of heaps that are far
+pub far_more : {A : Type 0} (limit reach back apart o v : ℕ) (old new : Steps A) → IsShapedFar limit reach back apart old → new.offsets.items ≡ old.offsets.items ++ o ∷ [] → new.values.items ≡ old.values.items ++ v ∷ []
+    → BLOCK ≤ o → o ≤ back + reach → v < limit → ((heap : ℕ) → IsOffsetOf back apart o heap → (BLOCK ≤ heap) × (heap ≤ reach)) → IsShapedFar limit reach back apart new
+far_more limit reach back apart o v old new shaped offsets values least most small of = record {
+  steps = steps_more limit BLOCK (back + reach) o v old new shaped.steps offsets values least most small;
+  over = λ k heap low is. each_push old.offsets.items new.offsets.items o (λ d. (h : ℕ) → IsOffsetOf back apart d h → (BLOCK ≤ h) × (h ≤ reach)) offsets (λ j less h. shaped.over j h less) of k low heap is;
+}
+
+pub alone_far : (reach back apart o : ℕ) → o < back → BLOCK ≤ o → o ≤ reach → (heap : ℕ) → IsOffsetOf back apart o heap → (BLOCK ≤ heap) × (heap ≤ reach)
+alone_far reach back apart o less least most heap is = elim is [
+  | inl one ↦ (omega (arith, least, one.1), omega (arith, most, one.1))
+  | inr two ↦ absurd (omega (arith, less, two.0))
+]
+
+pub twins_far : (reach back apart h : ℕ) → BLOCK ≤ h → h + apart ≤ reach → (heap : ℕ) → IsOffsetOf back apart (back + h) heap → (BLOCK ≤ heap) × (heap ≤ reach)
+twins_far reach back apart h least most heap is = elim is [
+  | inl one ↦ absurd (omega (arith, one.0))
+  | inr two ↦ elim two.1 [
+    | inl first ↦ (omega (arith, least, first), omega (arith, most, first))
+    | inr second ↦ (omega (arith, least, second), omega (arith, most, second))
+  ]
+]
 
 pub adds_none : {A : Type 0} (c : Code) (p : Plan A) (P : ℕ → ℕ → Type 0) → ((d x : ℕ) → P d x → ⊥) → AddsSteps c p p P
 adds_none c p P none = record { keeps = λ d x h. h; has = λ d x is. absurd (none d x is); only = λ d x h. inl h }
@@ -202,18 +280,18 @@ pair_skip c heap value r d x none s = elim (cases_eq s.removed r) [
 
 -- ---- one more heap
 
-pub heap_back : (c : Code) (heaps : List SmallHeap) (i : ℕ) (h : SmallHeap) (d x : ℕ) → ((e : SmallHeap) → slice_index_or heaps i e ≡ h) → IsHeapStep c heaps (i + 1) d x
-    → IsHeapStep c heaps i d x ⊎ IsPairStep c h.heap h.value (len c + 1) d x
-heap_back c heaps i h d x here s = elim (cases_eq s.at i) [
-  | inl e ↦ inr (subst (λ (k : SmallHeap). IsPairStep c k.heap k.value (len c + 1) d x) (sym s.is ∙ ap (λ k. slice_index_or heaps k s.heap) e ∙ here s.heap) s.pair)
-  | inr ne ↦ inl (record { heap = s.heap; at = s.at; within = omega (arith, s.within, ne); is = s.is; pair = s.pair })
+pub heap_back : (c : Code) (apart : ℕ) (heaps : List SmallHeap) (i : ℕ) (h : SmallHeap) (d x : ℕ) → ((e : SmallHeap) → slice_index_or heaps i e ≡ h) → IsHeapStep c apart heaps (i + 1) d x
+    → IsHeapStep c apart heaps i d x ⊎ IsSmallStep c apart h d x
+heap_back c apart heaps i h d x here s = elim (cases_eq s.at i) [
+  | inl e ↦ inr (subst (λ (k : SmallHeap). IsSmallStep c apart k d x) (sym s.is ∙ ap (λ k. slice_index_or heaps k s.heap) e ∙ here s.heap) s.step)
+  | inr ne ↦ inl (record { heap = s.heap; at = s.at; within = omega (arith, s.within, ne); is = s.is; step = s.step })
 ]
 
-pub heap_forth : (c : Code) (heaps : List SmallHeap) (i : ℕ) (h : SmallHeap) (d x : ℕ) → ((e : SmallHeap) → slice_index_or heaps i e ≡ h)
-    → IsHeapStep c heaps i d x ⊎ IsPairStep c h.heap h.value (len c + 1) d x → IsHeapStep c heaps (i + 1) d x
-heap_forth c heaps i h d x here s = elim s [
-  | inl was ↦ record { heap = was.heap; at = was.at; within = omega (arith, was.within); is = was.is; pair = was.pair }
-  | inr is ↦ record { heap = h; at = i; within = omega arith; is = here h; pair = is }
+pub heap_forth : (c : Code) (apart : ℕ) (heaps : List SmallHeap) (i : ℕ) (h : SmallHeap) (d x : ℕ) → ((e : SmallHeap) → slice_index_or heaps i e ≡ h)
+    → IsHeapStep c apart heaps i d x ⊎ IsSmallStep c apart h d x → IsHeapStep c apart heaps (i + 1) d x
+heap_forth c apart heaps i h d x here s = elim s [
+  | inl was ↦ record { heap = was.heap; at = was.at; within = omega (arith, was.within); is = was.is; step = was.step }
+  | inr is ↦ record { heap = h; at = i; within = omega arith; is = here h; step = is }
 ]
 
 -- ---- what holds on success
@@ -221,6 +299,10 @@ heap_forth c heaps i h d x here s = elim s [
 pub on_both : {X Y : Type 0} (r : Result X Y) (P Q R : Type 0) → OnOk r P → OnOk r Q → (P → Q → R) → OnOk r R
 on_both (Ok x) P Q R p q f = f p q
 on_both (Err e) P Q R p q f = tt
+
+pub on_one : {X Y : Type 0} (r : Result X Y) (P R : Type 0) → OnOk r P → (P → R) → OnOk r R
+on_one (Ok x) P R p f = f p
+on_one (Err e) P R p f = tt
 
 -- ---- an empty plan
 
@@ -233,9 +315,13 @@ steps_none s offsets values limit low high = record {
 }
 
 pub shaped_none : {A : Type 0} (p : Plan A) → p.far.offsets.items ≡ [] → p.far.values.items ≡ [] → p.low.offsets.items ≡ [] → p.low.values.items ≡ [] → p.near.offsets.items ≡ [] → p.near.values.items ≡ []
-    → (limit reach width : ℕ) → IsShapedPlan limit reach width p
-shaped_none p foffs fvals loffs lvals noffs nvals limit reach width =
-    record { far = steps_none p.far foffs fvals limit BLOCK reach; low = steps_none p.low loffs lvals limit LOW reach; near = steps_none p.near noffs nvals limit 1 width }
+    → (limit reach width : ℕ) → reach < p.back → IsShapedPlan limit reach width p
+shaped_none p foffs fvals loffs lvals noffs nvals limit reach width less = record {
+  far = record { steps = steps_none p.far foffs fvals limit BLOCK (p.back + reach); over = λ k heap few. absurd (omega (arith, few, ap length foffs)) };
+  low = steps_none p.low loffs lvals limit LOW reach;
+  near = steps_none p.near noffs nvals limit 1 width;
+  back = less;
+}
 
 pub has_none : {A : Type 0} (c : Code) (p : Plan A) (d x : ℕ) → p.far.offsets.items ≡ [] → p.low.offsets.items ≡ [] → p.near.offsets.items ≡ [] → HasStep c p d x → ⊥
 has_none c p d x far low near h = elim h [

@@ -13,7 +13,7 @@ use Rattle.oct_mex.proofs.Mex.{mex_unique}
 use Rattle.oct_mex.proofs.Moves.{heaps_left_grown, heaps_left_one, heaps_two, move_of, parts}
 use Rattle.oct_mex.proofs.NimValues.{nim_sequence}
 use Rattle.oct_mex.proofs.Windows.{common_pair}
-use Rattle.oct_sets.specs.Plans.{HasHeap, HasStep, HasStepIn, IsAmong, IsEndStep, IsStepOver, IsHeapStep, IsMade, IsMadeBy, IsNearSet, IsPairMade, IsParted, IsPlan, IsStep, IsUnion}
+use Rattle.oct_sets.specs.Plans.{HasHeap, HasStep, HasStepIn, IsAmong, IsEndStep, IsStepOver, IsHeapStep, IsMade, IsMadeBy, IsNearSet, IsOffsetOf, IsPairMade, IsPairStep, IsParted, IsPlan, IsSmallStep, IsStep, IsUnion}
 use Rattle.oct_sets.proofs.Words.{turned_back, turned_forth}
 use Rattle.oct_sets.specs.declared.plan.Plan.{Plan}
 use Rattle.oct_sets.specs.declared.sorted.SmallHeap.{SmallHeap}
@@ -35,9 +35,9 @@ module _ {A : Type 0} (c : Code) (heaps : List ℕ) (reach : ℕ) (p : Plan A) (
         near = inl s.near;
       }
 
-  near_over : (s : Steps A) → ((d x : ℕ) → IsStepOver c s d x → HasStep c p d x) → (v : ℕ) → IsPairMade c n s (length s.offsets.items) v → IsNear c (nim_value c) n heaps reach v
+  near_over : (s : Steps A) → ((d x : ℕ) → IsStepOver c p.back p.apart s d x → HasStep c p d x) → (v : ℕ) → IsPairMade c n p.back p.apart s (length s.offsets.items) v → IsNear c (nim_value c) n heaps reach v
   near_over s has v m =
-      let heap = slice_index s.offsets.items m.at in
+      let heap = m.heap in
       let value = slice_index s.values.items m.at in
       let r = m.split.removed in
       let same : n - heap - r ≡ n - (r + heap) = omega arith in
@@ -45,9 +45,11 @@ module _ {A : Type 0} (c : Code) (heaps : List ℕ) (reach : ℕ) (p : Plan A) (
       (plan.steps (r + heap) value (has (r + heap) value (record {
         removed = r;
         heap = heap;
+        behind = slice_index s.offsets.items m.at;
         few = m.split.few;
         allowed = m.split.allowed;
         step = record { at = m.at; within = m.within; offset = refl; value = refl };
+        over = m.over;
         offset = refl;
       })))
       (turned_back v value (nim_value c (n - (r + heap))) (m.split.is ∙ ap (nim_value c) same))
@@ -66,12 +68,14 @@ module _ {A : Type 0} (c : Code) (heaps : List ℕ) (reach : ℕ) (p : Plan A) (
     is = is ∙ ap₂ (λ y z. bit_xor y (nim_value c z)) (sym h.value) (sym rest ∙ ap (λ o. n - o) (sym h.offset));
   }
 
-  made_over : (s : Steps A) (v d x b : ℕ) → IsStepOver c s d x → n - d ≡ b → v ≡ bit_xor x (nim_value c b) → IsPairMade c n s (length s.offsets.items) v
+  made_over : (s : Steps A) (v d x b : ℕ) → IsStepOver c p.back p.apart s d x → n - d ≡ b → v ≡ bit_xor x (nim_value c b) → IsPairMade c n p.back p.apart s (length s.offsets.items) v
   made_over s v d x b f rest is =
-      let same : b ≡ n - slice_index s.offsets.items f.step.at - f.removed = omega (arith, f.step.offset, f.offset, rest) in
+      let same : b ≡ n - f.heap - f.removed = omega (arith, f.offset, rest) in
       record {
         at = f.step.at;
         within = f.step.within;
+        heap = f.heap;
+        over = subst (λ k. IsOffsetOf p.back p.apart k f.heap) (sym f.step.offset) f.over;
         split = record {
           removed = f.removed;
           few = f.few;
@@ -158,12 +162,25 @@ module _ (limit : ℕ) (c : Code) (mask : Mask) (heaps : List ℕ) (reach n v : 
 
 -- ---- a plan by the values of the first heaps
 
-module _ {A : Type 0} (c : Code) (rare small : List ℕ) (list : List SmallHeap) (p : Plan A) (some : 0 < length small)
+module _ {A : Type 0} (c : Code) (apart : ℕ) (rare small : List ℕ) (list : List SmallHeap) (p : Plan A) (some : 0 < length small)
     (first : (h : ℕ) → h < length small → slice_index small h ≡ nim_value c h)
     (listed : (h : ℕ) → Contains rare h → h < length small)
-    (each : (h : SmallHeap) → Contains list h → IsAmong small h)
+    (each : (h : SmallHeap) → Contains list h → IsAmong small apart h)
     (has : (h : ℕ) → Contains rare h → 1 ≤ h → HasHeap list h (slice_index small h))
-    (steps : (d x : ℕ) → HasStep c p d x ↔ (IsEndStep c (slice_index small 0) (len c + 1) d x ⊎ IsHeapStep c list (length list) d x)) where
+    (steps : (d x : ℕ) → HasStep c p d x ↔ (IsEndStep c (slice_index small 0) (len c + 1) d x ⊎ IsHeapStep c apart list (length list) d x)) where
+  -- a move over a small heap whose value stands among the first ones
+  step_over : (h v d x : ℕ) → 1 ≤ h → h < length small → v ≡ slice_index small h → IsPairStep c h v (len c + 1) d x → IsStep c (length small - 1) d x
+  step_over h v d x low few value k = record {
+    removed = k.removed;
+    small = h;
+    few = omega (arith, k.few);
+    total = sym k.offset;
+    some = omega (arith, k.offset, low);
+    value = sym (first h few) ∙ sym value ∙ sym k.is;
+    near = omega (arith, few);
+    allowed = subst (λ m. IsTrue (allows c k.removed m)) (sym (heaps_two h 1 (omega (arith, low)))) k.allowed;
+  }
+
   step_of : (d x : ℕ) → HasStep c p d x → IsStep c (length small - 1) d x
   step_of d x h = elim ((steps d x).0 h) [
     | inl e ↦ record {
@@ -178,16 +195,12 @@ module _ {A : Type 0} (c : Code) (rare small : List ℕ) (list : List SmallHeap)
     }
     | inr k ↦
         let among = each k.heap (k.at, k.within, k.is) in
-        record {
-          removed = k.pair.removed;
-          small = k.heap.heap;
-          few = omega (arith, k.pair.few);
-          total = sym k.pair.offset;
-          some = omega (arith, k.pair.offset, among.some);
-          value = sym (first k.heap.heap among.few) ∙ sym among.value ∙ sym k.pair.is;
-          near = omega (arith, among.few);
-          allowed = subst (λ m. IsTrue (allows c k.pair.removed m)) (sym (heaps_two k.heap.heap 1 (omega (arith, among.some)))) k.pair.allowed;
-        }
+        elim k.step [
+          | inl one ↦ step_over k.heap.heap k.heap.value d x among.some among.few among.value one
+          | inr two ↦
+              let twin = among.twin two.0 in
+              step_over (k.heap.heap + apart) k.heap.value d x (omega (arith, among.some)) twin.1 twin.2 two.1
+        ]
   ]
 
   pub plan_is : IsPlan c rare (length small - 1) (HasStep c p)
@@ -201,7 +214,7 @@ module _ {A : Type 0} (c : Code) (rare small : List ℕ) (list : List SmallHeap)
           at = k.in_list.0;
           within = k.in_list.1;
           is = k.in_list.2;
-          pair = record { removed = r; few = omega (arith, few); allowed = allowed; offset = ap (λ h. r + h) (sym k.heap); is = sym (first a (listed a is)) ∙ sym k.value };
+          step = inl (record { removed = r; few = omega (arith, few); allowed = allowed; offset = ap (λ h. r + h) (sym k.heap); is = sym (first a (listed a is)) ∙ sym k.value });
         }));
     small = λ a is. omega (arith, listed a is);
   }

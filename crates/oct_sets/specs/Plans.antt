@@ -29,25 +29,38 @@ pub record IsShapedSteps {A : Type 0} (limit low high : ℕ) (s : Steps A) : Typ
   pub to : (k : ℕ) → k < length s.offsets.items → slice_index s.offsets.items k ≤ high
   pub small : (k : ℕ) → k < length s.values.items → slice_index s.values.items k < limit
 
--- a move over a small heap of a list: two heaps are left, one of them as large as an offset that stands beside x
-pub record IsStepOver {A : Type 0} (c : Code) (s : Steps A) (d x : ℕ) : Type 0 where
+-- an offset below `back` is of one heap, as large as it; from there on, less `back`, it is of a heap and of its twin, which has
+-- `apart` beans more
+abbrev pub IsOffsetOf : ℕ → ℕ → ℕ → ℕ → Type 0
+IsOffsetOf back apart offset heap = ((offset < back) × (heap ≡ offset)) ⊎ ((back ≤ offset) × ((heap + back ≡ offset) ⊎ (heap + back ≡ offset + apart)))
+
+-- a move over a small heap: two heaps are left, one of them of an offset of the list that stands beside x
+pub record IsStepOver {A : Type 0} (c : Code) (back apart : ℕ) (s : Steps A) (d x : ℕ) : Type 0 where
   pub removed : ℕ
   pub heap : ℕ
+  pub behind : ℕ
   pub few : removed ≤ len c
   pub allowed : IsTrue (allows c removed 2)
-  pub step : HasStepIn s heap x
+  pub step : HasStepIn s behind x
+  pub over : IsOffsetOf back apart behind heap
   pub offset : d ≡ removed + heap
 
 -- the step is one of the plan
 abbrev pub HasStep : {A : Type 0} → Code → Plan A → ℕ → ℕ → Type 0
-HasStep c p d x = (IsStepOver c p.far d x ⊎ IsStepOver c p.low d x) ⊎ HasStepIn p.near d x
+HasStep c p d x = (IsStepOver c p.back p.apart p.far d x ⊎ IsStepOver c p.back p.apart p.low d x) ⊎ HasStepIn p.near d x
+
+-- each offset is of heaps from the size of a block to `reach`, and beside each stands a value below `limit`
+pub record IsShapedFar {A : Type 0} (limit reach back apart : ℕ) (s : Steps A) : Type 0 where
+  pub steps : IsShapedSteps limit BLOCK (back + reach) s
+  pub over : (k heap : ℕ) → k < length s.offsets.items → IsOffsetOf back apart (slice_index s.offsets.items k) heap → (BLOCK ≤ heap) × (heap ≤ reach)
 
 -- no far heap is larger than `reach`, nor smaller than a block, no low one larger than `reach`, nor smaller than a group, no near
--- offset larger than `width`, and each value below `limit`
+-- offset larger than `width`, each value below `limit`, and each offset of twins larger than one of a heap
 pub record IsShapedPlan {A : Type 0} (limit reach width : ℕ) (p : Plan A) : Type 0 where
-  pub far : IsShapedSteps limit BLOCK reach p.far
+  pub far : IsShapedFar limit reach p.back p.apart p.far
   pub low : IsShapedSteps limit LOW reach p.low
   pub near : IsShapedSteps limit 1 width p.near
+  pub back : reach < p.back
 
 -- the steps that P holds of are in the plan besides
 pub record AddsSteps {A : Type 0} (c : Code) (old new : Plan A) (P : ℕ → ℕ → Type 0) : Type 0 where
@@ -72,25 +85,33 @@ pub record IsPairStep (c : Code) (heap value end d x : ℕ) : Type 0 where
   pub offset : d ≡ removed + heap
   pub is : x ≡ value
 
--- one of the first heaps of a list is left besides
-pub record IsHeapStep (c : Code) (heaps : List SmallHeap) (end d x : ℕ) : Type 0 where
+-- a small heap is left besides, or its twin
+abbrev pub IsSmallStep : Code → ℕ → SmallHeap → ℕ → ℕ → Type 0
+IsSmallStep c apart h d x = IsPairStep c h.heap h.value (len c + 1) d x ⊎ (IsTrue h.twin × IsPairStep c (h.heap + apart) h.value (len c + 1) d x)
+
+-- one of the first heaps of a list is left besides, or its twin
+pub record IsHeapStep (c : Code) (apart : ℕ) (heaps : List SmallHeap) (end d x : ℕ) : Type 0 where
   pub heap : SmallHeap
   pub at : ℕ
   pub within : at < end
   pub is : slice_index_or heaps at heap ≡ heap
-  pub pair : IsPairStep c heap.heap heap.value (len c + 1) d x
+  pub step : IsSmallStep c apart heap d x
 
--- it has a value below `limit`, and as many beans as `reach` at most
-pub record IsWithin (limit reach : ℕ) (h : SmallHeap) : Type 0 where
+-- it has a value below `limit`, and as many beans as `reach` at most, and so has its twin; a heap that has one is no smaller than a
+-- block
+pub record IsWithin (limit reach apart : ℕ) (h : SmallHeap) : Type 0 where
   pub some : 1 ≤ h.heap
   pub few : h.heap ≤ reach
   pub small : h.value < limit
+  pub twin : IsTrue h.twin → (BLOCK ≤ h.heap) × (h.heap + apart ≤ reach)
 
--- its value is the one that stands among the values of the small heaps
-pub record IsAmong (small : List ℕ) (h : SmallHeap) : Type 0 where
+-- its value is the one that stands among the values of the small heaps, and that of its twin; a heap that has one is no smaller
+-- than a block
+pub record IsAmong (small : List ℕ) (apart : ℕ) (h : SmallHeap) : Type 0 where
   pub some : 1 ≤ h.heap
   pub few : h.heap < length small
   pub value : h.value ≡ slice_index small h.heap
+  pub twin : IsTrue h.twin → (BLOCK ≤ h.heap) × (h.heap + apart < length small) × (h.value ≡ slice_index small (h.heap + apart))
 
 -- a heap of so many beans and of this value is in the list
 pub record HasHeap (list : List SmallHeap) (h v : ℕ) : Type 0 where
@@ -132,19 +153,21 @@ pub record IsSplitValue (c : Code) (h v : ℕ) : Type 0 where
   pub allowed : IsTrue (allows c removed 2)
   pub is : v ≡ nim_value c (h - removed)
 
--- v is what a heap of a list, as an offset, and a move that leaves it make
-pub record IsPairMade {A : Type 0} (c : Code) (n : ℕ) (s : Steps A) (end v : ℕ) : Type 0 where
+-- v is what a heap of an offset of a list and a move that leaves it make
+pub record IsPairMade {A : Type 0} (c : Code) (n back apart : ℕ) (s : Steps A) (end v : ℕ) : Type 0 where
   pub at : ℕ
   pub within : at < end
-  pub split : IsSplitValue c (n - slice_index s.offsets.items at) (bit_xor v (slice_index s.values.items at))
+  pub heap : ℕ
+  pub over : IsOffsetOf back apart (slice_index s.offsets.items at) heap
+  pub split : IsSplitValue c (n - heap) (bit_xor v (slice_index s.values.items at))
 
 -- v is what a far step of the plan makes
 abbrev pub IsFarMade : {A : Type 0} → Code → ℕ → Plan A → ℕ → Type 0
-IsFarMade c n p v = IsPairMade c n p.far (length p.far.offsets.items) v
+IsFarMade c n p v = IsPairMade c n p.back p.apart p.far (length p.far.offsets.items) v
 
 -- v is what a low step of the plan makes
 abbrev pub IsLowMade : {A : Type 0} → Code → ℕ → Plan A → ℕ → Type 0
-IsLowMade c n p v = IsPairMade c n p.low (length p.low.offsets.items) v
+IsLowMade c n p v = IsPairMade c n p.back p.apart p.low (length p.low.offsets.items) v
 
 -- v is what a step of the plan makes
 abbrev pub IsMadeBy : {A : Type 0} → Code → ℕ → Plan A → ℕ → Type 0

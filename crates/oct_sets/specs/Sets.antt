@@ -17,9 +17,12 @@ pub record IsShapedOf {W A : Type 0} (digits most width : ℕ) (s : SetsOf W A) 
   pub reach : s.reach ≡ most
   pub plan : IsShapedPlan (2 ^ digits) most width s.plan
   pub splits : (k : ℕ) → k < length s.splits.items → slice_index s.splits.items k < width
-  pub pairs : most ≤ vec_len s.pairs
-  pub spare : most < vec_capacity s.pairs
-  pub behind : vec_len s.pairs ≤ s.heap
+  pub words : s.plan.back + most ≤ vec_len s.words
+  pub twice : vec_len s.words ≤ 2 * s.plan.back
+  pub spare : 2 * s.plan.back ≤ vec_capacity s.words
+  pub twins : s.plan.back + s.twins ≤ vec_len s.words
+  pub high : s.plan.back < 2 ^ 62
+  pub behind : vec_len s.words ≤ s.plan.back + s.heap
   pub least : width ≤ s.heap
   pub block : vec_len s.block ≡ BLOCK
   pub started : s.start ≤ s.heap
@@ -27,9 +30,14 @@ pub record IsShapedOf {W A : Type 0} (digits most width : ℕ) (s : SetsOf W A) 
   pub groups : (s.ready - s.start) % LOW ≡ 0
   pub ready : s.ready ≤ s.start + BLOCK
 
--- for each of the last heaps before n, the values of what moves that leave two heaps leave of it
-abbrev pub ArePairs : Code → ℕ → List ℕ → Type 0
-ArePairs c n pairs = (j v : ℕ) → j < length pairs → Has (slice_index pairs j) v ↔ IsSplitValue c (n + j - length pairs) v
+-- from the place `back` on, for each of the last heaps before n, the values of what moves that leave two heaps leave of it
+abbrev pub ArePairs : Code → ℕ → ℕ → List ℕ → Type 0
+ArePairs c n back words = (j v : ℕ) → back ≤ j → j < length words → Has (slice_index words j) v ↔ IsSplitValue c (n + j - length words) v
+
+-- before the place `twins`, those of the heap whose word stands `back` places on, and those of the one `apart` before this, if its
+-- word is there
+abbrev pub AreTwins : Code → ℕ → ℕ → ℕ → ℕ → List ℕ → Type 0
+AreTwins c n back apart twins words = (j v : ℕ) → apart ≤ j → j < twins → Has (slice_index words j) v ↔ (IsSplitValue c (n + (back + j) - length words) v ⊎ IsSplitValue c (n + (back + j) - length words - apart) v)
 
 -- for each heap of the block that begins at n, what far steps make, and for so many of the first ones what low steps make too
 pub record IsBlock {A : Type 0} (digits : ℕ) (c : Code) (n : ℕ) (p : Plan A) (ready : ℕ) (block : List ℕ) : Type 0 where
@@ -40,7 +48,8 @@ pub record IsBlock {A : Type 0} (digits : ℕ) (c : Code) (n : ℕ) (p : Plan A)
 pub record IsRightOf {W A : Type 0} (number : W → ℕ) (digits : ℕ) (c : Code) (heaps : List ℕ) (reach : ℕ) (s : SetsOf W A) : Type 0 where
   pub plan : IsPlan c heaps reach (HasStep c s.plan)
   pub splits : AreSplits c s.splits.items
-  pub pairs : ArePairs c s.heap (map number s.pairs.items)
+  pub pairs : ArePairs c s.heap s.plan.back (map number s.words.items)
+  pub twins : AreTwins c s.heap s.plan.back s.plan.apart s.twins (map number s.words.items)
   pub block : IsBlock digits c s.start s.plan (s.ready - s.start) (map number s.block.items)
   pub room : 2 * reach + len c < s.start
 

@@ -12,9 +12,10 @@
 //!
 //! - A `Plan` has the steps, far ones, low ones and near ones. Which small heaps it goes by, besides the rare ones, is chosen from
 //!   a sample: this changes no value, but how many heaps are settled.
-//! - `SetsOf` has the words of the last heaps and the unions by far steps for a block of 64 heaps. Those by low steps are added
-//!   to a group of 8 heaps at a time, once the heaps before it are known. `settle` adds those by near steps, and gives the least
-//!   number that is not in the set where a value like it is common.
+//! - Two small heaps of one value, at one distance for a plan, are twins: a step over both is one over the union of two words.
+//! - `SetsOf` has the words of the last heaps, those for twins, and the unions by far steps for a block of 64 heaps. Those by low
+//!   steps are added to a group of 8 heaps at a time, once the heaps before it are known. `settle` adds those by near steps, and
+//!   gives the least number that is not in the set where a value like it is common.
 //! - `Sets` are those in words of 32 bits, where all values are below 32, or of 64 bits.
 #![tactic(auto)]
 

@@ -31,7 +31,7 @@ pub enum Sets<A: Allocator> {
 impl<A: Allocator + Copy> Sets<A> {
     /// The sets behind the values of the last heaps before the heap `heap`, all below `bound`: by a plan that leads to the rare
     /// heaps, and to others of the small heaps, whose values are given. They are narrow where the bound fits narrow words. Memory is
-    /// taken for the plan, a block, and twice as many words as there are values.
+    /// taken for the plan, a block, and four times as many words as there are values: twice as many for heaps, and as many for twins.
     pub fn new<T: Cell>(
         alloc: A,
         code: &Code,

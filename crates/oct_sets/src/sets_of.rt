@@ -5,10 +5,10 @@ ghost use Rattle.std.specs.List.{Contains};
 ghost use Rattle.oct_code.specs.Code as octal;
 ghost use Rattle.oct_mex.specs.NimValues.{nim_value};
 ghost use Rattle.oct_mex.specs.Windows.{IsSettled};
-ghost use Rattle.oct_sets.specs.Plans.{AreFirst, AreLast, AreSplits, IsParted, IsShapedSteps, IsUnion};
-ghost use Rattle.oct_sets.specs.Sets.{ArePairs, IsBlock, IsRightOf, IsShapedOf};
+ghost use Rattle.oct_sets.specs.Plans.{AreFirst, AreLast, AreSplits, IsParted, IsShapedFar, IsShapedSteps, IsUnion};
+ghost use Rattle.oct_sets.specs.Sets.{ArePairs, AreTwins, IsBlock, IsRightOf, IsShapedOf};
 
-use crate::pairs::{keep_last, number_at, pairs_of, split_set, splits_of};
+use crate::pairs::{keep_last, number_at, split_set, splits_of, unite_twins, words_of};
 use crate::plan::{BLOCK, LOW, Plan};
 use crate::settled::settled_by;
 use crate::sorted::sorted;
@@ -26,9 +26,12 @@ pub struct SetsOf<W, A: Allocator> {
     pub splits: Vec<usize, A>,
     /// No far heap of the plan is larger.
     pub reach: usize,
-    /// For each of the last heaps the values of what those moves leave of it, were there no other heap: the set of a pair is that
-    /// of the larger heap, turned by the value of the smaller one.
-    pub pairs: Vec<W, A>,
+    /// From the place `back` of the plan on, for each of the last heaps the values of what those moves leave of it, were there no
+    /// other heap: the set of a pair is that of the larger heap, turned by the value of the smaller one. Before them, so many places
+    /// from each, these values together with those of the heap that is smaller by as much as twins of the plan differ.
+    pub words: Vec<W, A>,
+    /// So many words for twins are made.
+    pub twins: usize,
     /// What far steps make, for each heap of a block.
     pub block: Vec<W, A>,
     /// The first heap of the block.
@@ -41,7 +44,8 @@ pub struct SetsOf<W, A: Allocator> {
 
 impl<W: Word, A: Allocator + Copy> SetsOf<W, A> {
     /// The sets behind the values of the last heaps before the heap `heap`: by a plan that leads to the rare heaps, and to others
-    /// of the small heaps, whose values are given. Memory is taken for the plan, a block, and twice as many words as there are values.
+    /// of the small heaps, whose values are given. Memory is taken for the plan, a block, and four times as many words as there are
+    /// values.
     pub(crate) fn new<T: Cell>(
         alloc: A,
         code: &Code,
@@ -62,18 +66,21 @@ impl<W: Word, A: Allocator + Copy> SetsOf<W, A> {
         ensures heap { IfOk result (λ sets. sets.heap ≡ heap) }
         ensures right { AreFirst code.now (map T.number small.now) → AreLast code.now heap (map T.number last.now) → IfOk result (IsRightOf W.number W.digits code.now rare.now (length small.now - 1)) }
     {
-        let others = witnesses(alloc, code, small, last, rare)?;
-        let heaps = sorted(alloc, small, rare, &others)?;
-        let plan = Plan::of(alloc, code, number_at(small, 0), &heaps)?;
+        let chosen = witnesses(alloc, code, small, last, rare)?;
+        let apart = chosen.apart;
+        let heaps = sorted(alloc, small, rare, &chosen.alone, &chosen.twins, apart)?;
+        let back = 2 * last.len() + 1;
+        let plan = Plan::of(alloc, code, number_at(small, 0), &heaps, back, apart)?;
         let splits = splits_of(alloc, code)?;
-        let pairs = pairs_of(alloc, &splits, last, code.len())?;
+        let words = words_of(alloc, &splits, last, code.len(), back)?;
         let mut block = Vec::new(alloc);
         block.resize(BLOCK, W::empty())?;
         let mut sets = SetsOf {
             plan,
             splits,
             reach: small.len() - 1,
-            pairs,
+            words,
+            twins: 0,
             block,
             start: heap,
             ready: heap,
@@ -136,24 +143,33 @@ impl<W: Word, A: Allocator + Copy> SetsOf<W, A> {
         }
     }
 
-    // Adds the word of the next heap. Where there is no room, the first words are forgotten.
+    // Adds the word of the next heap. Where there is no room, the first words are forgotten, and those for twins.
     #[inline(always)]
     fn add_pair<T: Cell>(&mut self, last: &[T])
-        requires pairs { self.old.reach ≤ vec_len self.old.pairs }
-        requires spare { self.old.reach < vec_capacity self.old.pairs }
+        requires words { self.old.plan.back + self.old.reach ≤ vec_len self.old.words }
+        requires reach { self.old.reach < self.old.plan.back }
+        requires twice { vec_len self.old.words ≤ 2 * self.old.plan.back }
+        requires spare { 2 * self.old.plan.back ≤ vec_capacity self.old.words }
+        requires high { self.old.plan.back < 2 ^ 62 }
+        requires twins { self.old.plan.back + self.old.twins ≤ vec_len self.old.words }
         requires splits { (k : ℕ) → k < length self.old.splits.items → slice_index self.old.splits.items k < length last.now }
         requires some { 0 < length last.now }
         requires low { (i : ℕ) → i < length last.now → slice_index (map T.number last.now) i < 2 ^ W.digits }
-        ensures same { self.new ≡ record self.old { pairs = self.new.pairs } }
-        ensures least { self.old.reach ≤ vec_len self.new.pairs }
-        ensures most { vec_len self.new.pairs ≤ vec_len self.old.pairs + 1 }
-        ensures room { vec_capacity self.new.pairs ≡ vec_capacity self.old.pairs }
-        ensures pairs { (c : octal.Code) → vec_len self.old.pairs ≤ self.old.heap → length last.now ≤ self.old.heap + 1 → AreSplits c self.old.splits.items → ArePairs c self.old.heap (map W.number self.old.pairs.items) → AreLast c (self.old.heap + 1) (map T.number last.now) → ArePairs c (self.old.heap + 1) (map W.number self.new.pairs.items) }
+        ensures same { self.new ≡ record self.old { words = self.new.words; twins = self.new.twins } }
+        ensures least { self.old.plan.back + self.old.reach ≤ vec_len self.new.words }
+        ensures most { vec_len self.new.words ≤ vec_len self.old.words + 1 }
+        ensures twice { vec_len self.new.words ≤ 2 * self.old.plan.back }
+        ensures room { vec_capacity self.new.words ≡ vec_capacity self.old.words }
+        ensures made { self.old.plan.back + self.new.twins ≤ vec_len self.new.words }
+        ensures pairs { (c : octal.Code) → vec_len self.old.words ≤ self.old.plan.back + self.old.heap → length last.now ≤ self.old.heap + 1 → AreSplits c self.old.splits.items → ArePairs c self.old.heap self.old.plan.back (map W.number self.old.words.items) → AreLast c (self.old.heap + 1) (map T.number last.now) → ArePairs c (self.old.heap + 1) self.old.plan.back (map W.number self.new.words.items) }
+        ensures twins { (c : octal.Code) → vec_len self.old.words ≤ self.old.plan.back + self.old.heap → AreTwins c self.old.heap self.old.plan.back self.old.plan.apart self.old.twins (map W.number self.old.words.items) → AreTwins c (self.old.heap + 1) self.old.plan.back self.old.plan.apart self.new.twins (map W.number self.new.words.items) }
     {
-        if self.pairs.len() == self.pairs.capacity() {
-            keep_last(&mut self.pairs, self.reach);
+        let back = self.plan.back;
+        if self.words.len() == 2 * back {
+            keep_last(&mut self.words, back, self.reach);
+            self.twins = 0;
         }
-        self.pairs
+        self.words
             .push_reserved(split_set(&self.splits, last, last.len() - 1));
     }
 
@@ -161,31 +177,63 @@ impl<W: Word, A: Allocator + Copy> SetsOf<W, A> {
     // stands apart from what is done for each heap.
     #[inline(never)]
     fn fill(&mut self)
-        requires far { IsShapedSteps (2 ^ W.digits) BLOCK self.old.reach self.old.plan.far }
+        requires far { IsShapedFar (2 ^ W.digits) self.old.reach self.old.plan.back self.old.plan.apart self.old.plan.far }
         requires low { IsShapedSteps (2 ^ W.digits) LOW self.old.reach self.old.plan.low }
-        requires pairs { self.old.reach ≤ vec_len self.old.pairs }
-        requires behind { vec_len self.old.pairs ≤ self.old.heap }
+        requires reach { self.old.reach < self.old.plan.back }
+        requires words { self.old.plan.back + self.old.reach ≤ vec_len self.old.words }
+        requires twice { vec_len self.old.words ≤ 2 * self.old.plan.back }
+        requires spare { 2 * self.old.plan.back ≤ vec_capacity self.old.words }
+        requires twins { self.old.plan.back + self.old.twins ≤ vec_len self.old.words }
+        requires behind { vec_len self.old.words ≤ self.old.plan.back + self.old.heap }
         requires block { vec_len self.old.block ≡ BLOCK }
+        requires high { self.old.plan.back < 2 ^ 62 }
         requires limited { self.old.heap ≤ 2 ^ 60 }
-        ensures same { self.new ≡ record self.old { start = self.old.heap; ready = self.old.heap + LOW; block = self.new.block } }
+        ensures same { self.new ≡ record self.old { words = self.new.words; twins = vec_len self.old.words - self.old.plan.back; start = self.old.heap; ready = self.old.heap + LOW; block = self.new.block } }
+        ensures words { vec_len self.new.words ≡ vec_len self.old.words }
+        ensures room { vec_capacity self.new.words ≡ vec_capacity self.old.words }
         ensures len { vec_len self.new.block ≡ BLOCK }
-        ensures block { (c : octal.Code) → ArePairs c self.old.heap (map W.number self.old.pairs.items) → IsBlock W.digits c self.old.heap self.old.plan LOW (map W.number self.new.block.items) }
+        ensures pairs { (c : octal.Code) → ArePairs c self.old.heap self.old.plan.back (map W.number self.old.words.items) → ArePairs c self.old.heap self.old.plan.back (map W.number self.new.words.items) }
+        ensures twins { (c : octal.Code) → ArePairs c self.old.heap self.old.plan.back (map W.number self.old.words.items) → AreTwins c self.old.heap self.old.plan.back self.old.plan.apart self.old.twins (map W.number self.old.words.items) → AreTwins c self.old.heap self.old.plan.back self.old.plan.apart (vec_len self.old.words - self.old.plan.back) (map W.number self.new.words.items) }
+        ensures block { (c : octal.Code) → ArePairs c self.old.heap self.old.plan.back (map W.number self.old.words.items) → AreTwins c self.old.heap self.old.plan.back self.old.plan.apart self.old.twins (map W.number self.old.words.items) → IsBlock W.digits c self.old.heap self.old.plan LOW (map W.number self.new.block.items) }
     {
+        self.add_twins();
         self.add_far();
         self.add_low();
+    }
+
+    // Makes the words for twins that are not made yet.
+    #[inline(always)]
+    fn add_twins(&mut self)
+        requires words { self.old.plan.back ≤ vec_len self.old.words }
+        requires twice { vec_len self.old.words ≤ 2 * self.old.plan.back }
+        requires high { self.old.plan.back < 2 ^ 62 }
+        requires spare { 2 * self.old.plan.back ≤ vec_capacity self.old.words }
+        requires twins { self.old.plan.back + self.old.twins ≤ vec_len self.old.words }
+        requires behind { vec_len self.old.words ≤ self.old.plan.back + self.old.heap }
+        ensures same { self.new ≡ record self.old { words = self.new.words; twins = vec_len self.old.words - self.old.plan.back } }
+        ensures len { vec_len self.new.words ≡ vec_len self.old.words }
+        ensures room { vec_capacity self.new.words ≡ vec_capacity self.old.words }
+        ensures pairs { (c : octal.Code) → ArePairs c self.old.heap self.old.plan.back (map W.number self.old.words.items) → ArePairs c self.old.heap self.old.plan.back (map W.number self.new.words.items) }
+        ensures made { (c : octal.Code) → ArePairs c self.old.heap self.old.plan.back (map W.number self.old.words.items) → AreTwins c self.old.heap self.old.plan.back self.old.plan.apart self.old.twins (map W.number self.old.words.items) → AreTwins c self.old.heap self.old.plan.back self.old.plan.apart (vec_len self.old.words - self.old.plan.back) (map W.number self.new.words.items) }
+    {
+        let back = self.plan.back;
+        unite_twins(&mut self.words, back, self.plan.apart, self.twins);
+        self.twins = self.words.len() - back;
     }
 
     // Makes the sets of the block that begins with the next heap, by far steps alone.
     #[inline(always)]
     fn add_far(&mut self)
-        requires far { IsShapedSteps (2 ^ W.digits) BLOCK self.old.reach self.old.plan.far }
-        requires pairs { self.old.reach ≤ vec_len self.old.pairs }
-        requires behind { vec_len self.old.pairs ≤ self.old.heap }
+        requires far { IsShapedFar (2 ^ W.digits) self.old.reach self.old.plan.back self.old.plan.apart self.old.plan.far }
+        requires words { self.old.plan.back + self.old.reach ≤ vec_len self.old.words }
+        requires twins { vec_len self.old.words ≤ self.old.plan.back + self.old.twins }
+        requires behind { vec_len self.old.words ≤ self.old.plan.back + self.old.heap }
         requires block { vec_len self.old.block ≡ BLOCK }
         requires limited { self.old.heap ≤ 2 ^ 60 }
+        requires high { self.old.plan.back < 2 ^ 62 }
         ensures same { self.new ≡ record self.old { start = self.old.heap; ready = self.old.heap; block = self.new.block } }
         ensures len { vec_len self.new.block ≡ BLOCK }
-        ensures block { (c : octal.Code) → ArePairs c self.old.heap (map W.number self.old.pairs.items) → IsBlock W.digits c self.old.heap self.old.plan 0 (map W.number self.new.block.items) }
+        ensures block { (c : octal.Code) → ArePairs c self.old.heap self.old.plan.back (map W.number self.old.words.items) → AreTwins c self.old.heap self.old.plan.back self.old.plan.apart self.old.twins (map W.number self.old.words.items) → IsBlock W.digits c self.old.heap self.old.plan 0 (map W.number self.new.block.items) }
     {
         self.start = self.heap;
         self.ready = self.heap;
@@ -194,8 +242,8 @@ impl<W: Word, A: Allocator + Copy> SetsOf<W, A> {
         let far = &self.plan.far;
         unite_steps(
             block,
-            &self.pairs,
-            self.pairs.len(),
+            &self.words,
+            self.words.len(),
             &far.offsets,
             &far.values,
         );
@@ -205,24 +253,26 @@ impl<W: Word, A: Allocator + Copy> SetsOf<W, A> {
     #[inline(never)]
     fn add_low(&mut self)
         requires low { IsShapedSteps (2 ^ W.digits) LOW self.old.reach self.old.plan.low }
-        requires pairs { self.old.reach ≤ vec_len self.old.pairs }
-        requires behind { vec_len self.old.pairs ≤ self.old.heap }
+        requires reach { self.old.reach < self.old.plan.back }
+        requires words { self.old.plan.back + self.old.reach ≤ vec_len self.old.words }
+        requires behind { vec_len self.old.words ≤ self.old.plan.back + self.old.heap }
         requires block { vec_len self.old.block ≡ BLOCK }
         requires next { self.old.heap ≡ self.old.ready }
         requires started { self.old.start ≤ self.old.ready }
         requires room { self.old.ready + LOW ≤ self.old.start + BLOCK }
         requires limited { self.old.heap ≤ 2 ^ 60 }
+        requires high { self.old.plan.back < 2 ^ 62 }
         ensures same { self.new ≡ record self.old { ready = self.old.ready + LOW; block = self.new.block } }
         ensures len { vec_len self.new.block ≡ BLOCK }
-        ensures block { (c : octal.Code) → ArePairs c self.old.heap (map W.number self.old.pairs.items) → IsBlock W.digits c self.old.start self.old.plan (self.old.ready - self.old.start) (map W.number self.old.block.items) → IsBlock W.digits c self.old.start self.old.plan (self.old.ready + LOW - self.old.start) (map W.number self.new.block.items) }
+        ensures block { (c : octal.Code) → ArePairs c self.old.heap self.old.plan.back (map W.number self.old.words.items) → IsBlock W.digits c self.old.start self.old.plan (self.old.ready - self.old.start) (map W.number self.old.block.items) → IsBlock W.digits c self.old.start self.old.plan (self.old.ready + LOW - self.old.start) (map W.number self.new.block.items) }
     {
         let from = self.ready - self.start;
         let group = &mut self.block[from..from + LOW];
         let low = &self.plan.low;
         unite_steps(
             group,
-            &self.pairs,
-            self.pairs.len(),
+            &self.words,
+            self.words.len(),
             &low.offsets,
             &low.values,
         );

@@ -1,11 +1,11 @@
 //! How many heaps of a game are left by a plan and its witnesses.
 
 use crate::settled::settled_by;
-use crate::witnesses::{MOST, witnesses};
+use crate::witnesses::{Chosen, MOST, witnesses};
 use bitsets::Word;
 use oct_code::Code;
 use oct_mex::{Mask, Values};
-use std::alloc::Global;
+use std::alloc::{Allocator, Global};
 use std::process::Abort;
 
 const CODE: &str = "0.454";
@@ -78,16 +78,34 @@ fn width_of_a_word_is_no_number_of_it(rt: HostRuntime) {
     assert_eq!(&rt; wide, Some(32), "32 in a word of 64 bits");
 }
 
+// No heap at all, the rare heaps, the witnesses, and their twins.
+fn heaps_of<A: Allocator>(rt: &(impl Abort + AllocGlobal), chosen: &Chosen<A>) -> Vec<u32, Global> {
+    let mut heaps = Vec::new(rt.alloc());
+    heaps.extend_from_slice(RARE).ok().expect(rt, "memory");
+    heaps
+        .extend_from_slice(&chosen.alone)
+        .ok()
+        .expect(rt, "memory");
+    for heap in &chosen.twins {
+        let twin = (*heap as usize).wrapping_add(chosen.apart);
+        let twin = u32::try_from(twin).ok().expect(rt, "a small heap");
+        heaps.push(*heap).ok().expect(rt, "memory");
+        heaps.push(twin).ok().expect(rt, "memory");
+    }
+    heaps
+}
+
 #[test]
 fn few_heaps_are_left(rt: HostRuntime) {
     let code = Code::parse(CODE.as_bytes()).ok().expect(&rt, CODE);
     let values = values_of(&rt, code);
     let known = values.get(..KNOWN).expect(&rt, "the values");
-    let mut heaps = witnesses(rt.alloc(), &code, known, known, &RARE[1..])
+    let chosen = witnesses(rt.alloc(), &code, known, known, &RARE[1..])
         .ok()
         .expect(&rt, "memory");
-    assert!(&rt; heaps.len() <= MOST, "{} witnesses", heaps.len());
-    heaps.extend_from_slice(RARE).ok().expect(&rt, "memory");
+    let steps = chosen.alone.len().wrapping_add(chosen.twins.len());
+    assert!(&rt; steps <= MOST, "{steps} witnesses");
+    let heaps = heaps_of(&rt, &chosen);
     let mut left = 0_usize;
     for heap in KNOWN..KNOWN + FURTHER {
         if !is_settled(&code, &values, heap, &heaps) {

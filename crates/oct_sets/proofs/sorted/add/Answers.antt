@@ -1,5 +1,5 @@
-use Rattle.std.proofs.Common.{◌≡◌, ◌≤◌, ◌++◌, ◌∷◌, [], map, slice_index, inl, inr, length, refl, subst, sym, arith, ◌<◌}
-use Rattle.std.proofs.lemmas.Bool.{cases_lt}
+use Rattle.std.proofs.Common.{◌≡◌, ◌≤◌, ◌++◌, ◌∷◌, [], map, slice_index, inl, inr, length, refl, subst, sym, arith, ◌<◌, false}
+use Rattle.std.proofs.lemmas.Bool.{cases_lt, false≢true}
 use Rattle.std.proofs.lemmas.List.Elements.{Contains-append_left, Contains-get_or, Contains-push, Contains-push_cases}
 use Rattle.std.specs.List.{Contains}
 use Rattle.oct_mex.proofs.Cells.{as_many}
@@ -24,13 +24,13 @@ loop-heap-preserved g c =
     let few : heap < length small = omega (arith, held, as_many g.T.Cell.number c.args.small.now) in
     elim c.if-heap-gt0.branch [
       | then-heap-gt0+in_ok-push w ↦
-          let new : SmallHeap = record { place = w.place_of.result; value = w.number_at-value.result; heap = heap } in
+          let new : SmallHeap = record { place = w.place_of.result; value = w.number_at-value.result; heap = heap; twin = false } in
           let more : w.push.new.self.items ≡ old ++ new ∷ [] = w.in_ok-push.ensures.items in
           let kept : (h : SmallHeap) → Contains old h → Contains w.push.new.self.items h = λ h was. subst (λ xs. Contains xs h) (sym more) (Contains-append_left old (new ∷ []) h was) in
           rw w.list-is (record {
-            each = λ all h has. elim (Contains-push_cases old new h (subst (λ xs. Contains xs h) more has)) [
-              | inl was ↦ is.each all h was
-              | inr e ↦ subst (IsAmong small) e (record { some = w.if-heap-gt0.true; few = few; value = w.number_at-value.ensures })
+            each = λ apart all h has. elim (Contains-push_cases old new h (subst (λ xs. Contains xs h) more has)) [
+              | inl was ↦ is.each apart all h was
+              | inr e ↦ subst (IsAmong small apart) e (record { some = w.if-heap-gt0.true; few = few; value = w.number_at-value.ensures; twin = λ yes. absurd (false≢true yes) })
             ];
             keeps = λ h was. kept h (is.keeps h was);
             has = λ i low some. elim (cases_lt i k) [
@@ -42,7 +42,7 @@ loop-heap-preserved g c =
             ];
           })
       | else-heap-gt0 w ↦ rw w.list-is (record {
-        each = λ all h has. is.each all h has;
+        each = λ apart all h has. is.each apart all h has;
         keeps = λ h was. is.keeps h was;
         has = λ i low some. elim (cases_lt i k) [
           | inl less ↦ is.has i less some

@@ -13,19 +13,24 @@ loop-removed-preserved g c =
     let is = c.loop-removed.invariant in
     elim c.if-allows.branch [
       | then-allows+in_ok-push w ↦ rw w.self-is (record {
+        back = is.back;
+        apart = is.apart;
         some = omega arith;
         shaped = λ limit reach width small shaped few. record {
           far = (is.shaped limit reach width small shaped few).far;
           low = (is.shaped limit reach width small shaped few).low;
+          back = (is.shaped limit reach width small shaped few).back;
           near = steps_more limit 1 width r value c.loop-removed.self.near w.push.new.self (is.shaped limit reach width small shaped few).near w.in_ok-push.ensures.offsets w.in_ok-push.ensures.values is.some
               (omega (arith, few, c.loop-removed-test.true)) small;
         };
         adds = λ limit reach width small shaped few. adds_more code c.args.self.now c.loop-removed.self (record c.loop-removed.self { near = w.push.new.self }) (IsEndStep code value r) (λ d x. (d ≡ r) × (x ≡ value))
             (IsEndStep code value (r + 1)) (is.adds limit reach width small shaped few)
-            (adds_near code c.loop-removed.self (record c.loop-removed.self { near = w.push.new.self }) r value refl refl (is.shaped limit reach width small shaped few).near.beside w.in_ok-push.ensures.offsets w.in_ok-push.ensures.values)
+            (adds_near code c.loop-removed.self (record c.loop-removed.self { near = w.push.new.self }) r value refl refl refl refl (is.shaped limit reach width small shaped few).near.beside w.in_ok-push.ensures.offsets w.in_ok-push.ensures.values)
             (λ d x s. end_back code value r d x s) (λ d x s. end_forth code value r d x is.some (sym c.allows.ensures ∙ w.if-allows.true) s);
       })
       | else-allows w ↦ rw w.self-is (record {
+        back = is.back;
+        apart = is.apart;
         some = omega arith;
         shaped = λ limit reach width small shaped few. is.shaped limit reach width small shaped few;
         adds = λ limit reach width small shaped few. adds_same code c.args.self.now c.loop-removed.self (IsEndStep code value r) (IsEndStep code value (r + 1)) (is.adds limit reach width small shaped few)

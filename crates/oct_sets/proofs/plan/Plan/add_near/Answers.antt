@@ -15,18 +15,23 @@ loop-removed-preserved g c =
     let is = c.loop-removed.invariant in
     elim c.if-allows.branch [
       | then-allows+in_ok-push w ↦ rw w.self-is (record {
+        back = is.back;
+        apart = is.apart;
         shaped = λ limit reach small shaped few. record {
           far = (is.shaped limit reach small shaped few).far;
           low = (is.shaped limit reach small shaped few).low;
+          back = (is.shaped limit reach small shaped few).back;
           near = steps_more limit 1 (reach + len code) (r + heap) value c.loop-removed.self.near w.push.new.self (is.shaped limit reach small shaped few).near w.in_ok-push.ensures.offsets w.in_ok-push.ensures.values (omega (arith, c.requires.some))
               (omega (arith, few, c.loop-removed-test.true)) small;
         };
         adds = λ limit reach small shaped few. adds_more code c.args.self.now c.loop-removed.self (record c.loop-removed.self { near = w.push.new.self }) (IsPairStep code heap value r) (λ d x. (d ≡ r + heap) × (x ≡ value))
             (IsPairStep code heap value (r + 1)) (is.adds limit reach small shaped few)
-            (adds_near code c.loop-removed.self (record c.loop-removed.self { near = w.push.new.self }) (r + heap) value refl refl (is.shaped limit reach small shaped few).near.beside w.in_ok-push.ensures.offsets w.in_ok-push.ensures.values)
+            (adds_near code c.loop-removed.self (record c.loop-removed.self { near = w.push.new.self }) (r + heap) value refl refl refl refl (is.shaped limit reach small shaped few).near.beside w.in_ok-push.ensures.offsets w.in_ok-push.ensures.values)
             (λ d x s. pair_back code heap value r d x s) (λ d x s. pair_forth code heap value r d x (sym c.allows.ensures ∙ w.if-allows.true) s);
       })
       | else-allows w ↦ rw w.self-is (record {
+        back = is.back;
+        apart = is.apart;
         shaped = λ limit reach small shaped few. is.shaped limit reach small shaped few;
         adds = λ limit reach small shaped few. adds_same code c.args.self.now c.loop-removed.self (IsPairStep code heap value r) (IsPairStep code heap value (r + 1)) (is.adds limit reach small shaped few)
             (λ d x s. pair_skip code heap value r d x (λ yes. false≢true (sym w.if-allows.false ∙ c.allows.ensures ∙ yes)) s) (λ d x s. pair_later code heap value r d x s);
