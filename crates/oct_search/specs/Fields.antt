@@ -11,5 +11,5 @@ known_of s = record { code = s.code; len = len_of s.cells }
 
 pub record IsStored {A : Type 0} (s : Inside A) : Type 0 where
   pub known : IsKnown s.code s.cells
-  pub certain : IfSome s.certain (IsCertain s.code (len_of s.cells))
+  pub certain : IfSome s.outlook.certain (IsCertain s.code (len_of s.cells))
   pub sets : IfSome s.finder.sets (AreSetsOf s.code (len_of s.cells))

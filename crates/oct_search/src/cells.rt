@@ -12,7 +12,7 @@ ghost use Rattle.oct_search.specs.Found.{IsFound};
 ghost use Rattle.oct_search.specs.declared.error.SearchError.TheVariants.{PastValue};
 
 use crate::by_sets::push_unlisted;
-use crate::certificate::look_ahead;
+use crate::certificate::{Outlook, look_ahead};
 use crate::error::SearchError;
 use crate::finder::{Finder, lengthen, make_room, room_behind};
 use crate::search::MOST;
@@ -85,15 +85,15 @@ impl<A: Allocator + Copy> Cells<A> {
         }
     }
 
-    /// A period with which the values are known to go on, if the last ones let expect one. It may need memory for marks.
+    /// What the last values say of the next ones. It may need memory for marks.
     pub(crate) fn look_ahead(
         &self,
         alloc: A,
         code: &Code,
         marks: &mut Vec<bool, A>,
-    ) -> Result<Option<SeenPeriod>, AllocError>
+    ) -> Result<Outlook, AllocError>
         requires { IsKnown code.now self.now }
-        ensures { IfOk result (λ found. IfSome found (IsCertain code.now (len_of self.now))) }
+        ensures { IfOk result (λ outlook. IfSome outlook.certain (IsCertain code.now (len_of self.now))) }
     {
         match self {
             Cells::Narrow(row) => {

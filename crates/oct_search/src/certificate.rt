@@ -24,24 +24,42 @@ const SHARE: usize = 32;
 
 const SPARE: usize = 64;
 
-/// The least period that the last values let expect, if they are known to go on with it: they show it by themselves, or one run of
-/// settled heaps does. These are looked at only where they are fewer than the values that it spares.
+/// What the last values say of the next ones.
+#[derive(Clone, Copy)]
+pub(crate) struct Outlook {
+    /// Whether they come again by some period, so that one may be expected.
+    pub come_again: bool,
+    /// That period, the least one, if the values are known to go on with it.
+    pub certain: Option<SeenPeriod>,
+}
+
+/// What the last values say of the next ones. They are known to go on with the least period that they let expect where they show it
+/// by themselves, or one run of settled heaps does. These are looked at only where they are fewer than the values that it spares.
 pub(crate) fn look_ahead<T: Cell, A: Allocator + Copy>(
     alloc: A,
     row: &Row<T, A>,
     code: &Code,
     marks: &mut [bool],
-) -> Option<SeenPeriod>
+) -> Outlook
     requires row { IsRow T.number code.now row.now }
     requires marks { row.now.used ≤ length marks.old }
-    ensures { IfSome result (IsCertain code.now (vec_len row.now.values)) }
+    ensures { IfSome result.certain (IsCertain code.now (vec_len row.now.values)) }
 {
-    let seen = expected_period(&row.values, row.values.len() / SHARE + SPARE)?;
+    let Some(seen) = expected_period(&row.values, row.values.len() / SHARE + SPARE) else {
+        return Outlook {
+            come_again: false,
+            certain: None,
+        };
+    };
     let spared = need_of(code, seen).saturating_sub(row.values.len());
-    if spared == 0 || seen.period < spared && goes_on(alloc, row, code, seen, marks) {
+    let certain = if spared == 0 || seen.period < spared && goes_on(alloc, row, code, seen, marks) {
         Some(seen)
     } else {
         None
+    };
+    Outlook {
+        come_again: true,
+        certain,
     }
 }
 

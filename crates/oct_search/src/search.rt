@@ -7,7 +7,7 @@ ghost use Rattle.oct_search.specs.Found.{IsFound};
 ghost use Rattle.oct_search.specs.declared.error.SearchError.TheVariants.{PastValue};
 
 use crate::cells::Cells;
-use crate::certificate::need_of;
+use crate::certificate::{Outlook, need_of};
 use crate::error::SearchError;
 use crate::finder::Finder;
 use oct_code::Code;
@@ -38,8 +38,8 @@ pub struct Search<A: Allocator + Copy> {
     cells: Cells<A>,
     finder: Finder<A>,
     alloc: A,
-    // A period with which the values go on, once one is known.
-    certain: Option<SeenPeriod>,
+    // What the values said when it was last tried, with a period with which they go on, once one is known.
+    outlook: Outlook,
     // How many values there are when one is tried next.
     due: usize,
 }
@@ -65,7 +65,10 @@ impl<A: Allocator + Copy> Search<A> {
             cells: Cells::new(alloc),
             finder: Finder::new(alloc),
             alloc,
-            certain: None,
+            outlook: Outlook {
+                come_again: true,
+                certain: None,
+            },
             due: FIRST_TRY,
         }
     }
@@ -163,9 +166,9 @@ impl<A: Allocator + Copy> Search<A> {
         ensures { self.new ≡ self.old }
     {
         let len = self.len();
-        if self.certain.is_none() && len >= self.due {
+        if self.outlook.certain.is_none() && len >= self.due {
             self.due = len + len / TRY;
-            self.certain = self
+            self.outlook = self
                 .cells
                 .look_ahead(self.alloc, &self.code, &mut self.finder.marks)?;
         }
@@ -184,7 +187,7 @@ impl<A: Allocator + Copy> Search<A> {
         ensures short { OnErr result (self.new.len < end) }
         ensures past { IfErr result (λ fault. fault ≡ PastValue → 2 ^ 16 ≤ nim_value self.new.code self.new.len) }
     {
-        if let Some(seen) = self.certain {
+        if let Some(seen) = self.outlook.certain {
             self.finder.sets = None;
             self.cells.push_all_again(&self.code, seen.period, end)?;
             return Ok(());
@@ -218,8 +221,12 @@ impl<A: Allocator + Copy> Search<A> {
         self.look_ahead()?;
         let len = self.len();
         let next = FIRST_LOOK.max(len + len / 4);
-        if let Some(seen) = self.certain {
+        if let Some(seen) = self.outlook.certain {
             return Ok(self.look_by(seen, next, MOST + 1));
+        }
+        // Where the last values did not come again when it was last tried, more of them do not now.
+        if !self.outlook.come_again {
+            return Ok(next);
         }
         match self.cells.expected_period() {
             Some(seen) => Ok(self.look_by(seen, next, next + len / 2)),

@@ -120,8 +120,9 @@ fn one_settled_period_is_enough(rt: HostRuntime) {
         let pushed = cells.push_next(rt.alloc(), &code, &mut finder);
         assert!(&rt; pushed.is_ok(), "memory");
     }
-    let found = cells.look_ahead(rt.alloc(), &code, &mut finder.marks);
-    let found = found.ok().expect(&rt, "memory").expect(&rt, "a period");
+    let outlook = cells.look_ahead(rt.alloc(), &code, &mut finder.marks);
+    let outlook = outlook.ok().expect(&rt, "memory");
+    let found = outlook.certain.expect(&rt, "a period");
     assert_eq!(&rt; found.period, 349, "the period");
     assert_eq!(&rt; found.start, 3_479, "the heap from which it is seen");
 }
