@@ -8,8 +8,9 @@ ghost use Rattle.oct_bfile.specs.Bfile.{bfile_of, bfile_text, row_fault, row_tex
 use crate::bfile_error::BfileError;
 use crate::bfile_line::{BfileLine, line_of};
 use crate::splitting::next_line;
+use itoa::write_digits;
 use oct_code::LIMIT;
-use oct_text::{append_labelled, append_number, append_text};
+use oct_text::append_text;
 use std::alloc::{AllocError, Allocator};
 
 /// The values that a b-file lists.
@@ -46,7 +47,10 @@ fn append_rows<A: Allocator>(out: &mut Vec<u8, A>, values: &[u32]) -> Result<(),
     Ok(())
 }
 
-// Appends the line of a value.
+// How many bytes the line of a value takes at most: a number of 64 bits, a space, one of 32 bits, and a line feed.
+const LINE: usize = 32;
+
+// Appends the line of a value. It is written from its end, and appended at once.
 fn append_row<A: Allocator>(
     out: &mut Vec<u8, A>,
     number: usize,
@@ -55,9 +59,11 @@ fn append_row<A: Allocator>(
     ensures ok { OnOk result (out.new.items ≡ out.old.items ++ row_text number value) }
     ensures grown { Extends out.old.items out.new.items }
 {
-    append_number(out, number)?;
-    append_labelled(out, b" ", value)?;
-    append_text(out, b"\n")
+    let mut line = [b'\n'; LINE];
+    let value_start = write_digits(u64::from(value), &mut line, LINE - 1);
+    line[value_start - 1] = b' ';
+    let start = write_digits(number as u64, &mut line, value_start - 1);
+    append_text(out, &line[start..])
 }
 
 /// The values that a text lists, as `specs/Bfile` says. Lines end by LF, CR LF or CR; spaces and tabs at either end of a line

@@ -16,7 +16,6 @@ use oct_ops::Period;
 use oct_text::Piece::{Code as CodeText, Number, Text};
 use oct_text::append_pieces;
 use std::alloc::{AllocError, Allocator};
-use std::collections::BTreeSet;
 
 // Points are larger where there are fewer values.
 const FEW: usize = 500;
@@ -459,11 +458,8 @@ fn append_points_head<A: Allocator>(
 }
 
 // Appends the way through the points, in their order.
-fn append_ways<A: Allocator + Copy>(
-    out: &mut Vec<u8, A>,
-    points: &BTreeSet<Point, A>,
-) -> Result<(), AllocError>
-    ensures ok { OnOk result (out.new.items ≡ out.old.items ++ ways_text None points.now.keys) }
+fn append_ways<A: Allocator>(out: &mut Vec<u8, A>, points: &[Point]) -> Result<(), AllocError>
+    ensures ok { OnOk result (out.new.items ≡ out.old.items ++ ways_text None points.now) }
     ensures grown { Extends out.old.items out.new.items }
 {
     let mut before = None;
