@@ -9,7 +9,7 @@ use Rattle.oct_period.specs.declared.status.PeriodStatus.TheVariants as of_claim
 use Rattle.oct_store.specs.declared.author.Author.{Author}
 use Rattle.oct_verify.specs.declared.status.Status.{Status}
 use Rattle.oct_verify.specs.declared.status.Status.TheVariants as of_block
-use Rattle.oct_json.specs.Json.{author_data, block_by, block_data, called_data, count, document, fork_data, game_data, least_data, list, marked_block, marked_period, op_data, period_by, period_data, said_and_values, said_by, said_data, said_row}
+use Rattle.oct_json.specs.Json.{author_data, bare_game, block_by, block_data, called_data, count, document, fork_data, game_by, game_data, least_data, list, marked_block, marked_period, no_values, op_data, period_by, period_data, said_and_values, said_by, said_data, said_row}
 use Rattle.oct_overview.specs.Line.{period_of}
 use Rattle.oct_overview.specs.declared.line.LeastPeriod.{LeastPeriod}
 use Rattle.oct_json.specs.Said.{SaidPeriod}
@@ -64,12 +64,18 @@ least_float : (least : Option LeastPeriod) → has_float (least_data least) ≡ 
 least_float None = refl
 least_float (Some least) = refl
 
-pub game_float : (notes : List Operation) (g : GameSheet) → has_float (game_data notes g) ≡ false
-game_float notes g =
+game_by_float : (notes : List Operation) (g : GameSheet) (least : Option LeastPeriod) (values : Data) → has_float values ≡ false → has_float (game_by notes g least values) ≡ false
+game_by_float notes g least values none =
     λ i. items_float block_data (λ b. block_float b.row b.is_withdrawn b.row.status) (map (marked_block notes) g.blocks) i
-    || (false || (false || (least_float (period_of g) i
+    || (false || (false || (least_float least i
     || (items_float period_data (λ p. period_float p.row p.is_withdrawn p.row.status) (map (marked_period notes) g.periods) i
-    || values_float (map (said_row notes) (said_of notes g.code)) (list count g.values) (items_float count (λ n. refl) g.values) i))))
+    || values_float (map (said_row notes) (said_of notes g.code)) values none i))))
+
+pub bare_game_float : (notes : List Operation) (g : GameSheet) (least : Option LeastPeriod) → has_float (bare_game notes g least) ≡ false
+bare_game_float notes g least = game_by_float notes g least no_values refl
+
+game_float : (notes : List Operation) (g : GameSheet) → has_float (game_data notes g) ≡ false
+game_float notes g = game_by_float notes g (period_of g) (list count g.values) (items_float count (λ n. refl) g.values)
 
 author_float : (a : Author) (name : List ℕ) → has_float (called_data a name) ≡ false
 author_float a [] = refl

@@ -22,7 +22,7 @@ use Rattle.oct_pages.specs.declared.statuses.PeriodRow.{PeriodRow}
 use Rattle.oct_json.specs.Said.{SaidPeriod}
 use Rattle.oct_json.specs.declared.marked.MarkedBlock.{MarkedBlock}
 use Rattle.oct_json.specs.declared.marked.MarkedPeriod.{MarkedPeriod}
-use Rattle.serde_json.specs.Data.{Data, Members, null, boolean, number, string, array, object, member, no_members, unsigned}
+use Rattle.serde_json.specs.Data.{Data, Members, null, boolean, number, string, array, no_items, object, member, no_members, unsigned}
 use Rattle.serde_json.specs.View.{items_of}
 
 abbrev pub count : ℕ → Data
@@ -174,16 +174,23 @@ game_with blocks g least periods rest =
     (member (codes "least_period") least
     (member (codes "periods") periods rest)))))
 
-abbrev pub game_of : Data → GameSheet → Data → Data → List SaidPeriod → Data
-game_of blocks g least periods said = game_with blocks g least periods (said_and_values said (list count g.values))
+abbrev pub game_of : Data → GameSheet → Data → Data → List SaidPeriod → Data → Data
+game_of blocks g least periods said values = game_with blocks g least periods (said_and_values said values)
 
--- with what these notes say of it
-abbrev pub game_by : List Operation → GameSheet → Option LeastPeriod → Data
-game_by notes g least =
-    game_of (list block_data (map (marked_block notes) g.blocks)) g (least_data least) (list period_data (map (marked_period notes) g.periods)) (map (said_row notes) (said_of notes g.code))
+-- with what these notes say of it, and with this as its values
+abbrev pub game_by : List Operation → GameSheet → Option LeastPeriod → Data → Data
+game_by notes g least values =
+    game_of (list block_data (map (marked_block notes) g.blocks)) g (least_data least) (list period_data (map (marked_period notes) g.periods)) (map (said_row notes) (said_of notes g.code)) values
+
+abbrev pub no_values : Data
+no_values = array no_items
+
+-- the same with none of its values, though `known` counts them
+abbrev pub bare_game : List Operation → GameSheet → Option LeastPeriod → Data
+bare_game notes g least = game_by notes g least no_values
 
 abbrev pub game_data : List Operation → GameSheet → Data
-game_data notes g = game_by notes g (period_of g)
+game_data notes g = game_by notes g (period_of g) (list count g.values)
 
 abbrev pub note_data : Dot → Note → Data
 note_data d n =

@@ -1,7 +1,7 @@
 //! A record as a JSON document, written piece by piece.
 #![tactic(auto, using(oct_ops::proofs::Growing::growing))]
 
-ghost use Rattle.std.specs.Prelude.{◌≡◌, ◌++◌, false, map, IfOk, OnOk};
+ghost use Rattle.std.specs.Prelude.{◌≡◌, ◌++◌, false, map, OnOk};
 ghost use Rattle.std.specs.Io.KnownBytes.{Appends};
 ghost use Rattle.serde_json.specs.Data.{array};
 ghost use Rattle.serde_json.specs.View.{items_of, view};
@@ -12,8 +12,7 @@ ghost use Rattle.written.specs.Output.{AppendsFront};
 ghost use Rattle.oct_json.specs.Json.{author_data, document, game_data, list};
 ghost use Rattle.oct_sheet.specs.Sheet.{authors_of, game_sheet, sheet, sheet_among};
 
-use crate::forms::ToJson;
-use crate::json_rows::game_json;
+use crate::forms::{ToJson, append_comma, write_game_json};
 use oct_code::Code;
 use oct_join::OpSet;
 use oct_overview::LeastPeriod;
@@ -165,43 +164,31 @@ fn append_game(
 ) -> Result<(), AllocError>
     ensures { OnOk result (out.new.items ≡ out.old.items ++ (comma_if is_later ++ compact_text (game_data remarks.now (game_sheet (listed said.now.ops) code)))) }
 {
-    let value = game_value(alloc, said, remarks, code, leaders)?;
-    append_item(alloc, &value, is_later, out)
-}
-
-// The value of a game.
-fn game_value(
-    alloc: Global,
-    said: &Record<Global>,
-    remarks: &Remarks<'_, Global>,
-    code: Code,
-    leaders: &mut Leaders<Global>,
-) -> Result<Value, AllocError>
-    ensures { IfOk result (λ v. view v ≡ game_data remarks.now (game_sheet (listed said.now.ops) code)) }
-{
+    append_comma(out, is_later)?;
     match said.game(code) {
-        Some(ops) => built_value(alloc, said, remarks, code, ops, leaders),
-        None => built_value(alloc, said, remarks, code, &OpSet::new(alloc), leaders),
+        Some(ops) => append_built(alloc, said, remarks, code, ops, leaders, out),
+        None => append_built(alloc, said, remarks, code, &OpSet::new(alloc), leaders, out),
     }
 }
 
-// The value of a game with these operations, which is built for it.
-fn built_value(
+// Appends a game with these operations, which is built for it.
+fn append_built(
     alloc: Global,
     said: &Record<Global>,
     remarks: &Remarks<'_, Global>,
     code: Code,
     ops: &OpSet<Global>,
     leaders: &mut Leaders<Global>,
-) -> Result<Value, AllocError>
+    out: &mut Vec<u8>,
+) -> Result<(), AllocError>
     requires { ops.now ≡ summary.of_game said.now.ops code }
-    ensures { IfOk result (λ v. view v ≡ game_data remarks.now (game_sheet (listed said.now.ops) code)) }
+    ensures { OnOk result (out.new.items ≡ out.old.items ++ compact_text (game_data remarks.now (game_sheet (listed said.now.ops) code))) }
 {
     let game = game_after(said, code, leaders)?;
     let sheet = GameSheet::of_game(alloc, &game, ops)?;
     let found = game.find_period();
     let least = LeastPeriod::of(&sheet, &found);
-    game_json(alloc, &sheet, remarks, &least)
+    write_game_json(alloc, &sheet, remarks, &least, out)
 }
 
 // Appends an item of an array, behind a comma where another one stands before it.
@@ -214,9 +201,7 @@ fn append_item(
     requires { has_float (view value.now) ≡ false }
     ensures ok { OnOk result (out.new.items ≡ out.old.items ++ (comma_if is_later ++ compact_text (view value.now))) }
 {
-    if is_later {
-        append_text(out, b",")?;
-    }
+    append_comma(out, is_later)?;
     let text = value.to_string(alloc)?;
     append_text(out, text.as_bytes())
 }

@@ -5,7 +5,7 @@ ghost use Rattle.std.specs.Str.{IsAscii};
 ghost use Rattle.serde_json.specs.View.{view};
 ghost use Rattle.oct_code.specs.CodeText.{code_text};
 ghost use Rattle.oct_pages.specs.Contents.{game_content};
-ghost use Rattle.oct_json.specs.Json.{called_data, count, game_by, game_of, game_with, least_data, list, note_data, pending_period, plain_block, proved_period, refuted_block, refuted_period, said_by, said_first, word};
+ghost use Rattle.oct_json.specs.Json.{bare_game, called_data, game_of, game_with, least_data, no_values, note_data, pending_period, plain_block, proved_period, refuted_block, refuted_period, said_by, said_first, word};
 
 use crate::forms::{ToJson, array_of};
 use crate::marked::{
@@ -22,16 +22,6 @@ use oct_store::{Author, Fork};
 use oct_verify::Status;
 use serde_json::{Value, json};
 use std::alloc::{AllocError, Global};
-
-impl ToJson for u32 {
-    ghost use Rattle.oct_json.specs.Json.{count};
-
-    ghost form = { count };
-
-    fn to_json(&self, _alloc: Global) -> Result<Value, AllocError> {
-        Ok(Value::from(*self))
-    }
-}
 
 impl ToJson for MarkedBlock {
     ghost use Rattle.oct_json.specs.Json.{block_data};
@@ -283,14 +273,14 @@ fn said_by_name(alloc: Global, long: &LongPeriod, name: &[u8]) -> Result<Value, 
     })
 }
 
-/// The value of a game with this least period, and with what is said of it.
-pub(crate) fn game_json(
+/// The value of a game with this least period, and with what is said of it, but with none of its values.
+pub(crate) fn bare_game_json(
     alloc: Global,
     game: &GameSheet<'_, Global>,
     remarks: &Remarks<'_, Global>,
     least: &Option<LeastPeriod>,
 ) -> Result<Value, AllocError>
-    ensures { IfOk result (λ v. view v ≡ game_by remarks.now (game_content game.now) least.now) }
+    ensures { IfOk result (λ v. view v ≡ bare_game remarks.now (game_content game.now) least.now) }
 {
     let blocks = array_of(alloc, &marked_blocks(alloc, &game.blocks, remarks)?)?;
     let periods = array_of(alloc, &marked_periods(alloc, &game.periods, remarks)?)?;
@@ -299,7 +289,7 @@ pub(crate) fn game_json(
     game_from(alloc, game, blocks, least, periods, &said)
 }
 
-// The value of a game of which these long periods are said.
+// The value of a game of which these long periods are said, with none of its values.
 fn game_from(
     alloc: Global,
     game: &GameSheet<'_, Global>,
@@ -308,7 +298,7 @@ fn game_from(
     periods: Value,
     said: &[SaidPeriod<'_>],
 ) -> Result<Value, AllocError>
-    ensures { IfOk result (λ v. view v ≡ game_of (view blocks) (game_content game.now) (view least) (view periods) said.now) }
+    ensures { IfOk result (λ v. view v ≡ game_of (view blocks) (game_content game.now) (view least) (view periods) said.now no_values) }
 {
     if said.is_empty() {
         silent_game(alloc, game, blocks, least, periods)
@@ -317,7 +307,7 @@ fn game_from(
     }
 }
 
-// The value of a game of which none is said.
+// The value of a game of which none is said, with none of its values.
 fn silent_game(
     alloc: Global,
     game: &GameSheet<'_, Global>,
@@ -325,21 +315,20 @@ fn silent_game(
     least: Value,
     periods: Value,
 ) -> Result<Value, AllocError>
-    ensures { IfOk result (λ v. view v ≡ game_of (view blocks) (game_content game.now) (view least) (view periods) []) }
+    ensures { IfOk result (λ v. view v ≡ game_of (view blocks) (game_content game.now) (view least) (view periods) [] no_values) }
 {
     let code = code_value(alloc, &game.code)?;
-    let values = array_of(alloc, game.values)?;
     json!(in alloc; {
         "blocks": blocks,
         "code": code,
         "known": game.values.len(),
         "least_period": least,
         "periods": periods,
-        "values": values
+        "values": []
     })
 }
 
-// The value of a game of which some are said.
+// The value of a game of which some are said, with none of its values.
 fn told_game(
     alloc: Global,
     game: &GameSheet<'_, Global>,
@@ -349,13 +338,13 @@ fn told_game(
     said: &[SaidPeriod<'_>],
 ) -> Result<Value, AllocError>
     requires { 0 < length said.now }
-    ensures { IfOk result (λ v. view v ≡ game_of (view blocks) (game_content game.now) (view least) (view periods) said.now) }
+    ensures { IfOk result (λ v. view v ≡ game_of (view blocks) (game_content game.now) (view least) (view periods) said.now no_values) }
 {
     let said = array_of(alloc, said)?;
     game_that_has(alloc, game, blocks, least, periods, said)
 }
 
-// The value of a game with this member of what is said.
+// The value of a game with this member of what is said, with none of its values.
 fn game_that_has(
     alloc: Global,
     game: &GameSheet<'_, Global>,
@@ -364,10 +353,9 @@ fn game_that_has(
     periods: Value,
     said: Value,
 ) -> Result<Value, AllocError>
-    ensures { IfOk result (λ v. view v ≡ game_with (view blocks) (game_content game.now) (view least) (view periods) (said_first (view said) (list count (game_content game.now).values))) }
+    ensures { IfOk result (λ v. view v ≡ game_with (view blocks) (game_content game.now) (view least) (view periods) (said_first (view said) no_values)) }
 {
     let code = code_value(alloc, &game.code)?;
-    let values = array_of(alloc, game.values)?;
     json!(in alloc; {
         "blocks": blocks,
         "code": code,
@@ -375,7 +363,7 @@ fn game_that_has(
         "least_period": least,
         "periods": periods,
         "said": said,
-        "values": values
+        "values": []
     })
 }
 
