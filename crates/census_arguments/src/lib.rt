@@ -11,6 +11,7 @@
 //! - `drawing` gives the number of an `author`, which is drawn where none is named.
 //! - `files` reads the files that are named: `read_input` one, which may be standard input, and `read_files` several of
 //!   operations, of which `of_files` says which one is none.
+//! - `order` says, where a word is refused, in which order the words stand: `with_order`.
 #![tactic(auto)]
 
 mod drawing;
@@ -18,6 +19,7 @@ mod files;
 mod found;
 mod lists;
 mod numbers;
+mod order;
 
 pub use drawing::author;
 pub use files::{is_refused, of_files, read_files, read_input};
@@ -29,3 +31,4 @@ pub use numbers::{
     ANY_HEAP, BLOCK, FROM_0, FROM_1, HEAPS, Range, SEARCHED, SESSIONS, clock_of, heap_count, heaps,
     mode, number_of, option_if, option_of, searched, seconds, value_count,
 };
+pub use order::with_order;

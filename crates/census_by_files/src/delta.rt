@@ -1,13 +1,14 @@
 //! `census delta`: all operations of a state, or those of some games, as a file.
 
-use census_arguments::{is_listed, listed};
+use census_arguments::{is_listed, listed, with_order};
 use census_core::Request;
-use census_failure::Failure;
+use census_failure::{Audience, Failure};
 use census_requests::ask::{Ask, asking};
+use census_requests::{System, watched};
 use census_words::CommandRow;
 use census_words::words::{self, Choice, Takes, Times, Word};
 use clap::ArgMatches;
-use std::io::Read;
+use std::io::{Read, Write};
 use std::rt::Files;
 
 // The delta that is written.
@@ -50,8 +51,28 @@ Examples:
   census delta all.state part3.delta --codes codes.txt --part 3/64",
 };
 
-/// What its words ask for.
-pub fn task<'a, R, I>(rt: &R, found: &ArgMatches<'a>, input: &mut I) -> Result<Ask<'a>, Failure>
+/// Reads the words of the command, does it, and gives the exit status.
+pub fn command<R, I, O, E>(
+    rt: &R,
+    found: &ArgMatches<'_>,
+    input: &mut I,
+    output: &mut O,
+    errors: &mut E,
+    audience: Audience,
+) -> Result<u8, Failure>
+where
+    R: System,
+    I: Read,
+    O: Write,
+    E: Write,
+{
+    let asked = with_order(rt.alloc(), &ROW, task(rt, found, input))?;
+    watched::ask(rt, &asked, output, errors, audience)?;
+    Ok(0)
+}
+
+// What its words ask for.
+fn task<'a, R, I>(rt: &R, found: &ArgMatches<'a>, input: &mut I) -> Result<Ask<'a>, Failure>
 where
     R: Files + AllocGlobal,
     I: Read,

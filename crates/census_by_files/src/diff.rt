@@ -1,6 +1,6 @@
 //! `census diff`: what one file has and another has not.
 
-use census_arguments::{is_listed, is_refused, listed, read_input, word};
+use census_arguments::{is_listed, is_refused, listed, read_input, with_order, word};
 use census_core::Fault;
 use census_diagnosis::{Given, of_either, of_games};
 use census_failure::Failure;
@@ -63,20 +63,32 @@ Examples:
   census diff anna.state ben.state --only 0.77",
 };
 
-/// What is asked: how two files differ, in some games alone where these are named.
+// What is asked: how two files differ, in some games alone where these are named.
 #[derive(Drop)]
-pub struct Compared<'a> {
+struct Compared<'a> {
     one: &'a str,
     other: &'a str,
     games: Option<Vec<Vec<u8>>>,
 }
 
-/// What its words ask for.
-pub fn task<'a, R, I>(
+/// Reads the words of the command, does it, and gives the exit status.
+pub fn command<R, I, O>(
     rt: &R,
-    found: &ArgMatches<'a>,
+    found: &ArgMatches<'_>,
     input: &mut I,
-) -> Result<Compared<'a>, Failure>
+    output: &mut O,
+) -> Result<u8, Failure>
+where
+    R: Files + AllocGlobal,
+    I: Read,
+    O: Write,
+{
+    let asked = with_order(rt.alloc(), &ROW, task(rt, found, input))?;
+    run(rt, &asked, input, output)
+}
+
+// What its words ask for.
+fn task<'a, R, I>(rt: &R, found: &ArgMatches<'a>, input: &mut I) -> Result<Compared<'a>, Failure>
 where
     R: Files + AllocGlobal,
     I: Read,
@@ -104,14 +116,9 @@ fn standard_inputs(one: &str, other: &str, list: &str) -> usize {
         .count()
 }
 
-/// Prints what one file has and the other has not. The status is 0 where both have the same operations, of these games where
-/// some are named, and else 1.
-pub fn run<R, I, O>(
-    rt: &R,
-    asked: &Compared<'_>,
-    input: &mut I,
-    output: &mut O,
-) -> Result<u8, Failure>
+// Prints what one file has and the other has not. The status is 0 where both have the same operations, of these games where
+// some are named, and else 1.
+fn run<R, I, O>(rt: &R, asked: &Compared<'_>, input: &mut I, output: &mut O) -> Result<u8, Failure>
 where
     R: Files + AllocGlobal,
     I: Read,

@@ -1,11 +1,13 @@
 //! `census digest`: names of what files hold.
 
-use census_arguments::{form, repeated};
+use crate::watched;
+use census_arguments::{form, repeated, with_order};
 use census_core::{Fault, Form, digest};
 use census_diagnosis::{Given, of_either};
-use census_failure::{Failure, escaped};
+use census_failure::{Audience, Failure, escaped};
 use census_files::read_file;
 use census_progress::ProgressLine;
+use census_requests::System;
 use census_words::{CommandRow, words};
 use clap::ArgMatches;
 use serde_json::json;
@@ -39,13 +41,31 @@ Example:
 
 /// What is asked: the digest of each file, in this form.
 #[derive(Drop)]
-pub struct Digest<'a> {
+pub(crate) struct Digest<'a> {
     files: Vec<&'a str>,
     form: Form,
 }
 
-/// What its words ask for.
-pub fn task<'a>(alloc: Global, found: &ArgMatches<'a>) -> Result<Digest<'a>, Failure> {
+/// Reads the words of the command, does it, and gives the exit status.
+pub fn command<R, O, E>(
+    rt: &R,
+    found: &ArgMatches<'_>,
+    output: &mut O,
+    errors: &mut E,
+    audience: Audience,
+) -> Result<u8, Failure>
+where
+    R: System,
+    O: Write,
+    E: Write,
+{
+    let asked = with_order(rt.alloc(), &ROW, task(rt.alloc(), found))?;
+    watched::digest(rt, &asked, output, errors, audience)?;
+    Ok(0)
+}
+
+// What its words ask for.
+fn task<'a>(alloc: Global, found: &ArgMatches<'a>) -> Result<Digest<'a>, Failure> {
     Ok(Digest {
         files: repeated(alloc, found, words::FILES)?,
         form: form(found),

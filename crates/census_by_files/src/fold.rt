@@ -24,8 +24,25 @@ Example:
   census fold < examples/kayles.hex",
 };
 
-/// Folds the input, and says how many lines were refused.
-pub fn run<I: Read, O: Write, E: Write>(
+/// Does the command, which takes no words, and gives the exit status.
+pub fn command<R, I, O, E>(
+    rt: &R,
+    input: &mut I,
+    output: &mut O,
+    errors: &mut E,
+) -> Result<u8, Failure>
+where
+    R: AllocGlobal,
+    I: Read,
+    O: Write,
+    E: Write,
+{
+    run(rt.alloc(), input, output, errors)?;
+    Ok(0)
+}
+
+// Folds the input, and says how many lines were refused.
+fn run<I: Read, O: Write, E: Write>(
     alloc: Global,
     input: &mut I,
     output: &mut O,

@@ -1,6 +1,8 @@
 //! `census left`: which games of a list lack values.
 
-use census_arguments::{codes_in, dealt, heap_count, of_files, part, read_files, repeated_or_none};
+use census_arguments::{
+    codes_in, dealt, heap_count, of_files, part, read_files, repeated_or_none, with_order,
+};
 use census_codes::{Part, code_lines};
 use census_core::{Fault, left_in};
 use census_failure::Failure;
@@ -44,17 +46,34 @@ Examples:
   census left 4096 --codes codes.txt --part 3/64 part3.state | xargs -r census survey part3.state 4096",
 };
 
-/// What is asked: which games of a list, or of a part of it, lack one of so many values in files.
+// What is asked: which games of a list, or of a part of it, lack one of so many values in files.
 #[derive(Drop)]
-pub struct Left<'a> {
+struct Left<'a> {
     count: u32,
     list: &'a str,
     part: Option<Part>,
     files: Vec<&'a str>,
 }
 
-/// What its words ask for.
-pub fn task<'a>(alloc: Global, found: &ArgMatches<'a>) -> Result<Left<'a>, Failure> {
+/// Reads the words of the command, does it, and gives the exit status.
+pub fn command<R, I, O>(
+    rt: &R,
+    found: &ArgMatches<'_>,
+    input: &mut I,
+    output: &mut O,
+) -> Result<u8, Failure>
+where
+    R: Files + AllocGlobal,
+    I: Read,
+    O: Write,
+{
+    let asked = with_order(rt.alloc(), &ROW, task(rt.alloc(), found))?;
+    run(rt, &asked, input, output)?;
+    Ok(0)
+}
+
+// What its words ask for.
+fn task<'a>(alloc: Global, found: &ArgMatches<'a>) -> Result<Left<'a>, Failure> {
     let Some(list) = found.get_str(words::LIST.name) else {
         let text = String::from_str(alloc, "--codes FILE is missing");
         return Err(Failure::from(Fault::Words).found(text));
@@ -67,8 +86,8 @@ pub fn task<'a>(alloc: Global, found: &ArgMatches<'a>) -> Result<Left<'a>, Failu
     })
 }
 
-/// Prints the codes of the games that lack values.
-pub fn run<R, I, O>(rt: &R, asked: &Left<'_>, input: &mut I, output: &mut O) -> Result<(), Failure>
+// Prints the codes of the games that lack values.
+fn run<R, I, O>(rt: &R, asked: &Left<'_>, input: &mut I, output: &mut O) -> Result<(), Failure>
 where
     R: Files + AllocGlobal,
     I: Read,

@@ -1,7 +1,7 @@
 //! The commands over files of operations: what states and deltas hold, and how they are handed on.
 //!
 //! Each command stands in one file: its row, from which its help is made, what its words ask for, and what it does with that,
-//! where it is no request to a state.
+//! where it is no request to a state. Its function `command` reads the words and does it.
 //!
 //! - `fold`, `read` and `log` show what files hold together, `left` what they lack, `diff` what one has and another has not, and
 //!   `digest` names it.
@@ -20,4 +20,4 @@ pub mod log;
 pub mod merge;
 pub mod read;
 pub mod union;
-pub mod watched;
+mod watched;

@@ -1,6 +1,8 @@
 //! `census log`: who said what.
 
-use census_arguments::{FROM_1, clock_of, game, of_files, option_of, read_files, repeated};
+use census_arguments::{
+    FROM_1, clock_of, game, of_files, option_of, read_files, repeated, with_order,
+};
 use census_core::{Wanted, log_together};
 use census_failure::Failure;
 use census_words::CommandRow;
@@ -63,15 +65,26 @@ Examples:
   census log group.state --since 1.199 --since 2.31",
 };
 
-/// What is asked: of what was said in files, the operations that are wanted.
+// What is asked: of what was said in files, the operations that are wanted.
 #[derive(Drop)]
-pub struct Log<'a> {
+struct Log<'a> {
     files: Vec<&'a str>,
     wanted: Wanted<Global>,
 }
 
-/// What its words ask for.
-pub fn task<'a>(alloc: Global, found: &ArgMatches<'a>) -> Result<Log<'a>, Failure> {
+/// Reads the words of the command, does it, and gives the exit status.
+pub fn command<R, O>(rt: &R, found: &ArgMatches<'_>, output: &mut O) -> Result<u8, Failure>
+where
+    R: Files + AllocGlobal,
+    O: Write,
+{
+    let asked = with_order(rt.alloc(), &ROW, task(rt.alloc(), found))?;
+    run(rt, &asked, output)?;
+    Ok(0)
+}
+
+// What its words ask for.
+fn task<'a>(alloc: Global, found: &ArgMatches<'a>) -> Result<Log<'a>, Failure> {
     Ok(Log {
         wanted: Wanted {
             author: author(alloc, found)?,
@@ -98,8 +111,8 @@ fn game_found(alloc: Global, found: &ArgMatches<'_>) -> Result<Option<Code>, Fai
     }
 }
 
-/// Prints the log of what files hold together.
-pub fn run<R, O>(rt: &R, asked: &Log<'_>, output: &mut O) -> Result<(), Failure>
+// Prints the log of what files hold together.
+fn run<R, O>(rt: &R, asked: &Log<'_>, output: &mut O) -> Result<(), Failure>
 where
     R: Files + AllocGlobal,
     O: Write,

@@ -1,9 +1,11 @@
 //! `census read`: what files hold together.
 
-use census_arguments::{of_files, read_files, repeated};
+use crate::watched;
+use census_arguments::{of_files, read_files, repeated, with_order};
 use census_core::{Fault, read_together};
-use census_failure::Failure;
+use census_failure::{Audience, Failure};
 use census_progress::ProgressLine;
+use census_requests::System;
 use census_requests::viewing::flushed;
 use census_words::{CommandRow, words};
 use clap::ArgMatches;
@@ -30,8 +32,26 @@ Example:
   census read anna.state ben.delta",
 };
 
-/// What its words ask for: the files.
-pub fn task<'a>(alloc: Global, found: &ArgMatches<'a>) -> Result<Vec<&'a str>, Failure> {
+/// Reads the words of the command, does it, and gives the exit status.
+pub fn command<R, O, E>(
+    rt: &R,
+    found: &ArgMatches<'_>,
+    output: &mut O,
+    errors: &mut E,
+    audience: Audience,
+) -> Result<u8, Failure>
+where
+    R: System,
+    O: Write,
+    E: Write,
+{
+    let files = with_order(rt.alloc(), &ROW, task(rt.alloc(), found))?;
+    watched::read(rt, &files, output, errors, audience)?;
+    Ok(0)
+}
+
+// What its words ask for: the files.
+fn task<'a>(alloc: Global, found: &ArgMatches<'a>) -> Result<Vec<&'a str>, Failure> {
     repeated(alloc, found, words::FILES)
 }
 

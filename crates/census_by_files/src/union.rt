@@ -1,12 +1,13 @@
 //! `census union`: one delta of several.
 
-use census_arguments::{out, repeated};
+use crate::watched;
+use census_arguments::{out, repeated, with_order};
 use census_core::{Fault, Reply, unite};
 use census_diagnosis::{Given, of_delta};
-use census_failure::{Failure, INPUT_NAME};
+use census_failure::{Audience, Failure, INPUT_NAME};
 use census_files::{Out, Replaced, StateFile, is_standard, read_delta, read_standard};
 use census_progress::ProgressLine;
-use census_requests::print_file;
+use census_requests::{System, print_file};
 use census_words::CommandRow;
 use census_words::words::{self, Times, Word};
 use clap::ArgMatches;
@@ -54,13 +55,33 @@ Example, as a merge driver of git (docs/GROUP.md):
 
 /// What is asked: the union of delta files, and the file that it is written to.
 #[derive(Drop)]
-pub struct Union<'a> {
+pub(crate) struct Union<'a> {
     out: Out<'a>,
     deltas: Vec<&'a str>,
 }
 
-/// What its words ask for.
-pub fn task<'a>(alloc: Global, found: &ArgMatches<'a>) -> Result<Union<'a>, Failure> {
+/// Reads the words of the command, does it, and gives the exit status.
+pub fn command<R, I, O, E>(
+    rt: &R,
+    found: &ArgMatches<'_>,
+    input: &mut I,
+    output: &mut O,
+    errors: &mut E,
+    audience: Audience,
+) -> Result<u8, Failure>
+where
+    R: System,
+    I: Read,
+    O: Write,
+    E: Write,
+{
+    let asked = with_order(rt.alloc(), &ROW, task(rt.alloc(), found))?;
+    watched::union(rt, &asked, input, output, errors, audience)?;
+    Ok(0)
+}
+
+// What its words ask for.
+fn task<'a>(alloc: Global, found: &ArgMatches<'a>) -> Result<Union<'a>, Failure> {
     Ok(Union {
         out: out(found, UNION)?,
         deltas: repeated(alloc, found, DELTAS)?,

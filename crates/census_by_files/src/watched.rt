@@ -11,7 +11,7 @@ use census_requests::System;
 use std::io::{Read, Write};
 
 /// The catalogue of what files hold together.
-pub fn read<R, O, E>(
+pub(crate) fn read<R, O, E>(
     rt: &R,
     paths: &[&str],
     output: &mut O,
@@ -28,7 +28,7 @@ where
 }
 
 /// The digest of each file.
-pub fn digest<R, O, E>(
+pub(crate) fn digest<R, O, E>(
     rt: &R,
     asked: &Digest<'_>,
     output: &mut O,
@@ -45,7 +45,7 @@ where
 }
 
 /// The union of delta files as one.
-pub fn union<R, I, O, E>(
+pub(crate) fn union<R, I, O, E>(
     rt: &R,
     asked: &Union<'_>,
     input: &mut I,

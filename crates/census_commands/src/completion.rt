@@ -1,7 +1,7 @@
 //! `census completion`: how a shell completes words.
 
 use crate::commands::chapters;
-use census_arguments::word;
+use census_arguments::{with_order, word};
 use census_core::Fault;
 use census_failure::{Failure, fault_names, shown};
 use census_words::{CommandRow, Shell, append_completions, words};
@@ -26,8 +26,19 @@ Example:
   source <(census completion bash)",
 };
 
-/// What its words ask for: the shell.
-pub(crate) fn task(alloc: Global, found: &ArgMatches<'_>) -> Result<Shell, Failure> {
+/// Reads the words of the command, does it, and gives the exit status.
+pub(crate) fn command<R, O>(rt: &R, found: &ArgMatches<'_>, output: &mut O) -> Result<u8, Failure>
+where
+    R: AllocGlobal,
+    O: Write,
+{
+    let shell = with_order(rt.alloc(), &ROW, task(rt.alloc(), found))?;
+    run(rt.alloc(), shell, output)?;
+    Ok(0)
+}
+
+// What its words ask for: the shell.
+fn task(alloc: Global, found: &ArgMatches<'_>) -> Result<Shell, Failure> {
     let name = word(found, words::SHELL)?;
     match Shell::named(name) {
         Some(shell) => Ok(shell),
@@ -40,8 +51,8 @@ fn shell_text(alloc: Global, name: &str) -> Result<String, AllocError> {
     format!(in alloc; "SHELL must be bash, zsh or fish, and is {name}")
 }
 
-/// Prints the completions for a shell.
-pub(crate) fn run<O: Write>(alloc: Global, shell: Shell, output: &mut O) -> Result<(), Failure> {
+// Prints the completions for a shell.
+fn run<O: Write>(alloc: Global, shell: Shell, output: &mut O) -> Result<(), Failure> {
     let mut text = String::new(alloc);
     let faults = fault_names(alloc)?;
     append_completions(&mut text, shell, &chapters(), &faults)?;

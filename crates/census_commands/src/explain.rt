@@ -1,6 +1,6 @@
 //! `census explain`: what faults mean.
 
-use census_arguments::repeated_or_none;
+use census_arguments::{repeated_or_none, with_order};
 use census_core::Fault;
 use census_failure::{Failure, faults_text, shown};
 use census_words::{CommandRow, words};
@@ -26,13 +26,24 @@ Example:
   census explain Load",
 };
 
-/// What its words ask for: what the faults are called.
-pub(crate) fn task<'a>(alloc: Global, found: &ArgMatches<'a>) -> Result<Vec<&'a str>, Failure> {
+/// Reads the words of the command, does it, and gives the exit status.
+pub(crate) fn command<R, O>(rt: &R, found: &ArgMatches<'_>, output: &mut O) -> Result<u8, Failure>
+where
+    R: AllocGlobal,
+    O: Write,
+{
+    let names = with_order(rt.alloc(), &ROW, task(rt.alloc(), found))?;
+    run(rt.alloc(), &names, output)?;
+    Ok(0)
+}
+
+// What its words ask for: what the faults are called.
+fn task<'a>(alloc: Global, found: &ArgMatches<'a>) -> Result<Vec<&'a str>, Failure> {
     repeated_or_none(alloc, found, words::FAULT)
 }
 
-/// Says what faults mean that are called so.
-pub(crate) fn run<O: Write>(alloc: Global, words: &[&str], output: &mut O) -> Result<(), Failure> {
+// Says what faults mean that are called so.
+fn run<O: Write>(alloc: Global, words: &[&str], output: &mut O) -> Result<(), Failure> {
     match faults_text(alloc, words)? {
         Some(text) => Ok(write_out(output, text.as_bytes())?),
         None => Err(unnamed(alloc, words)),

@@ -24,8 +24,18 @@ Example:
   census manual | man -l -",
 };
 
-/// Prints the page of the manual.
-pub(crate) fn run<O: Write>(alloc: Global, output: &mut O) -> Result<(), Failure> {
+/// Does the command, which takes no words, and gives the exit status.
+pub(crate) fn command<R, O>(rt: &R, output: &mut O) -> Result<u8, Failure>
+where
+    R: AllocGlobal,
+    O: Write,
+{
+    run(rt.alloc(), output)?;
+    Ok(0)
+}
+
+// Prints the page of the manual.
+fn run<O: Write>(alloc: Global, output: &mut O) -> Result<(), Failure> {
     let page = manual_page(alloc, &chapters(), &entries(alloc)?)?;
     Ok(write_out(output, page.as_bytes())?)
 }

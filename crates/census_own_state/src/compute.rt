@@ -1,13 +1,15 @@
 //! `census compute`: the next values of a game.
 
-use census_arguments::{BLOCK, bytes, number_of};
+use census_arguments::{BLOCK, bytes, number_of, with_order};
 use census_core::Request;
-use census_failure::Failure;
+use census_failure::{Audience, Failure};
 use census_requests::change::{Change, changing};
+use census_requests::{System, watched};
 use census_words::CommandRow;
 use census_words::words::{self, Times, Word};
 use clap::ArgMatches;
 use std::alloc::Global;
+use std::io::{Read, Write};
 
 // How many values are computed as one block.
 const COUNT: Word = Word {
@@ -34,8 +36,28 @@ Example:
   census compute anna.state 0.77 168",
 };
 
-/// What its words ask for.
-pub fn task<'a>(alloc: Global, found: &ArgMatches<'a>) -> Result<Change<'a>, Failure> {
+/// Reads the words of the command, does it, and gives the exit status.
+pub fn command<R, I, O, E>(
+    rt: &R,
+    found: &ArgMatches<'_>,
+    input: &mut I,
+    output: &mut O,
+    errors: &mut E,
+    audience: Audience,
+) -> Result<u8, Failure>
+where
+    R: System,
+    I: Read,
+    O: Write,
+    E: Write,
+{
+    let asked = with_order(rt.alloc(), &ROW, task(rt.alloc(), found))?;
+    watched::change(rt, &asked, input, output, errors, audience)?;
+    Ok(0)
+}
+
+// What its words ask for.
+fn task<'a>(alloc: Global, found: &ArgMatches<'a>) -> Result<Change<'a>, Failure> {
     let request = Request::Compute {
         count: number_of(alloc, found, COUNT, BLOCK)?,
         code: bytes(alloc, found, words::CODE)?,

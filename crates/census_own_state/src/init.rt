@@ -1,6 +1,6 @@
 //! `census init`: a new state.
 
-use census_arguments::{author, word};
+use census_arguments::{author, with_order, word};
 use census_core::{Fault, Reply, Request, perform};
 use census_failure::Failure;
 use census_files::{StateFile, exists};
@@ -36,15 +36,26 @@ Examples:
   census init part3.state --for '4096 3/64 codes.txt'",
 };
 
-/// What is asked: a new state file of this author.
+// What is asked: a new state file of this author.
 #[derive(Clone, Copy)]
-pub struct NewState<'a> {
+struct NewState<'a> {
     state: &'a str,
     id: u32,
 }
 
-/// What its words ask for.
-pub fn task<'a, R: AllocGlobal + RandomSource>(
+/// Reads the words of the command, does it, and gives the exit status.
+pub fn command<R, O>(rt: &R, found: &ArgMatches<'_>, output: &mut O) -> Result<u8, Failure>
+where
+    R: Files<File = File> + AllocGlobal + RandomSource,
+    O: Write,
+{
+    let asked = with_order(rt.alloc(), &ROW, task(rt, found))?;
+    run(rt, &asked, output)?;
+    Ok(0)
+}
+
+// What its words ask for.
+fn task<'a, R: AllocGlobal + RandomSource>(
     rt: &R,
     found: &ArgMatches<'a>,
 ) -> Result<NewState<'a>, Failure> {
@@ -54,8 +65,8 @@ pub fn task<'a, R: AllocGlobal + RandomSource>(
     })
 }
 
-/// Makes a state file, where nothing stands in its place.
-pub fn run<R, O>(rt: &R, asked: &NewState<'_>, output: &mut O) -> Result<(), Failure>
+// Makes a state file, where nothing stands in its place.
+fn run<R, O>(rt: &R, asked: &NewState<'_>, output: &mut O) -> Result<(), Failure>
 where
     R: Files<File = File> + AllocGlobal,
     O: Write,

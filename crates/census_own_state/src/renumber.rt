@@ -1,12 +1,14 @@
 //! `census renumber`: a state goes on under another number.
 
-use census_arguments::author;
+use census_arguments::{author, with_order};
 use census_core::Request;
-use census_failure::Failure;
+use census_failure::{Audience, Failure};
 use census_requests::change::{Change, changing};
+use census_requests::{System, watched};
 use census_words::CommandRow;
 use census_words::words::{self, Times, Word};
 use clap::ArgMatches;
+use std::io::{Read, Write};
 use std::random::RandomSource;
 
 // The author that a state goes on under.
@@ -35,8 +37,28 @@ Example:
   census renumber anna.state",
 };
 
-/// What its words ask for.
-pub fn task<'a, R: AllocGlobal + RandomSource>(
+/// Reads the words of the command, does it, and gives the exit status.
+pub fn command<R, I, O, E>(
+    rt: &R,
+    found: &ArgMatches<'_>,
+    input: &mut I,
+    output: &mut O,
+    errors: &mut E,
+    audience: Audience,
+) -> Result<u8, Failure>
+where
+    R: System + RandomSource,
+    I: Read,
+    O: Write,
+    E: Write,
+{
+    let asked = with_order(rt.alloc(), &ROW, task(rt, found))?;
+    watched::change(rt, &asked, input, output, errors, audience)?;
+    Ok(0)
+}
+
+// What its words ask for.
+fn task<'a, R: AllocGlobal + RandomSource>(
     rt: &R,
     found: &ArgMatches<'a>,
 ) -> Result<Change<'a>, Failure> {

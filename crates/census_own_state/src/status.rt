@@ -1,6 +1,6 @@
 //! `census status`: what a state file holds, on one screen.
 
-use census_arguments::word;
+use census_arguments::{with_order, word};
 use census_core::{Fault, outcome, status};
 use census_diagnosis::{Given, of_games};
 use census_failure::Failure;
@@ -45,23 +45,34 @@ Examples:
   census status anna.state --full",
 };
 
-/// What is asked: what a state file holds, and whether also what became of its claims.
+// What is asked: what a state file holds, and whether also what became of its claims.
 #[derive(Clone, Copy)]
-pub struct Status<'a> {
+struct Status<'a> {
     state: &'a str,
     is_full: bool,
 }
 
-/// What its words ask for.
-pub fn task<'a>(found: &ArgMatches<'a>) -> Result<Status<'a>, Failure> {
+/// Reads the words of the command, does it, and gives the exit status.
+pub fn command<R, O>(rt: &R, found: &ArgMatches<'_>, output: &mut O) -> Result<u8, Failure>
+where
+    R: Files<File = File> + AllocGlobal,
+    O: Write,
+{
+    let asked = with_order(rt.alloc(), &ROW, task(found))?;
+    run(rt, &asked, output)?;
+    Ok(0)
+}
+
+// What its words ask for.
+fn task<'a>(found: &ArgMatches<'a>) -> Result<Status<'a>, Failure> {
     Ok(Status {
         state: word(found, words::STATE)?,
         is_full: found.get_flag(FULL.name),
     })
 }
 
-/// Prints what a state file holds, and whether it is locked; where all is asked for also what became of its claims.
-pub fn run<R, O>(rt: &R, asked: &Status<'_>, output: &mut O) -> Result<(), Failure>
+// Prints what a state file holds, and whether it is locked; where all is asked for also what became of its claims.
+fn run<R, O>(rt: &R, asked: &Status<'_>, output: &mut O) -> Result<(), Failure>
 where
     R: Files<File = File> + AllocGlobal,
     O: Write,

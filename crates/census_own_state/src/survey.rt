@@ -1,12 +1,13 @@
 //! `census survey`: the same, and the period of each game.
 
-use census_arguments::{form, heap_count, listed};
+use census_arguments::{form, heap_count, listed, with_order};
 use census_core::Request;
-use census_failure::Failure;
+use census_failure::{Audience, Failure};
 use census_requests::change::{Change, changing};
+use census_requests::{System, watched};
 use census_words::{CommandRow, words};
 use clap::ArgMatches;
-use std::io::Read;
+use std::io::{Read, Write};
 use std::rt::Files;
 
 /// Its row in the table.
@@ -33,8 +34,28 @@ Examples, the first with the braces of the shell (the three-digit games of Winni
   census survey part3.state 4096 --codes codes.txt --part 3/64",
 };
 
-/// What its words ask for.
-pub fn task<'a, R, I>(rt: &R, found: &ArgMatches<'a>, input: &mut I) -> Result<Change<'a>, Failure>
+/// Reads the words of the command, does it, and gives the exit status.
+pub fn command<R, I, O, E>(
+    rt: &R,
+    found: &ArgMatches<'_>,
+    input: &mut I,
+    output: &mut O,
+    errors: &mut E,
+    audience: Audience,
+) -> Result<u8, Failure>
+where
+    R: System,
+    I: Read,
+    O: Write,
+    E: Write,
+{
+    let asked = with_order(rt.alloc(), &ROW, task(rt, found, input))?;
+    watched::change(rt, &asked, input, output, errors, audience)?;
+    Ok(0)
+}
+
+// What its words ask for.
+fn task<'a, R, I>(rt: &R, found: &ArgMatches<'a>, input: &mut I) -> Result<Change<'a>, Failure>
 where
     R: Files + AllocGlobal,
     I: Read,

@@ -1,12 +1,14 @@
 //! `census unnote`: notes are taken back.
 
-use census_arguments::bytes;
+use census_arguments::{bytes, with_order};
 use census_core::Request;
-use census_failure::Failure;
+use census_failure::{Audience, Failure};
 use census_requests::change::{Change, changing};
+use census_requests::{System, watched};
 use census_words::{CommandRow, words};
 use clap::ArgMatches;
 use std::alloc::Global;
+use std::io::{Read, Write};
 
 /// Its row in the table.
 pub const ROW: CommandRow = CommandRow {
@@ -25,8 +27,28 @@ Example:
   census unnote anna.state kayles",
 };
 
-/// What its words ask for.
-pub fn task<'a>(alloc: Global, found: &ArgMatches<'a>) -> Result<Change<'a>, Failure> {
+/// Reads the words of the command, does it, and gives the exit status.
+pub fn command<R, I, O, E>(
+    rt: &R,
+    found: &ArgMatches<'_>,
+    input: &mut I,
+    output: &mut O,
+    errors: &mut E,
+    audience: Audience,
+) -> Result<u8, Failure>
+where
+    R: System,
+    I: Read,
+    O: Write,
+    E: Write,
+{
+    let asked = with_order(rt.alloc(), &ROW, task(rt.alloc(), found))?;
+    watched::change(rt, &asked, input, output, errors, audience)?;
+    Ok(0)
+}
+
+// What its words ask for.
+fn task<'a>(alloc: Global, found: &ArgMatches<'a>) -> Result<Change<'a>, Failure> {
     let request = Request::Unnote {
         name: bytes(alloc, found, words::NAME)?,
     };

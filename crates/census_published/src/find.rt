@@ -1,12 +1,13 @@
 //! `census find`: the period that known values prove.
 
-use census_arguments::{form, listed};
+use census_arguments::{form, listed, with_order};
 use census_core::Request;
-use census_failure::Failure;
+use census_failure::{Audience, Failure};
 use census_requests::ask::{Ask, asking};
+use census_requests::{System, watched};
 use census_words::{CommandRow, words};
 use clap::ArgMatches;
-use std::io::Read;
+use std::io::{Read, Write};
 use std::rt::Files;
 
 /// Its row in the table.
@@ -30,8 +31,28 @@ Example:
   census find anna.state 0.77",
 };
 
-/// What its words ask for.
-pub fn task<'a, R, I>(rt: &R, found: &ArgMatches<'a>, input: &mut I) -> Result<Ask<'a>, Failure>
+/// Reads the words of the command, does it, and gives the exit status.
+pub fn command<R, I, O, E>(
+    rt: &R,
+    found: &ArgMatches<'_>,
+    input: &mut I,
+    output: &mut O,
+    errors: &mut E,
+    audience: Audience,
+) -> Result<u8, Failure>
+where
+    R: System,
+    I: Read,
+    O: Write,
+    E: Write,
+{
+    let asked = with_order(rt.alloc(), &ROW, task(rt, found, input))?;
+    watched::ask(rt, &asked, output, errors, audience)?;
+    Ok(0)
+}
+
+// What its words ask for.
+fn task<'a, R, I>(rt: &R, found: &ArgMatches<'a>, input: &mut I) -> Result<Ask<'a>, Failure>
 where
     R: Files + AllocGlobal,
     I: Read,

@@ -1,12 +1,13 @@
 //! `census games`: a line for each game, or for each refutation, or a table.
 
-use census_arguments::{FROM_1, is_listed, listed, option_of, word};
+use crate::watched;
+use census_arguments::{FROM_1, is_listed, listed, option_of, with_order, word};
 use census_core::{Condition, Fault, Form, Listing, list_games};
 use census_diagnosis::{Given, of_games};
 use census_failure::{Failure, shown};
 use census_files::read_state;
 use census_progress::ProgressLine;
-use census_requests::Readers;
+use census_requests::{Readers, System};
 use census_table::{Look, When, width_of};
 use census_words::CommandRow;
 use census_words::words::{self, Choice, Takes, Times, Word};
@@ -152,7 +153,7 @@ Examples:
 
 /// What is asked: what is listed of games of a state, and of which.
 #[derive(Drop)]
-pub struct Asked<'a> {
+pub(crate) struct Asked<'a> {
     state: &'a str,
     codes: Vec<Vec<u8>>,
     which: Vec<Condition>,
@@ -161,8 +162,28 @@ pub struct Asked<'a> {
     width: Option<usize>,
 }
 
-/// What its words ask for.
-pub fn task<'a, R, I>(rt: &R, found: &ArgMatches<'a>, input: &mut I) -> Result<Asked<'a>, Failure>
+/// Reads the words of the command, does it, and gives the exit status.
+pub fn command<R, I, O, E>(
+    rt: &R,
+    found: &ArgMatches<'_>,
+    input: &mut I,
+    output: &mut O,
+    errors: &mut E,
+    readers: Readers,
+) -> Result<u8, Failure>
+where
+    R: System,
+    I: Read,
+    O: Write,
+    E: Write,
+{
+    let asked = with_order(rt.alloc(), &ROW, task(rt, found, input))?;
+    watched::games(rt, &asked, output, errors, readers)?;
+    Ok(0)
+}
+
+// What its words ask for.
+fn task<'a, R, I>(rt: &R, found: &ArgMatches<'a>, input: &mut I) -> Result<Asked<'a>, Failure>
 where
     R: Files + AllocGlobal,
     I: Read,

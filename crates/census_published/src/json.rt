@@ -1,11 +1,13 @@
 //! `census json`: all that is known, for scripts.
 
+use census_arguments::with_order;
 use census_core::View;
-use census_failure::Failure;
+use census_failure::{Audience, Failure};
 use census_requests::viewing::{Viewed, viewing};
+use census_requests::{System, watched};
 use census_words::{CommandRow, words};
 use clap::ArgMatches;
-use std::io::Read;
+use std::io::{Read, Write};
 use std::rt::Files;
 
 /// Its row in the table.
@@ -26,8 +28,28 @@ Example:
   census json anna.state > anna.json",
 };
 
-/// What its words ask for.
-pub fn task<'a, R, I>(rt: &R, found: &ArgMatches<'a>, input: &mut I) -> Result<Viewed<'a>, Failure>
+/// Reads the words of the command, does it, and gives the exit status.
+pub fn command<R, I, O, E>(
+    rt: &R,
+    found: &ArgMatches<'_>,
+    input: &mut I,
+    output: &mut O,
+    errors: &mut E,
+    audience: Audience,
+) -> Result<u8, Failure>
+where
+    R: System,
+    I: Read,
+    O: Write,
+    E: Write,
+{
+    let asked = with_order(rt.alloc(), &ROW, task(rt, found, input))?;
+    watched::view(rt, &asked, output, errors, audience)?;
+    Ok(0)
+}
+
+// What its words ask for.
+fn task<'a, R, I>(rt: &R, found: &ArgMatches<'a>, input: &mut I) -> Result<Viewed<'a>, Failure>
 where
     R: Files + AllocGlobal,
     I: Read,

@@ -1,9 +1,10 @@
 //! `census plot`: the picture of the known values of a game.
 
-use census_arguments::{ANY_HEAP, bytes, option_if, word};
+use crate::watched;
+use census_arguments::{ANY_HEAP, bytes, option_if, with_order, word};
 use census_core::{Fault, Request, plot_heaps};
 use census_diagnosis::{Given, of_code, of_games};
-use census_failure::{Advice, Failure, shown_bytes};
+use census_failure::{Advice, Audience, Failure, shown_bytes};
 use census_files::read_state;
 use census_requests::System;
 use census_requests::ask::{self, Ask, asking};
@@ -55,7 +56,7 @@ Examples:
 
 /// The picture that is asked for.
 #[derive(Drop)]
-pub enum Picture<'a> {
+pub(crate) enum Picture<'a> {
     /// That of what is known of a game.
     Game(Ask<'a>),
     /// That of some heaps of a game.
@@ -64,15 +65,33 @@ pub enum Picture<'a> {
 
 /// Some heaps of a game, of which a picture is asked for.
 #[derive(Drop)]
-pub struct Drawn<'a> {
+pub(crate) struct Drawn<'a> {
     state: &'a str,
     code: Vec<u8>,
     from: u64,
     to: u64,
 }
 
-/// What its words ask for.
-pub fn task<'a>(alloc: Global, found: &ArgMatches<'a>) -> Result<Picture<'a>, Failure> {
+/// Reads the words of the command, does it, and gives the exit status.
+pub fn command<R, O, E>(
+    rt: &R,
+    found: &ArgMatches<'_>,
+    output: &mut O,
+    errors: &mut E,
+    audience: Audience,
+) -> Result<u8, Failure>
+where
+    R: System,
+    O: Write,
+    E: Write,
+{
+    let asked = with_order(rt.alloc(), &ROW, task(rt.alloc(), found))?;
+    watched::plot(rt, &asked, output, errors, audience)?;
+    Ok(0)
+}
+
+// What its words ask for.
+fn task<'a>(alloc: Global, found: &ArgMatches<'a>) -> Result<Picture<'a>, Failure> {
     let from = option_if(alloc, found, FIRST_HEAP, ANY_HEAP)?;
     let to = option_if(alloc, found, LAST_HEAP, ANY_HEAP)?;
     let code = bytes(alloc, found, words::CODE)?;

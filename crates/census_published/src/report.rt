@@ -1,13 +1,15 @@
 //! `census report`: all that is known, as one page of HTML.
 
+use census_arguments::with_order;
 use census_core::{Fault, View};
-use census_failure::Failure;
+use census_failure::{Audience, Failure};
 use census_requests::viewing::{Viewed, viewing};
+use census_requests::{System, watched};
 use census_words::CommandRow;
 use census_words::words::{self, Choice, Takes};
 use clap::ArgMatches;
 use oct_text::Shown;
-use std::io::Read;
+use std::io::{Read, Write};
 use std::rt::Files;
 
 // How many values of a game a report shows.
@@ -39,8 +41,28 @@ Example:
   census report anna.state > anna.html",
 };
 
-/// What its words ask for.
-pub fn task<'a, R, I>(rt: &R, found: &ArgMatches<'a>, input: &mut I) -> Result<Viewed<'a>, Failure>
+/// Reads the words of the command, does it, and gives the exit status.
+pub fn command<R, I, O, E>(
+    rt: &R,
+    found: &ArgMatches<'_>,
+    input: &mut I,
+    output: &mut O,
+    errors: &mut E,
+    audience: Audience,
+) -> Result<u8, Failure>
+where
+    R: System,
+    I: Read,
+    O: Write,
+    E: Write,
+{
+    let asked = with_order(rt.alloc(), &ROW, task(rt, found, input))?;
+    watched::view(rt, &asked, output, errors, audience)?;
+    Ok(0)
+}
+
+// What its words ask for.
+fn task<'a, R, I>(rt: &R, found: &ArgMatches<'a>, input: &mut I) -> Result<Viewed<'a>, Failure>
 where
     R: Files + AllocGlobal,
     I: Read,

@@ -1,12 +1,13 @@
 //! `census site`: all that is known, as a folder of pages.
 
-use census_arguments::word;
+use crate::watched;
+use census_arguments::{with_order, word};
 use census_core::{Beside, Fault, Folder, GameProgress, ProvedPeriods, write_site};
 use census_diagnosis::{Given, of_state};
-use census_failure::Failure;
+use census_failure::{Audience, Failure};
 use census_files::{PageFile, SiteFolder, read_page, read_state};
 use census_progress::ProgressLine;
-use census_requests::recheck_long;
+use census_requests::{System, recheck_long};
 use census_words::CommandRow;
 use census_words::words::{self, Choice, Takes, Times, Word};
 use clap::ArgMatches;
@@ -75,7 +76,7 @@ Examples:
 
 /// What is asked: the site of a state file, in a folder, with the page that another folder has, where one is named.
 #[derive(Drop)]
-pub struct Site<'a> {
+pub(crate) struct Site<'a> {
     state: &'a str,
     folder: &'a str,
     page: Option<&'a str>,
@@ -83,8 +84,23 @@ pub struct Site<'a> {
     rechecks: bool,
 }
 
-/// What its words ask for.
-pub fn task<'a>(found: &ArgMatches<'a>) -> Result<Site<'a>, Failure> {
+/// Reads the words of the command, does it, and gives the exit status.
+pub fn command<R, E>(
+    rt: &R,
+    found: &ArgMatches<'_>,
+    errors: &mut E,
+    audience: Audience,
+) -> Result<u8, Failure>
+where
+    R: System,
+    E: Write,
+{
+    let asked = with_order(rt.alloc(), &ROW, task(found))?;
+    watched::site(rt, &asked, errors, audience)
+}
+
+// What its words ask for.
+fn task<'a>(found: &ArgMatches<'a>) -> Result<Site<'a>, Failure> {
     Ok(Site {
         state: word(found, words::STATE)?,
         folder: word(found, DIR)?,

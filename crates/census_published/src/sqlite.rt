@@ -1,9 +1,10 @@
 //! `census sqlite`: all that is known, as a database.
 
-use census_arguments::{out, word};
+use crate::watched;
+use census_arguments::{out, with_order, word};
 use census_core::{Fault, sql_script};
 use census_diagnosis::{Given, of_games};
-use census_failure::{Advice, Failure, shown};
+use census_failure::{Advice, Audience, Failure, shown};
 use census_files::{
     Out, Replaced, StateFile, exists, is_same_file, is_standard, open_file, read_state,
 };
@@ -54,13 +55,31 @@ Examples:
 
 /// What is asked: the script that makes a database of a state file, and the file that it is written to, where one is named.
 #[derive(Clone, Copy)]
-pub struct Script<'a> {
+pub(crate) struct Script<'a> {
     state: &'a str,
     out: Option<Out<'a>>,
 }
 
-/// What its words ask for.
-pub fn task<'a>(found: &ArgMatches<'a>) -> Result<Script<'a>, Failure> {
+/// Reads the words of the command, does it, and gives the exit status.
+pub fn command<R, O, E>(
+    rt: &R,
+    found: &ArgMatches<'_>,
+    output: &mut O,
+    errors: &mut E,
+    audience: Audience,
+) -> Result<u8, Failure>
+where
+    R: System,
+    O: Write,
+    E: Write,
+{
+    let asked = with_order(rt.alloc(), &ROW, task(found))?;
+    watched::sqlite(rt, &asked, output, errors, audience)?;
+    Ok(0)
+}
+
+// What its words ask for.
+fn task<'a>(found: &ArgMatches<'a>) -> Result<Script<'a>, Failure> {
     Ok(Script {
         state: word(found, words::STATE)?,
         out: script_out(found)?,

@@ -12,7 +12,7 @@ use census_requests::{Readers, System};
 use std::io::Write;
 
 /// What is listed of games of a state file.
-pub fn games<R, O, E>(
+pub(crate) fn games<R, O, E>(
     rt: &R,
     asked: &Asked<'_>,
     output: &mut O,
@@ -29,7 +29,7 @@ where
 }
 
 /// The picture of a game of a state file.
-pub fn plot<R, O, E>(
+pub(crate) fn plot<R, O, E>(
     rt: &R,
     asked: &Picture<'_>,
     output: &mut O,
@@ -46,7 +46,7 @@ where
 }
 
 /// The script that makes a database of a state file.
-pub fn sqlite<R, O, E>(
+pub(crate) fn sqlite<R, O, E>(
     rt: &R,
     asked: &Script<'_>,
     output: &mut O,
@@ -63,7 +63,7 @@ where
 }
 
 /// The site of a state file, in a folder: the exit status.
-pub fn site<R, E>(
+pub(crate) fn site<R, E>(
     rt: &R,
     asked: &Site<'_>,
     errors: &mut E,

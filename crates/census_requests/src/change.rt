@@ -48,7 +48,7 @@ pub fn changing<'a>(
 }
 
 /// Changes the state, prints what the reply says, and says what became of what is new.
-pub fn run<R, I, O, E>(
+pub(crate) fn run<R, I, O, E>(
     rt: &R,
     change: &Change<'_>,
     input: &mut I,

@@ -7,6 +7,7 @@
 //!   that are done.
 //! - `ask` leaves the state as it is, and may write a file beside it; `unknown` says of a heap that is not known what tells more.
 //! - `viewing` shows what a state says, as it is made.
+//! - `watched` does each of these beside a line that says how far it is, or beside advice.
 //! - `noting` issues notes of periods that no period claim proves, and `rechecking` gives those that are there, and searches again
 //!   for the periods that they say.
 //! - `printing` has what several commands print, `System` is what all of it asks of the machine, and `Readers` are who reads what
@@ -23,6 +24,7 @@ mod system;
 mod undone;
 mod unknown;
 pub mod viewing;
+pub mod watched;
 
 pub use noting::{check_state, note_found};
 pub use printing::{print_file, print_unless, tell_done};

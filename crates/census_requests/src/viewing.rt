@@ -47,7 +47,7 @@ where
 }
 
 /// Writes what is shown of a state file to the output.
-pub fn run<R, O, E>(
+pub(crate) fn run<R, O, E>(
     rt: &R,
     viewed: &Viewed<'_>,
     output: &mut O,

@@ -1,7 +1,6 @@
 //! The program over any three streams.
 
-use crate::task::read_task;
-use census_commands::{Readers, chapters, done, is_unwatched};
+use census_commands::{Readers, chapters, is_unwatched, run_command};
 use census_core::Fault;
 use census_failure::{Advice, Audience, Failure, INPUT_NAME, OUTPUT_NAME, escaped_lines};
 use census_files::Noted;
@@ -202,6 +201,8 @@ where
     O: Write,
     E: Write,
 {
-    let task = read_task(rt, matches, input)?;
-    done(rt, &task, input, output, errors, readers)
+    match matches.subcommand() {
+        Some((name, found)) => run_command(rt, name, found, input, output, errors, readers),
+        None => Err(Failure::from(Fault::Words)),
+    }
 }

@@ -1,9 +1,11 @@
 //! `census check`: a b-file beside the values of a game.
 
-use census_arguments::{read_input, word};
+use crate::watched;
+use census_arguments::{read_input, with_order, word};
 use census_core::{Fault, Shift, check, find_shift};
 use census_diagnosis::{Given, of_bfile, of_code};
-use census_failure::{Advice, Failure};
+use census_failure::{Advice, Audience, Failure};
+use census_requests::System;
 use census_words::{CommandRow, words};
 use clap::ArgMatches;
 use std::alloc::{AllocError, Global};
@@ -33,13 +35,32 @@ Example:
 
 /// What is asked: how the values of a b-file compare with those of a game.
 #[derive(Clone, Copy)]
-pub struct Check<'a> {
+pub(crate) struct Check<'a> {
     code: &'a str,
     file: &'a str,
 }
 
-/// What its words ask for.
-pub fn task<'a>(found: &ArgMatches<'a>) -> Result<Check<'a>, Failure> {
+/// Reads the words of the command, does it, and gives the exit status.
+pub fn command<R, I, O, E>(
+    rt: &R,
+    found: &ArgMatches<'_>,
+    input: &mut I,
+    output: &mut O,
+    errors: &mut E,
+    audience: Audience,
+) -> Result<u8, Failure>
+where
+    R: System,
+    I: Read,
+    O: Write,
+    E: Write,
+{
+    let asked = with_order(rt.alloc(), &ROW, task(found))?;
+    watched::check(rt, &asked, input, output, errors, audience)
+}
+
+// What its words ask for.
+fn task<'a>(found: &ArgMatches<'a>) -> Result<Check<'a>, Failure> {
     Ok(Check {
         code: word(found, words::CODE)?,
         file: word(found, words::BFILE)?,

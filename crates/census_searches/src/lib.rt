@@ -1,6 +1,7 @@
 //! The commands that compute values of games anew: searches, and what is asked of a position.
 //!
-//! Each command stands in one file: its row, from which its help is made, what its words ask for, and what it does with that.
+//! Each command stands in one file: its row, from which its help is made, what its words ask for, and what it does with that. Its
+//! function `command` reads the words and does it.
 //!
 //! - `search` looks for the period of each game, and `recheck` for those again that notes say.
 //! - `check` compares a b-file with the values of a game.
@@ -11,9 +12,9 @@
 #![tactic(auto)]
 
 pub mod check;
-pub mod position;
+mod position;
 pub mod recheck;
 pub mod search;
 pub mod value;
-pub mod watched;
+mod watched;
 pub mod winning_move;

@@ -25,7 +25,7 @@ pub(crate) enum Question {
 
 /// What is asked of a position, and by what it is answered.
 #[derive(Drop)]
-pub enum Position<'a> {
+pub(crate) enum Position<'a> {
     /// By what the state says.
     ByState(Ask<'a>),
     /// By what the state says, or else by a search.
@@ -34,7 +34,7 @@ pub enum Position<'a> {
 
 /// A position that is asked about, and by how many values the game is searched where the state does not tell.
 #[derive(Drop)]
-pub struct SearchedPosition<'a> {
+pub(crate) struct SearchedPosition<'a> {
     question: Question,
     state: &'a str,
     code: Vec<u8>,

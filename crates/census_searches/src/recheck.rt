@@ -1,8 +1,9 @@
 //! `census recheck`: the long periods that notes say, searched again.
 
-use census_arguments::{copies, games, word};
+use crate::watched;
+use census_arguments::{copies, games, with_order, word};
 use census_core::{Fault, Progress};
-use census_failure::Failure;
+use census_failure::{Audience, Failure};
 use census_files::read_state;
 use census_noted::{Rechecked, recheck};
 use census_progress::ProgressLine;
@@ -51,13 +52,30 @@ Example:
 
 /// What is asked: which notes of a state are rechecked, those of some games or of all.
 #[derive(Drop)]
-pub struct Recheck<'a> {
+pub(crate) struct Recheck<'a> {
     state: &'a str,
     codes: Vec<Code>,
 }
 
-/// What its words ask for.
-pub fn task<'a>(alloc: Global, found: &ArgMatches<'a>) -> Result<Recheck<'a>, Failure> {
+/// Reads the words of the command, does it, and gives the exit status.
+pub fn command<R, O, E>(
+    rt: &R,
+    found: &ArgMatches<'_>,
+    output: &mut O,
+    errors: &mut E,
+    audience: Audience,
+) -> Result<u8, Failure>
+where
+    R: System,
+    O: Write,
+    E: Write,
+{
+    let asked = with_order(rt.alloc(), &ROW, task(rt.alloc(), found))?;
+    watched::recheck(rt, &asked, output, errors, audience)
+}
+
+// What its words ask for.
+fn task<'a>(alloc: Global, found: &ArgMatches<'a>) -> Result<Recheck<'a>, Failure> {
     Ok(Recheck {
         state: word(found, words::STATE)?,
         codes: games(alloc, &copies(alloc, found, NOTED.name)?)?,

@@ -1,13 +1,14 @@
 //! `census search`: the period of each game, past every limit, or a list of first values.
 
+use crate::watched;
 use census_arguments::{
-    Range, SEARCHED, copies, game, games, heaps, is_listed, listed, value_count,
+    Range, SEARCHED, copies, game, games, heaps, is_listed, listed, value_count, with_order,
 };
 use census_core::{
     Fault, Forgetful, Form, Progress, WINDOW_LIMIT, first_values, number, search,
     search_in_windows, write_values,
 };
-use census_failure::{Advice, Failure};
+use census_failure::{Advice, Audience, Failure};
 use census_progress::{ProgressLine, WindowSearch, search_saved};
 use census_requests::{System, check_state, note_found};
 use census_words::CommandRow;
@@ -137,7 +138,7 @@ Examples:
 
 /// What is asked: the period of each game, or the first values of one.
 #[derive(Drop)]
-pub enum Search<'a> {
+pub(crate) enum Search<'a> {
     /// The period of each game.
     Periods(Searched<'a>),
     /// The first values of a game, as a b-file.
@@ -147,7 +148,7 @@ pub enum Search<'a> {
 /// What a search is for: the period of each game, by at most so many values, and the values of these heaps; in windows there
 /// are none.
 #[derive(Drop)]
-pub struct Searched<'a> {
+pub(crate) struct Searched<'a> {
     count: u64,
     heaps: Vec<u64>,
     codes: Vec<Code>,
@@ -165,8 +166,28 @@ const WINDOWED: Range = Range {
     greatest: WINDOW_LIMIT,
 };
 
-/// What its words ask for.
-pub fn task<'a, R, I>(rt: &R, found: &ArgMatches<'a>, input: &mut I) -> Result<Search<'a>, Failure>
+/// Reads the words of the command, does it, and gives the exit status.
+pub fn command<R, I, O, E>(
+    rt: &R,
+    found: &ArgMatches<'_>,
+    input: &mut I,
+    output: &mut O,
+    errors: &mut E,
+    audience: Audience,
+) -> Result<u8, Failure>
+where
+    R: System,
+    I: Read,
+    O: Write,
+    E: Write,
+{
+    let asked = with_order(rt.alloc(), &ROW, task(rt, found, input))?;
+    watched::search(rt, &asked, output, errors, audience)?;
+    Ok(0)
+}
+
+// What its words ask for.
+fn task<'a, R, I>(rt: &R, found: &ArgMatches<'a>, input: &mut I) -> Result<Search<'a>, Failure>
 where
     R: Files + AllocGlobal,
     I: Read,

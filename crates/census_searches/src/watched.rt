@@ -12,7 +12,7 @@ use census_requests::System;
 use std::io::{Read, Write};
 
 /// The period of each game, or the first values of one.
-pub fn search<R, O, E>(
+pub(crate) fn search<R, O, E>(
     rt: &R,
     asked: &Search<'_>,
     output: &mut O,
@@ -29,7 +29,7 @@ where
 }
 
 /// The long periods that notes say, searched again: the exit status.
-pub fn recheck<R, O, E>(
+pub(crate) fn recheck<R, O, E>(
     rt: &R,
     asked: &Recheck<'_>,
     output: &mut O,
@@ -46,7 +46,7 @@ where
 }
 
 /// What is asked of a position.
-pub fn position<R, O, E>(
+pub(crate) fn position<R, O, E>(
     rt: &R,
     asked: &Position<'_>,
     output: &mut O,
@@ -63,7 +63,7 @@ where
 }
 
 /// How the values of a b-file compare with those of a game: the exit status.
-pub fn check<R, I, O, E>(
+pub(crate) fn check<R, I, O, E>(
     rt: &R,
     asked: &Check<'_>,
     input: &mut I,

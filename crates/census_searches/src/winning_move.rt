@@ -1,10 +1,14 @@
 //! `census move`: a winning move.
 
 use crate::position::{Position, Question, asking_of};
-use census_failure::Failure;
+use crate::watched;
+use census_arguments::with_order;
+use census_failure::{Audience, Failure};
+use census_requests::System;
 use census_words::{CommandRow, words};
 use clap::ArgMatches;
 use std::alloc::Global;
+use std::io::Write;
 
 /// Its row in the table.
 pub const ROW: CommandRow = CommandRow {
@@ -31,7 +35,25 @@ Examples:
   census move anna.state 0.16 10000000000 7 --search 1000000",
 };
 
-/// What its words ask for.
-pub fn task<'a>(alloc: Global, found: &ArgMatches<'a>) -> Result<Position<'a>, Failure> {
+/// Reads the words of the command, does it, and gives the exit status.
+pub fn command<R, O, E>(
+    rt: &R,
+    found: &ArgMatches<'_>,
+    output: &mut O,
+    errors: &mut E,
+    audience: Audience,
+) -> Result<u8, Failure>
+where
+    R: System,
+    O: Write,
+    E: Write,
+{
+    let asked = with_order(rt.alloc(), &ROW, task(rt.alloc(), found))?;
+    watched::position(rt, &asked, output, errors, audience)?;
+    Ok(0)
+}
+
+// What its words ask for.
+fn task<'a>(alloc: Global, found: &ArgMatches<'a>) -> Result<Position<'a>, Failure> {
     asking_of(alloc, found, Question::Move)
 }

@@ -1,7 +1,7 @@
 //! `census hub`: many sessions at once.
 
 use crate::endpoint::endpoint;
-use census_arguments::{FROM_0, SESSIONS, option_of, seconds};
+use census_arguments::{FROM_0, SESSIONS, option_of, seconds, with_order};
 use census_failure::Failure;
 use census_hub::{Limits, hub};
 use census_net::Endpoint;
@@ -66,15 +66,32 @@ Examples:
     ),
 };
 
-/// What is asked: where a state has a session with each of the replicas that connect, within which limits.
+// What is asked: where a state has a session with each of the replicas that connect, within which limits.
 #[derive(Clone, Copy)]
-pub struct Hub<'a> {
+struct Hub<'a> {
     endpoint: Endpoint<'a>,
     limits: Limits,
 }
 
-/// What its words ask for.
-pub fn task<'a>(alloc: Global, found: &ArgMatches<'a>) -> Result<Hub<'a>, Failure> {
+/// Reads the words of the command, does it, and gives the exit status.
+pub fn command<R, O, E>(
+    rt: &R,
+    found: &ArgMatches<'_>,
+    output: &mut O,
+    errors: &mut E,
+) -> Result<u8, Failure>
+where
+    R: System,
+    O: Write,
+    E: Write,
+{
+    let asked = with_order(rt.alloc(), &ROW, task(rt.alloc(), found))?;
+    run(rt, &asked, output, errors)?;
+    Ok(0)
+}
+
+// What its words ask for.
+fn task<'a>(alloc: Global, found: &ArgMatches<'a>) -> Result<Hub<'a>, Failure> {
     let longest = seconds(alloc, found, LONGEST)?;
     Ok(Hub {
         endpoint: endpoint(alloc, found, Some(longest))?,
@@ -98,8 +115,8 @@ fn peers(alloc: Global, found: &ArgMatches<'_>) -> Result<u64, Failure> {
     Ok(u64::from(option_of(alloc, found, PEERS, FROM_0)?))
 }
 
-/// Has the sessions, until so many peers were served.
-pub fn run<R, O, E>(rt: &R, asked: &Hub<'_>, output: &mut O, errors: &mut E) -> Result<(), Failure>
+// Has the sessions, until so many peers were served.
+fn run<R, O, E>(rt: &R, asked: &Hub<'_>, output: &mut O, errors: &mut E) -> Result<(), Failure>
 where
     R: System,
     O: Write,

@@ -1,6 +1,7 @@
 //! The commands of sessions: a state and those of others, over the network.
 //!
-//! Each command stands in one file: its row, from which its help is made, what its words ask for, and what it does with that.
+//! Each command stands in one file: its row, from which its help is made, what its words ask for, and what it does with that. Its
+//! function `command` reads the words and does it.
 //!
 //! - `serve` has one session with whoever connects, `sync` one with whoever serves, and `hub` many at once.
 //! - `watched` has a session beside advice.
@@ -28,4 +29,4 @@ mod endpoint;
 pub mod hub;
 pub mod serve;
 pub mod sync;
-pub mod watched;
+mod watched;

@@ -1,10 +1,11 @@
 //! `census serve`: one session with whoever connects.
 
 use crate::endpoint::{Meeting, meeting_of};
-use census_arguments::is_quiet;
-use census_failure::{Advice, Failure};
+use crate::watched;
+use census_arguments::{is_quiet, with_order};
+use census_failure::{Advice, Audience, Failure};
 use census_net::{serve, serve_over};
-use census_requests::{print_unless, tell_done};
+use census_requests::{System, print_unless, tell_done};
 use census_words::{CommandRow, words};
 use clap::ArgMatches;
 use std::alloc::Global;
@@ -45,13 +46,33 @@ Examples:
 
 /// What is asked: where a state has one session with a replica that connects.
 #[derive(Clone, Copy)]
-pub struct Served<'a> {
+pub(crate) struct Served<'a> {
     meeting: Meeting<'a>,
     is_quiet: bool,
 }
 
-/// What its words ask for.
-pub fn task<'a>(alloc: Global, found: &ArgMatches<'a>) -> Result<Served<'a>, Failure> {
+/// Reads the words of the command, does it, and gives the exit status.
+pub fn command<R, I, O, E>(
+    rt: &R,
+    found: &ArgMatches<'_>,
+    input: &mut I,
+    output: &mut O,
+    errors: &mut E,
+    audience: Audience,
+) -> Result<u8, Failure>
+where
+    R: System,
+    I: Read,
+    O: Write,
+    E: Write,
+{
+    let asked = with_order(rt.alloc(), &ROW, task(rt.alloc(), found))?;
+    watched::serve(rt, &asked, input, output, errors, audience)?;
+    Ok(0)
+}
+
+// What its words ask for.
+fn task<'a>(alloc: Global, found: &ArgMatches<'a>) -> Result<Served<'a>, Failure> {
     Ok(Served {
         meeting: meeting_of(alloc, found)?,
         is_quiet: is_quiet(found),

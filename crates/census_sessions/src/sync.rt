@@ -1,13 +1,14 @@
 //! `census sync`: one session with whoever serves, and what became of what it brought.
 
 use crate::endpoint::{Meeting, meeting_of};
-use census_arguments::is_quiet;
+use crate::watched;
+use census_arguments::{is_quiet, with_order};
 use census_core::Fault;
-use census_failure::{Advice, Failure};
+use census_failure::{Advice, Audience, Failure};
 use census_net::{Agreement, Loaded, sync, sync_over};
 use census_progress::{is_told, say_of_records};
 use census_requests::change::warn_of_forks;
-use census_requests::{print_unless, tell_done};
+use census_requests::{System, print_unless, tell_done};
 use census_words::CommandRow;
 use census_words::words::{self, Choice, Takes};
 use clap::ArgMatches;
@@ -77,14 +78,34 @@ Examples, the last over ssh:
 
 /// What is asked: where a state has one session with a replica that serves, and as which kind of client.
 #[derive(Clone, Copy)]
-pub struct Synced<'a> {
+pub(crate) struct Synced<'a> {
     meeting: Meeting<'a>,
     role: Role,
     is_quiet: bool,
 }
 
-/// What its words ask for.
-pub fn task<'a>(alloc: Global, found: &ArgMatches<'a>) -> Result<Synced<'a>, Failure> {
+/// Reads the words of the command, does it, and gives the exit status.
+pub fn command<R, I, O, E>(
+    rt: &R,
+    found: &ArgMatches<'_>,
+    input: &mut I,
+    output: &mut O,
+    errors: &mut E,
+    audience: Audience,
+) -> Result<u8, Failure>
+where
+    R: System,
+    I: Read,
+    O: Write,
+    E: Write,
+{
+    let asked = with_order(rt.alloc(), &ROW, task(rt.alloc(), found))?;
+    watched::sync(rt, &asked, input, output, errors, audience)?;
+    Ok(0)
+}
+
+// What its words ask for.
+fn task<'a>(alloc: Global, found: &ArgMatches<'a>) -> Result<Synced<'a>, Failure> {
     Ok(Synced {
         meeting: meeting_of(alloc, found)?,
         role: role(found)?,

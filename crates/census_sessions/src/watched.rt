@@ -9,7 +9,7 @@ use census_requests::System;
 use std::io::{Read, Write};
 
 /// One session with a replica that connects.
-pub fn serve<R, I, O, E>(
+pub(crate) fn serve<R, I, O, E>(
     rt: &R,
     asked: &Served<'_>,
     input: &mut I,
@@ -28,7 +28,7 @@ where
 }
 
 /// One session with a replica that serves.
-pub fn sync<R, I, O, E>(
+pub(crate) fn sync<R, I, O, E>(
     rt: &R,
     asked: &Synced<'_>,
     input: &mut I,

@@ -1,18 +1,17 @@
 //! What is done of a request to a state beside a line that says how far it is, or beside advice, on the stream of errors.
 //!
-//! Each function makes that for its readers and does one kind of request. So `done` chooses a task and no more: what would be live
-//! there beside every other task is live here beside one. The crates of the commands have such functions of their own.
+//! Each function makes that for its readers and does one kind of request. The crates of the commands have such functions of their own.
 
+use crate::ask::{self, Ask};
+use crate::change::{self, Change};
+use crate::system::System;
+use crate::viewing::{self, Viewed};
 use census_failure::{Advice, Audience, Failure};
 use census_progress::ProgressLine;
-use census_requests::System;
-use census_requests::ask::{self, Ask};
-use census_requests::change::{self, Change};
-use census_requests::viewing::{self, Viewed};
 use std::io::{Read, Write};
 
 /// A command that changes a state file.
-pub(crate) fn change<R, I, O, E>(
+pub fn change<R, I, O, E>(
     rt: &R,
     asked: &Change<'_>,
     input: &mut I,
@@ -31,7 +30,7 @@ where
 }
 
 /// A command that reads a state file.
-pub(crate) fn ask<R, O, E>(
+pub fn ask<R, O, E>(
     rt: &R,
     asked: &Ask<'_>,
     output: &mut O,
@@ -48,7 +47,7 @@ where
 }
 
 /// What a state file says, in a view.
-pub(crate) fn view<R, O, E>(
+pub fn view<R, O, E>(
     rt: &R,
     viewed: &Viewed<'_>,
     output: &mut O,
