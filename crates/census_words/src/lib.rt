@@ -26,4 +26,4 @@ pub use completion::{Shell, append_completions};
 pub use entry::Entry;
 pub use help::{first_screen, words_text};
 pub use manual::manual_page;
-pub use table::{Chapter, CommandRow, row_named};
+pub use table::{Chapter, CommandRow};

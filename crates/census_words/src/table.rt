@@ -27,15 +27,3 @@ pub struct Chapter {
     /// Their rows, in the order in which the help has them.
     pub rows: &'static [CommandRow],
 }
-
-/// The first row of the command that is called so; none where no command is.
-pub fn row_named(chapters: &[Chapter], name: &str) -> Option<CommandRow> {
-    for chapter in chapters {
-        for row in chapter.rows {
-            if row.name == name {
-                return Some(*row);
-            }
-        }
-    }
-    None
-}
