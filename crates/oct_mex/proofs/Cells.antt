@@ -16,3 +16,7 @@ module _ {T : Type 0} (number : T → ℕ) (cells : List T) where
   pub xor_in : (size a b : ℕ) → IsTableFor (map number cells) size → a < length cells → b < length cells
       → bit_xor (slice_index (map number cells) a) (slice_index (map number cells) b) < size
   xor_in size a b table l k = xor_within (map number cells) size a b table (omega (arith, as_many)) (omega (arith, as_many))
+
+-- as many cells hold the same numbers
+pub same_len : {S T : Type 0} (one : S → ℕ) (other : T → ℕ) (xs : List S) (ys : List T) → map one xs ≡ map other ys → length xs ≡ length ys
+same_len one other xs ys same = sym (length-map xs one) ∙ ap length same ∙ length-map ys other

@@ -1,11 +1,11 @@
 -- The next nim-value, and the values with it.
-use Rattle.std.proofs.Common.{◌≡◌, ℕ, suc, ◌+◌, ◌<◌, ◌++◌, ◌∷◌, [], List, map, slice_index, sym, ap, ap₂, ◌∙◌, arith}
-use Rattle.std.proofs.lemmas.List.{map-append}
+use Rattle.std.proofs.Common.{◌≡◌, ℕ, suc, ◌+◌, ◌<◌, ◌++◌, ◌∷◌, [], List, map, slice_index, sym, ap, ap₂, ◌∙◌, arith, take, ◌≤◌}
+use Rattle.std.proofs.lemmas.List.{map-append, map-id}
 use Rattle.oct_code.specs.Code.{Code}
 use Rattle.oct_mex.specs.Mex.{IsMex}
 use Rattle.oct_mex.specs.NimValues.{IsOptionValue, nim_value, nim_values}
 use Rattle.oct_mex.proofs.Mex.{mex_unique}
-use Rattle.oct_mex.proofs.NimValues.{nim_sequence, nim_value-eq, nim_values-at, option_agree}
+use Rattle.oct_mex.proofs.NimValues.{nim_sequence, nim_value-eq, nim_values-at, nim_values-take, option_agree}
 
 -- a further cell holds a further number
 pub numbers_push : {T : Type 0} (number : T → ℕ) (cells more : List T) (cell : T) → more ≡ cells ++ cell ∷ [] → map number more ≡ map number cells ++ number cell ∷ []
@@ -27,3 +27,7 @@ pub values_push : (c : Code) (n v : ℕ) (values : List ℕ) → values ≡ nim_
 values_push c n v values are is =
     let next : n + 1 ≡ suc n = omega arith in
     ap₂ (λ xs x. xs ++ x ∷ []) are (is ∙ nim_value-eq c n) ∙ ap (nim_values c) (sym next)
+
+-- the first values of a list of nim-values
+pub begun : (c : Code) (n k : ℕ) (cells : List ℕ) → map (λ x. x) cells ≡ nim_values c n → k ≤ n → take k cells ≡ nim_values c k
+begun c n k cells are le = ap (take k) (sym (map-id cells) ∙ are) ∙ nim_values-take c n k le

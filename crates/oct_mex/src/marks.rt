@@ -1,6 +1,6 @@
 //! A table that marks the nim-values of options.
 
-ghost use Rattle.std.specs.Prelude.{◌≡◌, ℕ, ◌+◌, ◌*◌, ◌/◌, ◌^◌, ◌<◌, ◌≤◌, IsTrue, length, map, min, slice_index};
+ghost use Rattle.std.specs.Prelude.{◌≡◌, ℕ, ◌+◌, ◌*◌, ◌/◌, ◌^◌, ◌<◌, ◌≤◌, ◌↔◌, IsTrue, length, map, min, slice_index};
 ghost use Rattle.oct_code.specs.Code as octal;
 ghost use Rattle.oct_mex.specs.Marks.{AddsMarks, IsBelow, IsMarked, IsOneHeapBy, IsPairBy, IsPairValue, IsPairWith, IsRareBy, IsRarePair, IsTableFor};
 ghost use Rattle.oct_mex.specs.Rare.{AreBeside};
@@ -10,6 +10,9 @@ use oct_code::{Code, LIMIT};
 
 // So many numbers of beans in a row, which pairs of heaps have, are gone through together.
 const TOTALS: usize = 3;
+
+// So many marks are looked at together.
+const RANGE: usize = 32;
 
 /// How long a table can get whose length is a power of two above the nim-values of the heaps up to a size.
 pub(crate) fn table_len(code: &Code, heap: usize) -> usize
@@ -294,10 +297,26 @@ pub(crate) fn first_unmarked(marks: &[bool], from: usize) -> usize
     ensures marked { (v : ℕ) → v < result → IsMarked marks.now v }
     ensures unmarked { result < length marks.now → IsMarked marks.now result → ⊥ }
 {
-    for at in from..marks.len() {
-        if !marks[at] {
-            return at;
+    let mut at = from;
+    while RANGE <= marks.len() - at && are_marked(marks, at) {
+        at += RANGE;
+    }
+    for place in at..marks.len() {
+        if !marks[place] {
+            return place;
         }
     }
     marks.len()
+}
+
+// Whether a range of places, `RANGE` from this one on, is marked. All are looked at with no way out, so that many are at a time.
+fn are_marked(marks: &[bool], from: usize) -> bool
+    requires { from + RANGE ≤ length marks.now }
+    ensures { IsTrue result ↔ ((v : ℕ) → from ≤ v → v < from + RANGE → IsMarked marks.now v) }
+{
+    let mut all = true;
+    for at in from..from + RANGE {
+        all &= marks[at];
+    }
+    all
 }

@@ -20,17 +20,20 @@ use std::alloc::Allocator;
 // In the first round so many more pairs are marked, since a round has its price.
 const FEW: usize = 32;
 
-// To mark a pair takes so many times as long as to look at one.
-const PRICE: usize = 1;
+// A value is sought in the pairs that are left as soon as so many times as many are marked. To look at a pair takes a quarter of the
+// time that it takes to mark it, but a value that some pair has is sought in vain.
+const PRICE: usize = 2;
 
 // Under a mask so many pairs are marked before a value is sought in all others, which mostly is in none.
 const EARLY: usize = 1_024;
 
 /// The nim-value of the first heap that is not in the list, by a table of marks with room for the values of its options,
-/// and by the tables of the totals, if there are any and there is room in them.
-pub(crate) fn next_value<T: Cell, A: Allocator>(
+/// and by the tables of the totals, if there are any and there is room in them. Where `narrow` has as many values as the list, the
+/// same in narrower cells, numbers are sought in these.
+pub(crate) fn next_value<T: Cell, N: Cell, A: Allocator>(
     code: &Code,
     values: &[T],
+    narrow: &[N],
     mask: Mask,
     heaps: &[u32],
     beside: &[T],
@@ -38,6 +41,37 @@ pub(crate) fn next_value<T: Cell, A: Allocator>(
     marks: &mut [bool],
 ) -> usize
     requires heap { length values.now < 2 ^ 32 }
+    requires same { length narrow.now ≡ length values.now → map N.number narrow.now ≡ map T.number values.now }
+    requires fit { IsFit code.now mask }
+    requires listed { Lists mask (map T.number values.now) (length values.now) heaps.now (map T.number beside.now) }
+    requires table { IsTableFor (map T.number values.now) (length marks.old) }
+    requires tables { All (IsTable mask (map T.number values.now)) tables.old }
+    ensures size { length marks.new ≡ length marks.old }
+    ensures within { result ≤ length marks.old }
+    ensures value { IsMex (IsOptionValue code.now (slice_index (map T.number values.now)) (length values.now)) result }
+    ensures count { length tables.new ≡ length tables.old }
+    ensures tables { All (IsTable mask (map T.number values.now)) tables.new }
+{
+    if narrow.len() == values.len() {
+        next_in(code, values, narrow, mask, heaps, beside, tables, marks)
+    } else {
+        next_in(code, values, values, mask, heaps, beside, tables, marks)
+    }
+}
+
+// The same by the same values in cells that are compared.
+fn next_in<T: Cell, N: Cell, A: Allocator>(
+    code: &Code,
+    values: &[T],
+    compared: &[N],
+    mask: Mask,
+    heaps: &[u32],
+    beside: &[T],
+    tables: &mut [Table<A>],
+    marks: &mut [bool],
+) -> usize
+    requires heap { length values.now < 2 ^ 32 }
+    requires same { map N.number compared.now ≡ map T.number values.now }
     requires fit { IsFit code.now mask }
     requires listed { Lists mask (map T.number values.now) (length values.now) heaps.now (map T.number beside.now) }
     requires table { IsTableFor (map T.number values.now) (length marks.old) }
@@ -49,9 +83,9 @@ pub(crate) fn next_value<T: Cell, A: Allocator>(
     ensures tables { All (IsTable mask (map T.number values.now)) tables.new }
 {
     if are_ready(tables, marks.len()) {
-        next_by_totals(code, values, mask, heaps, beside, tables, marks)
+        next_by_totals(code, values, compared, mask, heaps, beside, tables, marks)
     } else {
-        next_by_marks(code, values, mask, heaps, beside, marks)
+        next_by_marks(code, values, compared, mask, heaps, beside, marks)
     }
 }
 
@@ -65,21 +99,23 @@ fn are_ready<A: Allocator>(tables: &mut [Table<A>], size: usize) -> bool
     !tables.is_empty() && fit_tables(tables, size)
 }
 
-/// The same by the table of marks alone.
+/// The same by the table of marks alone; numbers are sought in `compared`, which has the same values.
 ///
 /// The options of at most one heap or of a listed heap are marked first. Every other option leaves two common heaps, and
 /// so has a value that is rare at this heap: the least value that is not marked is the mex as soon as it is common here.
-/// Until then either further pairs are marked, in each round more than twice as many, or the least value that is not
+/// Until then either further pairs are marked, in each round a quarter more and some, or the least value that is not
 /// marked is sought in all pairs that are left, and is the mex if none has it: whichever has gone over fewer pairs so far.
-pub(crate) fn next_by_marks<T: Cell>(
+pub(crate) fn next_by_marks<T: Cell, N: Cell>(
     code: &Code,
     values: &[T],
+    compared: &[N],
     mask: Mask,
     heaps: &[u32],
     beside: &[T],
     marks: &mut [bool],
 ) -> usize
     requires heap { length values.now < 2 ^ 32 }
+    requires same { map N.number compared.now ≡ map T.number values.now }
     requires fit { IsFit code.now mask }
     requires listed { Lists mask (map T.number values.now) (length values.now) heaps.now (map T.number beside.now) }
     requires table { IsTableFor (map T.number values.now) (length marks.old) }
@@ -95,13 +131,13 @@ pub(crate) fn next_by_marks<T: Cell>(
     let mut sought = 1;
     while end <= heap / 2 && least < marks.len() && !is_settled(mask, heap, least) {
         if let Some(value) = cell_sought(mask, heap / 2 - end, end, sought, least) {
-            if !has_pair(code, values, end, value) {
+            if !has_pair(code, compared, end, value) {
                 return least;
             }
             mark(marks, least);
             sought = usize::saturating_add(sought, 1);
         } else {
-            let next = end * 2 + FEW;
+            let next = end + end / 4 + FEW;
             mark_pair_options(code, values, end, next, marks);
             end = next;
         }
@@ -111,9 +147,10 @@ pub(crate) fn next_by_marks<T: Cell>(
 }
 
 // The same by the tables of the totals, which are as long as the table of marks: what they mark is marked there, too.
-fn next_by_totals<T: Cell, A: Allocator>(
+fn next_by_totals<T: Cell, N: Cell, A: Allocator>(
     code: &Code,
     values: &[T],
+    compared: &[N],
     mask: Mask,
     heaps: &[u32],
     beside: &[T],
@@ -121,6 +158,7 @@ fn next_by_totals<T: Cell, A: Allocator>(
     marks: &mut [bool],
 ) -> usize
     requires heap { length values.now < 2 ^ 32 }
+    requires same { map N.number compared.now ≡ map T.number values.now }
     requires fit { IsFit code.now mask }
     requires listed { Lists mask (map T.number values.now) (length values.now) heaps.now (map T.number beside.now) }
     requires table { IsTableFor (map T.number values.now) (length marks.old) }
@@ -143,13 +181,15 @@ fn next_by_totals<T: Cell, A: Allocator>(
     while end <= heap / 2 && least < marks.len() && !is_settled(mask, heap, least) {
         if let Some(value) = cell_sought(mask, heap / 2 - end, end, sought, least) {
             let size = marks.len();
-            if !is_in_totals(code, values, mask, heaps, beside, tables, size, value) {
+            if !is_in_totals(
+                code, values, compared, mask, heaps, beside, tables, size, value,
+            ) {
                 return least;
             }
             mark(marks, least);
             sought = usize::saturating_add(sought, 1);
         } else {
-            end = end + end / 2 + FEW;
+            end = end + end / 4 + FEW;
             mark_totals(code, values, mask, heaps, beside, end, tables, marks);
         }
         least = first_unmarked(marks, least);
@@ -169,7 +209,7 @@ fn cell_sought<T: Cell>(
     ensures { IfSome result (λ cell. T.number cell ≡ value) }
 {
     let is_early = mask.bits > 0 && end > EARLY && sought <= 2;
-    if is_early || left.saturating_mul(sought) <= end {
+    if is_early || left.saturating_mul(sought).saturating_mul(PRICE) <= end {
         T::from_number(value)
     } else {
         None

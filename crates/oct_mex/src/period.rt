@@ -1,6 +1,6 @@
 //! Periods that the nim-values show.
 
-ghost use Rattle.std.specs.Prelude.{◌≡◌, ◌↔◌, ◌≢◌, ◌+◌, ◌-◌, ◌*◌, ◌^◌, ◌<◌, ◌≤◌, IfSome, IsTrue, MatchOption, ℕ, false, length, map, slice_index};
+ghost use Rattle.std.specs.Prelude.{◌≡◌, ◌↔◌, ◌≢◌, ◌+◌, ◌-◌, ◌*◌, ◌^◌, ◌<◌, ◌≤◌, ◌⊎◌, IfErr, IfOk, IfSome, IsTrue, MatchOption, ℕ, false, length, map, slice_index};
 ghost use Rattle.oct_code.specs.Code as octal;
 ghost use Rattle.oct_mex.specs.NimValues.{nim_values};
 ghost use Rattle.oct_mex.specs.Periods.{IsPeriodicFrom, IsShown, IsBreak, ComesAgain, NoneIsShown, NoneIsShownBefore, NoneReturns};
@@ -71,6 +71,35 @@ pub fn expected_period<T: Cell>(values: &[T], tail: usize) -> Option<SeenPeriod>
         start: first_start(values, from - period, period),
         period,
     })
+}
+
+/// A period that so many of the last values let expect, if they come again by it, and the least heap, from 1 on, from which on all
+/// values come again by it. Else the error is a place of one of them that does not, or the end of the values where there is none so
+/// far before them.
+pub fn expected_by<T: Cell>(values: &[T], tail: usize, period: usize) -> Result<SeenPeriod, usize>
+    requires some { 1 ≤ tail }
+    requires limited { length values.now ≤ 2 ^ 32 }
+    ensures first { IfOk result (λ seen. 1 ≤ seen.start) }
+    ensures some { IfOk result (λ seen. 1 ≤ seen.period) }
+    ensures period { IfOk result (λ seen. seen.period ≡ period) }
+    ensures within { IfOk result (λ seen. seen.start + seen.period ≤ length values.now) }
+    ensures again { IfOk result (λ seen. ComesAgain (map T.number values.now) seen.start seen.period) }
+    ensures least { IfOk result (λ seen. 1 < seen.start → slice_index (map T.number values.now) (seen.start - 1 + period) ≢ slice_index (map T.number values.now) (seen.start - 1)) }
+    ensures differs { IfErr result (λ place. place < length values.now → slice_index (map T.number values.now) place ≢ slice_index (map T.number values.now) (place - period)) }
+    ensures last { IfErr result (λ place. place < length values.now → length values.now - tail ≤ place) }
+    ensures far { IfErr result (λ place. length values.now ≤ place → (place ≡ length values.now) × ((period ≡ 0) ⊎ (length values.now - tail ≤ period))) }
+{
+    let from = values.len().saturating_sub(tail);
+    if period == 0 || from <= period {
+        return Err(values.len());
+    }
+    match first_break(values, from - period, period) {
+        Some(heap) => Err(heap + period),
+        None => {
+            let start = first_start(values, from - period, period);
+            Ok(SeenPeriod { start, period })
+        }
+    }
 }
 
 // The least period below `from` by which the values from `from` on come again: each is the value one period before.

@@ -88,6 +88,7 @@ impl<T: Cell, A: Allocator + Copy> Row<T, A> {
         let value = next_by_marks(
             code,
             &self.values,
+            &self.values,
             self.rare.mask,
             &self.rare.heaps,
             &self.rare.values,
@@ -96,10 +97,12 @@ impl<T: Cell, A: Allocator + Copy> Row<T, A> {
         self.push_value(code, value)
     }
 
-    /// The same by the tables of the totals, which stay right for the values and the mask that there were.
-    pub(crate) fn push_next_by(
+    /// The same by the tables of the totals, which stay right for the values and the mask that there were, and by the same values in
+    /// narrower cells, if there are as many.
+    pub(crate) fn push_next_by<N: Cell>(
         &mut self,
         code: &Code,
+        narrow: &[N],
         tables: &mut [Table<A>],
         marks: &mut [bool],
     ) -> bool
@@ -107,6 +110,7 @@ impl<T: Cell, A: Allocator + Copy> Row<T, A> {
         requires limited { vec_len self.old.values < 2 ^ 32 }
         requires room { vec_len self.old.values < vec_capacity self.old.values }
         requires marks { self.old.used ≤ length marks.old }
+        requires same { length narrow.now ≡ vec_len self.old.values → map N.number narrow.now ≡ map T.number self.old.values.items }
         requires tables { All (IsTable self.old.rare.mask (map T.number self.old.values.items)) tables.old }
         ensures row { IsRow T.number code.now self.new }
         ensures len { vec_len self.new.values ≡ (if result then vec_len self.old.values + 1 else vec_len self.old.values) }
@@ -120,6 +124,7 @@ impl<T: Cell, A: Allocator + Copy> Row<T, A> {
         let value = next_value(
             code,
             &self.values,
+            narrow,
             self.rare.mask,
             &self.rare.heaps,
             &self.rare.values,

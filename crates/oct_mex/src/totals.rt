@@ -340,33 +340,37 @@ pub(crate) fn likely_end<A: Allocator>(tables: &[Table<A>]) -> usize
     (least - least / WANES).max(1)
 }
 
-/// Whether an option of two heaps has a value.
-pub(crate) fn is_in_totals<T: Cell, A: Allocator>(
+/// Whether an option of two heaps has a value, which is sought in `compared`, where the same values stand.
+pub(crate) fn is_in_totals<T: Cell, N: Cell, A: Allocator>(
     code: &Code,
     values: &[T],
+    compared: &[N],
     mask: Mask,
     heaps: &[u32],
     beside: &[T],
     tables: &mut [Table<A>],
     size: usize,
-    value: T,
+    value: N,
 ) -> bool
     requires some { 0 < length tables.old }
+    requires same { map N.number compared.now ≡ map T.number values.now }
     requires listed { Lists mask (map T.number values.now) (length values.now) heaps.now (map T.number beside.now) }
     requires table { IsTableFor (map T.number values.now) size }
-    requires inside { T.number value < size }
+    requires inside { N.number value < size }
     requires long { All (IsLong size) tables.old }
     requires kept { All (IsTable mask (map T.number values.now)) tables.old }
     ensures count { length tables.new ≡ length tables.old }
     ensures long { All (IsLong size) tables.new }
     ensures kept { All (IsTable mask (map T.number values.now)) tables.new }
-    ensures found { IsTrue result → IsOptionValue code.now (slice_index (map T.number values.now)) (length values.now) (T.number value) }
-    ensures none { result ≡ false → (r : ℕ) (o : IsOptionBy code.now (slice_index (map T.number values.now)) (length values.now) r (T.number value)) → 1 ≤ o.a → ⊥ }
+    ensures found { IsTrue result → IsOptionValue code.now (slice_index (map T.number values.now)) (length values.now) (N.number value) }
+    ensures none { result ≡ false → (r : ℕ) (o : IsOptionBy code.now (slice_index (map T.number values.now)) (length values.now) r (N.number value)) → 1 ≤ o.a → ⊥ }
 {
     for removed in 0..code.len().min(values.len()) + 1 {
         if code.allows(removed, 2) {
             let total = values.len() - removed;
-            if is_in_total(values, mask, heaps, beside, total, tables, size, value) {
+            if is_in_total(
+                values, compared, mask, heaps, beside, total, tables, size, value,
+            ) {
                 return true;
             }
         }
@@ -375,29 +379,31 @@ pub(crate) fn is_in_totals<T: Cell, A: Allocator>(
 }
 
 // Whether a value is a nim-sum of a total.
-fn is_in_total<T: Cell, A: Allocator>(
+fn is_in_total<T: Cell, N: Cell, A: Allocator>(
     values: &[T],
+    compared: &[N],
     mask: Mask,
     heaps: &[u32],
     beside: &[T],
     total: usize,
     tables: &mut [Table<A>],
     size: usize,
-    value: T,
+    value: N,
 ) -> bool
     requires held { total ≤ length values.now }
     requires some { 0 < length tables.old }
+    requires same { map N.number compared.now ≡ map T.number values.now }
     requires listed { Lists mask (map T.number values.now) (length values.now) heaps.now (map T.number beside.now) }
     requires table { IsTableFor (map T.number values.now) size }
-    requires inside { T.number value < size }
+    requires inside { N.number value < size }
     requires long { All (IsLong size) tables.old }
     requires kept { All (IsTable mask (map T.number values.now)) tables.old }
     ensures count { length tables.new ≡ length tables.old }
     ensures long { All (IsLong size) tables.new }
     ensures kept { All (IsTable mask (map T.number values.now)) tables.new }
-    ensures is { IsTrue result ↔ IsSum (map T.number values.now) total (T.number value) }
+    ensures is { IsTrue result ↔ IsSum (map T.number values.now) total (N.number value) }
 {
     let table = &mut tables[total % tables.len()];
     table.turn_to(values, mask, heaps, beside, total);
-    table.has_sum(values, value)
+    table.has_sum(compared, value)
 }

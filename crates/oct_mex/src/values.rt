@@ -11,6 +11,7 @@ use crate::following::{Leader, is_led};
 use crate::leaders::Leaders;
 use crate::marks::table_len;
 use crate::mask::{Mask, NO_MASK};
+use crate::narrow::Narrow;
 use crate::period::{SeenPeriod, find_period};
 use crate::row::Row;
 use crate::totals::{Table, follow_mask, room_for_tables};
@@ -26,6 +27,8 @@ const FIRST_LOOK: usize = 64;
 pub struct Values<A: Allocator + Copy> {
     code: Code,
     row: Row<u32, A>,
+    // The same values, as far as there are many, fit it and are not copied.
+    narrow: Narrow<A>,
     marks: Vec<bool, A>,
     room: usize,
     // A period with which the values go on, or 0 while none is seen.
@@ -55,6 +58,7 @@ impl<A: Allocator + Copy> Values<A> {
         Values {
             code,
             row: Row::new(alloc),
+            narrow: Narrow::new(alloc),
             marks: Vec::new(alloc),
             room: 0,
             period: 0,
@@ -105,6 +109,7 @@ impl<A: Allocator + Copy> Values<A> {
     {
         if self.room < count {
             self.row.room_to(count)?;
+            self.narrow.make_room(count)?;
             self.marks.resize(table_len(&self.code, count), false)?;
             room_for_tables(*self.marks.allocator(), &self.code, &mut self.tables, count)?;
             self.room = count;
@@ -144,9 +149,13 @@ impl<A: Allocator + Copy> Values<A> {
         } else {
             follow_mask(&mut self.tables, self.mask, self.row.rare.mask);
             self.mask = self.row.rare.mask;
-            let _ = self
-                .row
-                .push_next_by(&self.code, &mut self.tables, &mut self.marks);
+            self.narrow.follow(&self.row.values);
+            let _ = self.row.push_next_by(
+                &self.code,
+                &self.narrow.values,
+                &mut self.tables,
+                &mut self.marks,
+            );
         }
     }
 
@@ -247,9 +256,12 @@ impl<A: Allocator + Copy> Values<A> {
     {
         let mut tables = Vec::new(alloc);
         room_for_tables(alloc, &self.code, &mut tables, self.room)?;
+        let mut narrow = Narrow::new(alloc);
+        narrow.make_room(self.room)?;
         Ok(Values {
             code: self.code,
             row: self.row.copy(alloc, self.room)?,
+            narrow,
             marks: Vec::from_slice(alloc, &self.marks)?,
             room: self.room,
             period: self.period,

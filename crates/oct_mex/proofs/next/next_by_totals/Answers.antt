@@ -53,6 +53,7 @@ is_in_totals-requires g c =
     let kept = c.loop-end.invariant in
     record {
       some = omega (arith, kept.count, c.requires.some);
+      same = c.requires.same;
       listed = c.requires.listed;
       table = subst (IsTableFor all) (sym kept.size) c.requires.table;
       inside = omega (arith, c.in-Some.ensures, c.if-least-marks.true);
@@ -102,7 +103,7 @@ loop-end-preserved g c =
             let option = subst (IsOptionValue code of n) w.in-Some.ensures (w.is_in_totals.ensures.found w.if-not-is_in_totals.false) in
             subst₂ (HasTotals code all n mask) (sym w.end-is) (sym w.marks-is) (totals_value code all n mask end c.loop-end.least c.loop-end.marks w.mark.new.marks kept.has option w.mark.ensures)
         | in_default w ↦ subst₂ (HasTotals code all n mask) (sym w.end-is) (sym w.marks-is)
-            (totals_round code all n mask end (end + end / 2 + 32) c.loop-end.marks w.mark_totals-in_default.new.marks kept.has w.mark_totals-in_default.ensures.marked)
+            (totals_round code all n mask end (end + end / 4 + 32) c.loop-end.marks w.mark_totals-in_default.new.marks kept.has w.mark_totals-in_default.ensures.marked)
       ];
       count = elim c.match-cell_sought.branch [
         | in-Some+else-not-is_in_totals w ↦ ap length w.tables-is ∙ w.is_in_totals.ensures.count ∙ kept.count

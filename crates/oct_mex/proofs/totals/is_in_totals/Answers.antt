@@ -22,6 +22,7 @@ is_in_total-requires g c =
     record {
       held = omega arith;
       some = omega (arith, kept.count, c.requires.some);
+      same = c.requires.same;
       listed = c.requires.listed;
       table = c.requires.table;
       inside = c.requires.inside;
@@ -37,7 +38,7 @@ returns-then-is_in_total g c =
       count = more.count ∙ c.loop-removed.invariant.count;
       long = more.long;
       kept = more.kept;
-      found = λ t. option_of c.args.code.now all (length c.args.values.now) c.loop-removed.removed (g.T.Cell.number c.args.value) (omega arith) (omega arith) (sym c.if-allows.ensures) (more.is.0 c.if-is_in_total.true);
+      found = λ t. option_of c.args.code.now all (length c.args.values.now) c.loop-removed.removed (g.N.Cell.number c.args.value) (omega arith) (omega arith) (sym c.if-allows.ensures) (more.is.0 c.if-is_in_total.true);
       none = λ e r o some. false≢true (sym e);
     }
 
@@ -46,7 +47,7 @@ loop-removed-preserved g c =
     let code = c.args.code.now in
     let all = map g.T.Cell.number c.args.values.now in
     let n = length c.args.values.now in
-    let v = g.T.Cell.number c.args.value in
+    let v = g.N.Cell.number c.args.value in
     let mask = c.args.mask in
     let r = c.loop-removed.removed in
     let kept = c.loop-removed.invariant in

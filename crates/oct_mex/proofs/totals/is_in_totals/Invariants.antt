@@ -9,5 +9,5 @@ invariant-loop-removed g l = record {
   count : length l.tables ≡ length l.initial.tables;
   long : All (IsLong l.size) l.tables;
   kept : All (IsTable l.mask (map g.T.Cell.number l.values)) l.tables;
-  none : (r : ℕ) (o : IsOptionBy l.code (slice_index (map g.T.Cell.number l.values)) (length l.values) r (g.T.Cell.number l.value)) → 1 ≤ o.a → r < l.removed → ⊥;
+  none : (r : ℕ) (o : IsOptionBy l.code (slice_index (map g.T.Cell.number l.values)) (length l.values) r (g.N.Cell.number l.value)) → 1 ≤ o.a → r < l.removed → ⊥;
 }

@@ -14,4 +14,6 @@ invariant_of-self g c =
       limited = kept.limited;
       periodic = search rules;
       tables = λ none. kept.tables (omega arith);
+      narrow = kept.narrow;
+      fewer = kept.fewer;
     }

@@ -75,6 +75,8 @@ invariant_of-self g c =
         | inl same ↦ subst (λ k. All (IsTable v.mask (nim_values v.code k)) v.tables.items) (sym same) (kept.tables none)
         | inr more ↦ tables_next v.mask v.code n m v.tables.items more (kept.tables none)
       ];
+      narrow = kept.narrow;
+      fewer = elim grown [ inl same ↦ omega (arith, kept.fewer, same) | inr more ↦ omega (arith, kept.fewer, more) ];
     }
 
 pub returns-clause-follows : goal.returns-clause-follows

@@ -1,4 +1,4 @@
-use Rattle.std.proofs.Common.{◌≡◌, ◌+◌, ◌/◌, ◌<◌, ◌++◌, true, if◌then◌else◌, length, take, drop, inl, inr, ap, sym, subst, subst₂, ◌∙◌, arith, vec_len}
+use Rattle.std.proofs.Common.{◌≡◌, ◌+◌, ◌/◌, ◌<◌, ◌≤◌, ◌++◌, true, if◌then◌else◌, length, take, drop, inl, inr, ap, sym, subst, subst₂, ◌∙◌, arith, vec_len}
 use Rattle.std.proofs.lemmas.Bool.{cases_Bool}
 use Rattle.std.proofs.lemmas.List.Elements.{All-same}
 use Rattle.std.proofs.lemmas.Nat.{mul-le}
@@ -9,6 +9,7 @@ use Rattle.oct_mex.specs.NimValues.{nim_values}
 use Rattle.oct_mex.specs.Totals.{IsTable}
 use Rattle.oct_mex.proofs.Bounds.{length-moves, nim_value-le, nim_value-lt}
 use Rattle.oct_mex.proofs.Contents.{held_is}
+use Rattle.oct_mex.proofs.Pushed.{begun}
 use Rattle.oct_mex.proofs.SeenPeriods.{goes_on_further}
 use Rattle.oct_mex.proofs.Tables.{tables_next, written}
 use Rattle.oct_mex.proofs.values.Values.push_next.Goals as goal
@@ -34,6 +35,7 @@ invariant_of-self-else-self-gt0 g c =
     let last = c.push_next_by.new.tables in
     let one : length first ≡ size = c.follow_mask.ensures.count ∙ c.deref_mut.ensures.len in
     let second : length last ≡ size = c.push_next_by.ensures.count ∙ c.deref_mut-else-self-gt0.ensures.len in
+    let fewer : vec_len c.follow.new.self.values ≤ n = omega (arith, c.follow.ensures.within, c.deref.ensures.len) in
     let known : All (IsTable mask all) last = tables_next mask v.code n (vec_len row.values) last more (subst (λ xs. All (IsTable mask xs) last) kept.row.values c.push_next_by.ensures.tables) in
     record {
       few = kept.few;
@@ -48,6 +50,8 @@ invariant_of-self-else-self-gt0 g c =
       limited = kept.limited;
       periodic = λ some. goes_on_further v.code n (vec_len c.push_next_by.new.self.values) v.period (omega (arith, more)) (kept.periodic some);
       tables = λ none. All-same (IsTable mask all) (take size (last ++ drop (length last) (take size (first ++ rest)))) last (written size last (drop (length last) (take size (first ++ rest))) second) known;
+      narrow = c.follow.ensures.begins ∙ ap (take (vec_len c.follow.new.self.values)) c.deref.ensures.value ∙ begun v.code n (vec_len c.follow.new.self.values) v.row.values.items kept.row.values fewer;
+      fewer = omega (arith, fewer, more);
     }
 
 pub returns-else-self-gt0 : goal.returns-else-self-gt0
@@ -80,6 +84,8 @@ invariant_of-self g c =
       limited = kept.limited;
       periodic = λ some. goes_on_further v.code n (vec_len c.push_again.new.self.values) v.period (omega (arith, more)) (kept.periodic some);
       tables = λ none. absurd (omega (arith, none, c.if-self-gt0.true));
+      narrow = kept.narrow;
+      fewer = omega (arith, kept.fewer, more);
     }
 
 -- the tables are right for the values before
@@ -95,3 +101,9 @@ push_next_by-requires-clause-tables g c =
     let one : length first ≡ size = c.follow_mask.ensures.count ∙ c.deref_mut.ensures.len in
     let now : All (IsTable mask all) first = c.follow_mask.ensures.kept all (subst (All (IsTable v.mask all)) (sym c.deref_mut.ensures.value) (kept.tables (omega arith))) in
     subst₂ (λ xs ys. All (IsTable mask xs) ys) (sym kept.row.values) (sym (c.deref_mut-else-self-gt0.ensures.value ∙ written size first rest one)) now
+
+pub follow-requires-clause-begins : goal.follow-requires-clause-begins
+follow-requires-clause-begins g c =
+    let v = c.self.inside in
+    let kept = c.self.invariant in
+    kept.narrow ∙ sym (ap (take (vec_len v.narrow.values)) c.deref.ensures.value ∙ begun v.code (vec_len v.row.values) (vec_len v.narrow.values) v.row.values.items kept.row.values kept.fewer)
