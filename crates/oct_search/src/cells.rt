@@ -16,6 +16,7 @@ use crate::certificate::{Outlook, look_ahead};
 use crate::error::SearchError;
 use crate::finder::{Finder, lengthen, make_room, room_behind};
 use crate::search::MOST;
+use crate::seldom::Seldom;
 use oct_code::Code;
 use oct_mex::{Cell, Rare, Row, SeenPeriod, expected_period, find_shown};
 use std::alloc::{AllocError, Allocator};
@@ -90,6 +91,7 @@ impl<A: Allocator + Copy> Cells<A> {
         &self,
         alloc: A,
         code: &Code,
+        seldom: &mut Seldom<A>,
         marks: &mut Vec<bool, A>,
     ) -> Result<Outlook, AllocError>
         requires { IsKnown code.now self.now }
@@ -98,11 +100,11 @@ impl<A: Allocator + Copy> Cells<A> {
         match self {
             Cells::Narrow(row) => {
                 lengthen(marks, row.used)?;
-                Ok(look_ahead(alloc, row, code, marks))
+                Ok(look_ahead(alloc, row, code, seldom, marks))
             }
             Cells::Wide(row) => {
                 lengthen(marks, row.used)?;
-                Ok(look_ahead(alloc, row, code, marks))
+                Ok(look_ahead(alloc, row, code, seldom, marks))
             }
         }
     }

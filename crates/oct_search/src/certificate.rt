@@ -15,12 +15,13 @@ ghost use Rattle.oct_search.specs.BySets.{ServeFor};
 ghost use Rattle.oct_search.specs.Certain.{IsCertain};
 
 use crate::by_sets::BySets;
+use crate::seldom::Seldom;
 use oct_code::Code;
-use oct_mex::{Cell, Mask, Row, SeenPeriod, expected_period, settled_value};
+use oct_mex::{Cell, Mask, Row, SeenPeriod, settled_value};
 use std::alloc::Allocator;
 
 // So many of the last values, one in so many and some more, let expect a period that is tried.
-const SHARE: usize = 32;
+const SHARE: usize = 64;
 
 const SPARE: usize = 64;
 
@@ -39,13 +40,15 @@ pub(crate) fn look_ahead<T: Cell, A: Allocator + Copy>(
     alloc: A,
     row: &Row<T, A>,
     code: &Code,
+    seldom: &mut Seldom<A>,
     marks: &mut [bool],
 ) -> Outlook
     requires row { IsRow T.number code.now row.now }
     requires marks { row.now.used ≤ length marks.old }
     ensures { IfSome result.certain (IsCertain code.now (vec_len row.now.values)) }
 {
-    let Some(seen) = expected_period(&row.values, row.values.len() / SHARE + SPARE) else {
+    let tail = row.values.len() / SHARE + SPARE;
+    let Some(seen) = seldom.expected_period(&row.values, tail) else {
         return Outlook {
             come_again: false,
             certain: None,

@@ -16,7 +16,8 @@
 //! over `oct_sets`), and marks the others (`finder`).
 //!
 //! A period is looked for at lengths that grow by a quarter, mostly at two heaps for each. Often one run of it proves that
-//! the values go on with it long before they show it (`certificate`). Then the values that it takes are copied.
+//! the values go on with it long before they show it (`certificate`). Then the values that it takes are copied. Which period
+//! that can be is told by the places of a seldom value (`seldom`).
 //!
 //! What nim-values, periods and what proves them are is defined in `oct_mex`.
 #![tactic(auto)]
@@ -27,6 +28,7 @@ mod certificate;
 mod error;
 mod finder;
 mod search;
+mod seldom;
 #[cfg(test)]
 mod tests;
 

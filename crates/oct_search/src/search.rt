@@ -10,6 +10,7 @@ use crate::cells::Cells;
 use crate::certificate::{Outlook, need_of};
 use crate::error::SearchError;
 use crate::finder::Finder;
+use crate::seldom::Seldom;
 use oct_code::Code;
 use oct_mex::SeenPeriod;
 use oct_progress::Progress;
@@ -26,7 +27,7 @@ const FIRST_LOOK: usize = 64;
 const FIRST_TRY: usize = 4_096;
 
 // One is tried for again where there are more by one in so many.
-const TRY: usize = 16;
+const TRY: usize = 32;
 
 // So many are computed before it is told again how many are known.
 const PART: usize = 65_536;
@@ -42,6 +43,7 @@ pub struct Search<A: Allocator + Copy> {
     outlook: Outlook,
     // How many values there are when one is tried next.
     due: usize,
+    seldom: Seldom<A>,
 }
 
 impl<A: Allocator + Copy> Model for Search<A> {
@@ -70,6 +72,7 @@ impl<A: Allocator + Copy> Search<A> {
                 certain: None,
             },
             due: FIRST_TRY,
+            seldom: Seldom::new(alloc),
         }
     }
 
@@ -161,16 +164,19 @@ impl<A: Allocator + Copy> Search<A> {
         Ok(())
     }
 
-    // Tries for a period with which the values go on, at lengths that grow by a sixteenth, until one is known.
+    // Tries for a period with which the values go on, at lengths that grow by one in `TRY`, until one is known.
     fn look_ahead(&mut self) -> Result<(), AllocError>
         ensures { self.new ≡ self.old }
     {
         let len = self.len();
         if self.outlook.certain.is_none() && len >= self.due {
             self.due = len + len / TRY;
-            self.outlook = self
-                .cells
-                .look_ahead(self.alloc, &self.code, &mut self.finder.marks)?;
+            self.outlook = self.cells.look_ahead(
+                self.alloc,
+                &self.code,
+                &mut self.seldom,
+                &mut self.finder.marks,
+            )?;
         }
         Ok(())
     }

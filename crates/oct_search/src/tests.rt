@@ -3,6 +3,7 @@
 use crate::cells::Cells;
 use crate::finder::Finder;
 use crate::search::Search;
+use crate::seldom::Seldom;
 use oct_code::Code;
 use oct_mex::{SeenPeriod, Values};
 use oct_progress::Nobody;
@@ -120,7 +121,8 @@ fn one_settled_period_is_enough(rt: HostRuntime) {
         let pushed = cells.push_next(rt.alloc(), &code, &mut finder);
         assert!(&rt; pushed.is_ok(), "memory");
     }
-    let outlook = cells.look_ahead(rt.alloc(), &code, &mut finder.marks);
+    let mut seldom = Seldom::new(rt.alloc());
+    let outlook = cells.look_ahead(rt.alloc(), &code, &mut seldom, &mut finder.marks);
     let outlook = outlook.ok().expect(&rt, "memory");
     let found = outlook.certain.expect(&rt, "a period");
     assert_eq!(&rt; found.period, 349, "the period");
