@@ -6,8 +6,8 @@
 //! anew, `census_published` those that show what a state says, and `census_sessions` the sessions. `completion` and `manual`, which
 //! are made from all rows, and `explain` stand here.
 //!
-//! - `commands` lists them: `run_command` does the one of a name, for its `Readers`. `chapters` are the rows of all commands, as the
-//!   help has them, and `is_unwatched` says which of them nobody watches.
+//! - `commands` lists them: `Call` is one that is called by its name, for its `Readers`, and its `run` does it. `chapters` are the rows
+//!   of all commands, as the help has them, and `is_unwatched` says which of them nobody watches.
 //!
 //! What words say is `census_arguments`. What many commands have in common, a request to a state, is `census_requests`, and what
 //! they make of the bytes of their files `census_core`; what takes long is `census_progress`, and what is made from the rows
@@ -20,4 +20,4 @@ mod explain;
 mod manual;
 
 pub use census_requests::Readers;
-pub use commands::{chapters, is_unwatched, run_command};
+pub use commands::{Call, chapters, is_unwatched};

@@ -1,6 +1,6 @@
 //! The program over any three streams.
 
-use census_commands::{Readers, chapters, is_unwatched, run_command};
+use census_commands::{Call, Readers, chapters, is_unwatched};
 use census_core::Fault;
 use census_failure::{Advice, Audience, Failure, INPUT_NAME, OUTPUT_NAME, escaped_lines};
 use census_files::Noted;
@@ -187,12 +187,12 @@ fn show<O: Write, E: Write>(
 }
 
 // Does what the matches of a command line ask for, and gives the exit status.
-fn attempted<R, I, O, E>(
-    rt: &R,
-    matches: &ArgMatches<'_>,
-    input: &mut I,
-    output: &mut O,
-    errors: &mut E,
+fn attempted<'a, R, I, O, E>(
+    rt: &'a R,
+    matches: &'a ArgMatches<'_>,
+    input: &'a mut I,
+    output: &'a mut O,
+    errors: &'a mut E,
     readers: Readers,
 ) -> Result<u8, Failure>
 where
@@ -202,7 +202,16 @@ where
     E: Write,
 {
     match matches.subcommand() {
-        Some((name, found)) => run_command(rt, name, found, input, output, errors, readers),
+        Some((name, found)) => Call {
+            rt,
+            name,
+            found,
+            input,
+            output,
+            errors,
+            readers,
+        }
+        .run(),
         None => Err(Failure::from(Fault::Words)),
     }
 }
