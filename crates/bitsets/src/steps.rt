@@ -31,10 +31,13 @@ pub fn unite_steps<W: Word>(
 {
     let mut done = 0;
     while done + PART <= block.len() {
-        let mut part = [W::empty(); PART];
-        part.copy_from_slice(&block[done..done + PART]);
-        unite_part(&mut part, sets, place + done, offsets, values);
-        block[done..done + PART].copy_from_slice(&part);
+        unite_long(
+            &mut block[done..done + PART],
+            sets,
+            place + done,
+            offsets,
+            values,
+        );
         done += PART;
     }
     while done + FEW <= block.len() {
@@ -47,6 +50,30 @@ pub fn unite_steps<W: Word>(
     if done < block.len() {
         unite_part(&mut block[done..], sets, place + done, offsets, values);
     }
+}
+
+// The same for `PART` sets, in an array: apart, so that no array is made where there are fewer.
+#[inline(never)]
+fn unite_long<W: Word>(
+    block: &mut [W],
+    sets: &[W],
+    place: usize,
+    offsets: &[usize],
+    values: &[usize],
+)
+    requires part { length block.old ≡ PART }
+    requires beside { length values.now ≡ length offsets.now }
+    requires few { (k : ℕ) → k < length values.now → slice_index values.now k < 2 ^ W.digits }
+    requires before { (k : ℕ) → k < length offsets.now → slice_index offsets.now k ≤ place }
+    requires behind { (k : ℕ) → k < length offsets.now → place + length block.old ≤ length sets.now + slice_index offsets.now k }
+    requires small { place + length block.old < 2 ^ 63 }
+    ensures len { length block.new ≡ length block.old }
+    ensures adds { (i : ℕ) → i < length block.old → AddsSmall W.digits (slice_index (map W.number block.old) i) (slice_index (map W.number block.new) i) (IsMadeBehind (map W.number sets.now) (place + i) offsets.now values.now (length offsets.now)) }
+{
+    let mut part = [W::empty(); PART];
+    part.copy_from_slice(block);
+    unite_part(&mut part, sets, place, offsets, values);
+    block.copy_from_slice(&part);
 }
 
 // Adds to each set of a part of a block, the first of which is that of the place `place`, what the steps make.

@@ -12,16 +12,16 @@ loop-done-preserved g c =
     let from = c.loop-done.done in
     let to = from + PART in
     let block = c.loop-done.block in
-    let part = c.copy_from_slice-in-loop-done.new.self in
+    let made = c.unite_long in
+    let part = made.new.block in
     let low : to ≤ length block = omega (arith, c.loop-done-test.true) in
     let room : from + (to - from) ≤ length block = omega (arith, low) in
-    let full : length part ≡ to - from = ap length c.copy_from_slice-in-loop-done.ensures.after ∙ c.unite_part.ensures.len ∙ ap length c.copy_from_slice.ensures.after ∙ length-between block from to low in
+    let full : length part ≡ to - from = made.ensures.len ∙ length-between block from to low in
     record {
       len = put_length number block from (to - from) part room full ∙ kept.len;
       within = omega (arith, low, kept.len);
       adds = part_made number g.W.Word.digits (map number c.args.sets.now) c.args.place c.args.offsets.now c.args.values.now c.args.block.now block part from to (omega arith) low full
-          kept.adds kept.left (λ i within. subst₂ (λ xs ys. IsMade number g.W.Word.digits (map number c.args.sets.now) c.args.place c.args.offsets.now c.args.values.now (c.args.place + from + i) (slice_index (map number xs) i) (slice_index (map number ys) i))
-          c.copy_from_slice.ensures.after (sym c.copy_from_slice-in-loop-done.ensures.after) (c.unite_part.ensures.adds i (omega (arith, within, full, ap length c.copy_from_slice.ensures.after, length-between block from to low))));
+          kept.adds kept.left (λ i within. made.ensures.adds i (omega (arith, within, made.ensures.len)));
       left = λ i after. put_after number block from (to - from) part room full i (omega (arith, after)) ∙ kept.left i (omega (arith, after));
     }
 
@@ -32,16 +32,16 @@ loop-done-2-preserved g c =
     let from = c.loop-done-2.done in
     let to = from + FEW in
     let block = c.loop-done-2.block in
-    let part = c.copy_from_slice-in-loop-done-2-2.new.self in
+    let part = c.copy_from_slice-in-loop-done-2.new.self in
     let low : to ≤ length block = omega (arith, c.loop-done-2-test.true) in
     let room : from + (to - from) ≤ length block = omega (arith, low) in
-    let full : length part ≡ to - from = ap length c.copy_from_slice-in-loop-done-2-2.ensures.after ∙ c.unite_part-in-loop-done-2.ensures.len ∙ ap length c.copy_from_slice-in-loop-done-2.ensures.after ∙ length-between block from to low in
+    let full : length part ≡ to - from = ap length c.copy_from_slice-in-loop-done-2.ensures.after ∙ c.unite_part.ensures.len ∙ ap length c.copy_from_slice.ensures.after ∙ length-between block from to low in
     record {
       len = put_length number block from (to - from) part room full ∙ kept.len;
       within = omega (arith, low, kept.len);
       adds = part_made number g.W.Word.digits (map number c.args.sets.now) c.args.place c.args.offsets.now c.args.values.now c.args.block.now block part from to (omega arith) low full
           kept.adds kept.left (λ i within. subst₂ (λ xs ys. IsMade number g.W.Word.digits (map number c.args.sets.now) c.args.place c.args.offsets.now c.args.values.now (c.args.place + from + i) (slice_index (map number xs) i) (slice_index (map number ys) i))
-          c.copy_from_slice-in-loop-done-2.ensures.after (sym c.copy_from_slice-in-loop-done-2-2.ensures.after) (c.unite_part-in-loop-done-2.ensures.adds i (omega (arith, within, full, ap length c.copy_from_slice-in-loop-done-2.ensures.after, length-between block from to low))));
+          c.copy_from_slice.ensures.after (sym c.copy_from_slice-in-loop-done-2.ensures.after) (c.unite_part.ensures.adds i (omega (arith, within, full, ap length c.copy_from_slice.ensures.after, length-between block from to low))));
       left = λ i after. put_after number block from (to - from) part room full i (omega (arith, after)) ∙ kept.left i (omega (arith, after));
     }
 
