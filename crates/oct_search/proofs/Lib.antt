@@ -1,3 +1,4 @@
 pub mod BySets
 pub mod CellReads
 pub mod Certificates
+pub mod Copied

@@ -244,9 +244,38 @@ fn push_again_to<T: Cell, A: Allocator + Copy>(
 {
     row.give_up_rare();
     while row.values.len() < end {
-        let cell = row.values[row.values.len() - period];
-        push_unlisted(row, cell);
+        let count = period.min(end - row.values.len());
+        push_copied(row, code, period, count);
     }
+}
+
+// Adds so many values, for which there is room, each that of the heap one period before: none of these is new. No heap is listed under
+// a mask. Takes no memory.
+fn push_copied<T: Cell, A: Allocator + Copy>(
+    row: &mut Row<T, A>,
+    code: &Code,
+    period: usize,
+    count: usize,
+)
+    requires row { IsRow T.number code.now row.old }
+    requires some { 1 ≤ period }
+    requires few { count ≤ period }
+    requires limited { vec_len row.old.values + count ≤ MOST }
+    requires room { vec_len row.old.values + count ≤ vec_capacity row.old.values }
+    requires on { GoesOn code.now (vec_len row.old.values) period }
+    requires none { row.old.rare.mask.bits ≡ 0 }
+    ensures row { IsRow T.number code.now row.new }
+    ensures len { vec_len row.new.values ≡ vec_len row.old.values + count }
+    ensures room { vec_capacity row.old.values ≤ vec_capacity row.new.values }
+    ensures rare { row.new.rare ≡ row.old.rare }
+{
+    let len = row.values.len();
+    let from = len - period;
+    let first = row.values[from];
+    // There is room for them.
+    let _ = row.values.resize(len + count, first);
+    let (known, next) = row.values.split_at_mut(len);
+    next.copy_from_slice(&known[from..from + count]);
 }
 
 // The same values in wider cells.

@@ -9,6 +9,9 @@ use std::alloc::{AllocError, Allocator};
 // Of so many of the last values the greatest one is taken for a seldom one.
 const SAMPLE: usize = 4_096;
 
+// So many gaps before the last place are compared with those before another one.
+const GAPS: usize = 4;
+
 // A value is not seldom that stands at more places than one in so many.
 const SELDOM: usize = 64;
 
@@ -17,6 +20,8 @@ const SELDOM: usize = 64;
 pub(crate) struct Seldom<A: Allocator> {
     value: usize,
     places: Vec<u32, A>,
+    // How far before each place the next one before it is, and 0 where there is none.
+    gaps: Vec<u32, A>,
     // So many values are looked at.
     end: usize,
 }
@@ -27,6 +32,7 @@ impl<A: Allocator + Copy> Seldom<A> {
         Seldom {
             value: 0,
             places: Vec::new(alloc),
+            gaps: Vec::new(alloc),
             end: 0,
         }
     }
@@ -75,6 +81,7 @@ impl<A: Allocator + Copy> Seldom<A> {
     fn begin_anew(&mut self, value: usize) {
         self.value = value;
         self.places.clear();
+        self.gaps.clear();
         self.end = 0;
     }
 
@@ -88,16 +95,36 @@ impl<A: Allocator + Copy> Seldom<A> {
         let most = values.len() / SELDOM;
         let mut end = self.end;
         while end < values.len() && self.places.len() <= most {
-            if LANES <= values.len() - end && !T::has_value(values, end, value) {
-                end += LANES;
-            } else {
-                if values[end].number() == self.value {
-                    self.places.push(end as u32)?;
-                }
-                end += 1;
+            let next = values.len().min(end + LANES);
+            if next < end + LANES || T::has_value(values, end, value) {
+                self.add_places(values, end, next)?;
             }
+            end = next;
         }
         self.end = end;
+        Ok(())
+    }
+
+    // Adds the places of the value from `from` on and before `end`.
+    fn add_places<T: Cell>(
+        &mut self,
+        values: &[T],
+        from: usize,
+        end: usize,
+    ) -> Result<(), AllocError>
+        requires limited { length values.now ≤ 2 ^ 32 }
+        requires within { end ≤ length values.now }
+    {
+        for place in from..end {
+            if values[place].number() == self.value {
+                let gap = match self.places.last() {
+                    Some(before) => (place as u32).wrapping_sub(*before),
+                    None => 0,
+                };
+                self.gaps.push(gap)?;
+                self.places.push(place as u32)?;
+            }
+        }
         Ok(())
     }
 
@@ -110,43 +137,66 @@ impl<A: Allocator + Copy> Seldom<A> {
         ensures within { IfSome result (λ seen. seen.start + seen.period ≤ length values.now) }
         ensures again { IfSome result (λ seen. ComesAgain (map T.number values.now) seen.start seen.period) }
     {
-        let count = self.places.len();
         let last = *self.places.last()? as usize;
-        let gap = self.last_gap(values.len().saturating_sub(tail));
+        let gaps = self.last_gaps(values.len().saturating_sub(tail));
         // Where another period was seen to fail, most fail.
         let mut later = last;
-        for back in 1..count {
-            let at = count - 1 - back;
+        let mut end = self.places.len() - 1;
+        while let Some(at) = self.place_before(end, gaps) {
             let period = last.saturating_sub(self.places[at] as usize);
-            if self.has_gap(at, gap) && is_same(values, later, period) {
+            if self.has_gaps(at, gaps) && is_same(values, later, period) {
                 match expected_by(values, tail, period) {
                     Ok(seen) => return Some(seen),
                     Err(place) => later = place,
                 }
             }
+            end = at;
         }
         None
     }
 
-    // How far before the last place the next one is, if that is not before `from`. By a period the place that comes again has one as
-    // far before it, so that few places are left, and no value needs to be read for the others.
-    fn last_gap(&self, from: usize) -> Option<u32> {
-        let before = self.places.len().checked_sub(2)?;
-        if (self.places[before] as usize) < from {
-            return None;
+    // The last gaps, a few, of which none reaches before `from`. By a period the place that comes again has the same gaps before it, so
+    // that few places are left, and no value needs to be read for the others.
+    fn last_gaps(&self, from: usize) -> &[u32] {
+        let len = self.gaps.len().min(self.places.len());
+        let mut first = len;
+        while 2 <= first && len - first < GAPS && from <= self.places[first - 2] as usize {
+            first -= 1;
         }
-        Some(self.places[before + 1].wrapping_sub(self.places[before]))
+        &self.gaps[first..len]
     }
 
-    // Whether the next place before this one is as far before it, where that is asked.
-    fn has_gap(&self, at: usize, gap: Option<u32>) -> bool
-        requires { at < vec_len self.now.places }
+    // The last of so many places that has the last of these gaps before it, if there is one.
+    fn place_before(&self, end: usize, gaps: &[u32]) -> Option<usize>
+        requires { end ≤ vec_len self.now.places }
+        ensures { IfSome result (λ at. at < end) }
     {
-        match gap {
-            Some(gap) => 0 < at && self.places[at].wrapping_sub(self.places[at - 1]) == gap,
-            None => true,
+        match gaps.last() {
+            Some(gap) => last_of(&self.gaps, end, *gap),
+            None => end.checked_sub(1),
         }
     }
+
+    // Whether a place has these gaps before it.
+    fn has_gaps(&self, at: usize, gaps: &[u32]) -> bool {
+        at < self.gaps.len() && self.gaps[..at + 1].ends_with(gaps)
+    }
+}
+
+// The last place of a number among so many, `LANES` at a time.
+fn last_of(numbers: &[u32], count: usize, number: u32) -> Option<usize>
+    ensures { IfSome result (λ place. place < count) }
+{
+    let mut end = count.min(numbers.len());
+    while LANES <= end && !u32::has_value(numbers, end - LANES, number) {
+        end -= LANES;
+    }
+    for place in (0..end).rev() {
+        if numbers[place] == number {
+            return Some(place);
+        }
+    }
+    None
 }
 
 // Whether a value is that which stands so many places before it.
