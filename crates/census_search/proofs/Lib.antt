@@ -1,2 +1,3 @@
 pub mod FirstGames
 mod Pieces
+mod SearchFaults
