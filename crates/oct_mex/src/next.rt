@@ -104,7 +104,8 @@ fn are_ready<A: Allocator>(tables: &mut [Table<A>], size: usize) -> bool
 /// The options of at most one heap or of a listed heap are marked first. Every other option leaves two common heaps, and
 /// so has a value that is rare at this heap: the least value that is not marked is the mex as soon as it is common here.
 /// Until then either further pairs are marked, in each round a quarter more and some, or the least value that is not
-/// marked is sought in all pairs that are left, and is the mex if none has it: whichever has gone over fewer pairs so far.
+/// marked is sought in all pairs that are left, and is the mex if none has it: whichever has cost less so far, where a pair
+/// that is looked at counts twice.
 pub(crate) fn next_by_marks<T: Cell, N: Cell>(
     code: &Code,
     values: &[T],
