@@ -243,9 +243,14 @@ fn push_again_to<T: Cell, A: Allocator + Copy>(
     ensures len { vec_len row.new.values ≡ end }
 {
     row.give_up_rare();
+    let mut period = period;
     while row.values.len() < end {
         let count = period.min(end - row.values.len());
         push_copied(row, code, period, count);
+        // One period later it goes on by two of them: few parts are copied of a short one.
+        if count == period {
+            period *= 2;
+        }
     }
 }
 

@@ -8,6 +8,7 @@ invariant-loop-row g l = record {
   row : IsRow g.T.Cell.number l.code l.row;
   most : vec_len l.row.values ≤ l.end;
   room : vec_capacity l.initial.row.values ≤ vec_capacity l.row.values;
+  some : 1 ≤ l.period;
   none : l.row.rare.mask.bits ≡ 0;
   on : GoesOn l.code (vec_len l.row.values) l.period;
 }
