@@ -155,6 +155,19 @@ def searches():
     expect(due <= seconds * 1.01 + 1 and seconds <= max(1.5 * due + 2, due + 1), f"how long it takes is no rest by a rate: {lines[-1]!r}")
 
 
+def resumes():
+    """A search that is taken up again says at once how far it had come, and its rate leaves out what was known before."""
+    words = ("--window", "--save", "told.search")
+    before = 30_000_000
+    same("a search that ends", done("search", str(before), "0.106", *words), f"0.106 no period seen in {before} values\n")
+    lines = told("search", "4000000000", "0.106", *words, seconds=2)
+    need(len(lines) > 5, f"a search that goes on says {lines}")
+    for line in lines:
+        known, rate, left = re.fullmatch(r"0\.106 (\d+) of 4000000000(?:, (\d+) a second)?(, .* left)?", line).groups()
+        expect(int(known) >= before, f"a search that goes on behind {before} values says {line!r}")
+        expect(not left or int(rate) <= int(known) - before, f"a rate counts what {before} values were before: {line!r}")
+
+
 def turns():
     done("init", "c.state", "3")
     lines = told("extend", "c.state", "65536", "0.777", DEAR, "0.7777", seconds=3)
@@ -194,6 +207,7 @@ def main():
         said()
         widths()
         searches()
+        resumes()
         turns()
         rechecks()
         files()

@@ -105,10 +105,11 @@ pub fn resume<A: Allocator + Copy, K: Keeper<A>>(
     ensures heeded { OnOk result (K.has_refused keeper.new ≡ K.has_refused keeper.old) }
 {
     let Place { code, listed, .. } = place;
-    let count = count.max(place.farthest());
+    let known = place.farthest();
+    let count = count.max(known);
     let mut row = Row::new(alloc);
     let mut marks = no_marks(alloc)?;
-    list_told(&mut row, &code, &mut marks, listed, count, keeper)?;
+    list_told(&mut row, &code, &mut marks, listed, known, count, keeper)?;
     match follow(alloc, place, &row, count, &mut marks, keeper)? {
         Tried::Done(sought) => Ok(sought),
         Tried::Lost(heap) => {
@@ -160,7 +161,7 @@ fn seek_behind<A: Allocator + Copy, K: Keeper<A>>(
 {
     let mut size = first;
     loop {
-        list_told(row, code, marks, count.min(size), count, keeper)?;
+        list_told(row, code, marks, count.min(size), 0, count, keeper)?;
         match try_behind(alloc, code, row, count, marks, keeper)? {
             Tried::Done(sought) => return Ok(sought),
             Tried::Lost(heap) => size = more_than(size, heap),
@@ -168,12 +169,13 @@ fn seek_behind<A: Allocator + Copy, K: Keeper<A>>(
     }
 }
 
-// Lists the values of the heaps below `end`, and tells how many of `count` are known.
+// Lists the values of the heaps below `end`, and tells how many of `count` are known: no fewer than were known before.
 fn list_told<A: Allocator + Copy, K: Keeper<A>>(
     row: &mut Row<u16, A>,
     code: &Code,
     marks: &mut Vec<bool, A>,
     end: usize,
+    known: usize,
     count: usize,
     keeper: &mut K,
 ) -> Result<(), SeekError>
@@ -188,7 +190,8 @@ fn list_told<A: Allocator + Copy, K: Keeper<A>>(
 {
     row.room_to(end)?;
     while row.values.len() < end {
-        keeper.tell(*code, row.values.len() as u64, count as u64);
+        let known = known.max(row.values.len());
+        keeper.tell(*code, known as u64, count as u64);
         let next = end.min(row.values.len() + PART);
         if !extend(row, code, marks, next)? {
             return Err(SeekError::PastValue);

@@ -2,8 +2,8 @@ use Rattle.std.proofs.Common.{◌≡◌, ◌-◌, ◌≤◌, max, vec_len}
 use Rattle.oct_mex.specs.Row.{IsRow}
 use Rattle.oct_window.proofs.seeking.list_told.Given as goal
 
-abbrev pub invariant-loop-keeper : goal.invariant-loop-keeper
-invariant-loop-keeper g l = record {
+abbrev pub invariant-loop-row : goal.invariant-loop-row
+invariant-loop-row g l = record {
   row : IsRow (λ x. x) l.code l.row;
   more : vec_len l.fn.row.values ≤ vec_len l.row.values;
   most : vec_len l.row.values ≤ max l.end (vec_len l.fn.row.values);
@@ -11,5 +11,5 @@ invariant-loop-keeper g l = record {
   heeded : g.K.Keeper.has_refused l.keeper ≡ g.K.Keeper.has_refused l.fn.keeper;
 }
 
-abbrev pub decreases-loop-keeper : goal.decreases-loop-keeper
-decreases-loop-keeper g l = l.end - vec_len l.row.values
+abbrev pub decreases-loop-row : goal.decreases-loop-row
+decreases-loop-row g l = l.end - vec_len l.row.values
