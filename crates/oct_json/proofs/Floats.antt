@@ -9,7 +9,7 @@ use Rattle.oct_period.specs.declared.status.PeriodStatus.TheVariants as of_claim
 use Rattle.oct_store.specs.declared.author.Author.{Author}
 use Rattle.oct_verify.specs.declared.status.Status.{Status}
 use Rattle.oct_verify.specs.declared.status.Status.TheVariants as of_block
-use Rattle.oct_json.specs.Json.{author_data, bare_game, block_by, block_data, called_data, count, document, fork_data, game_by, game_data, least_data, list, marked_block, marked_period, no_values, op_data, period_by, period_data, said_and_values, said_by, said_data, said_row}
+use Rattle.oct_json.specs.Json.{author_data, bare_game, block_by, block_data, count, document, fork_data, game_by, game_data, least_data, list, long_data, marked_block, marked_period, named, no_values, numbers_of, op_data, period_by, period_data, said_and_values, said_data, said_row, withdrawn_if}
 use Rattle.oct_overview.specs.Line.{period_of}
 use Rattle.oct_overview.specs.declared.line.LeastPeriod.{LeastPeriod}
 use Rattle.oct_json.specs.Said.{SaidPeriod}
@@ -26,7 +26,7 @@ items_float : {X : Type 0} (form : X → Data) → ((x : X) → has_float (form 
 items_float form none [] = refl
 items_float form none (x ∷ xs) = λ i. none x i || items_float form none xs i
 
-block_float : (b : BlockRow) (w : Bool) (s : Status) → has_float (block_by b w s) ≡ false
+block_float : (b : BlockRow) (w : Bool) (s : Status) → has_float (withdrawn_if w (block_by b s)) ≡ false
 block_float b true of_block.Proved = refl
 block_float b true (of_block.Refuted place claimed truth) = refl
 block_float b true of_block.Pending = refl
@@ -34,7 +34,7 @@ block_float b false of_block.Proved = refl
 block_float b false (of_block.Refuted place claimed truth) = refl
 block_float b false of_block.Pending = refl
 
-period_float : (p : PeriodRow) (w : Bool) (s : PeriodStatus) → has_float (period_by p w s) ≡ false
+period_float : (p : PeriodRow) (w : Bool) (s : PeriodStatus) → has_float (withdrawn_if w (period_by p s)) ≡ false
 period_float p true of_claim.Proved = refl
 period_float p true (of_claim.Refuted place) = refl
 period_float p true (of_claim.Pending needs) = refl
@@ -42,7 +42,7 @@ period_float p false of_claim.Proved = refl
 period_float p false (of_claim.Refuted place) = refl
 period_float p false (of_claim.Pending needs) = refl
 
-said_float : (long : LongPeriod) (name : List ℕ) → has_float (said_by long name) ≡ false
+said_float : (long : LongPeriod) (name : List ℕ) → has_float (named name (long_data long)) ≡ false
 said_float long [] = refl
 said_float long (b ∷ name) = refl
 
@@ -77,7 +77,7 @@ bare_game_float notes g least = game_by_float notes g least no_values refl
 game_float : (notes : List Operation) (g : GameSheet) → has_float (game_data notes g) ≡ false
 game_float notes g = game_by_float notes g (period_of g) (list count g.values) (items_float count (λ n. refl) g.values)
 
-author_float : (a : Author) (name : List ℕ) → has_float (called_data a name) ≡ false
+author_float : (a : Author) (name : List ℕ) → has_float (named name (numbers_of a)) ≡ false
 author_float a [] = refl
 author_float a (b ∷ name) = refl
 

@@ -2,5 +2,4 @@ pub mod Ascii
 pub mod Floats
 pub mod Items
 mod Opening
-mod SaidMember
 pub mod Spelled

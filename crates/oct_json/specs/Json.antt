@@ -22,7 +22,7 @@ use Rattle.oct_pages.specs.declared.statuses.PeriodRow.{PeriodRow}
 use Rattle.oct_json.specs.Said.{SaidPeriod}
 use Rattle.oct_json.specs.declared.marked.MarkedBlock.{MarkedBlock}
 use Rattle.oct_json.specs.declared.marked.MarkedPeriod.{MarkedPeriod}
-use Rattle.serde_json.specs.Data.{Data, Members, null, boolean, number, string, array, no_items, object, member, no_members, unsigned}
+use Rattle.serde_json.specs.Data.{Data, Members, null, boolean, number, string, array, no_items, object, member, no_members, put, unsigned}
 use Rattle.serde_json.specs.View.{items_of}
 
 abbrev pub count : ℕ → Data
@@ -35,10 +35,20 @@ word text = string text
 abbrev pub list : {X : Type 0} → (X → Data) → List X → Data
 list form xs = array (items_of (map form xs))
 
--- the last member of what is withdrawn
-abbrev pub withdrawn_member : Bool → Members
-withdrawn_member true = member (codes "withdrawn") (boolean true) no_members
-withdrawn_member false = no_members
+-- the object with this member too; what is none stays
+abbrev pub with_member : List ℕ → Data → Data → Data
+with_member key value (object members) = object (put key value members)
+with_member key value other = other
+
+-- what somebody said, withdrawn or not
+abbrev pub withdrawn_if : Bool → Data → Data
+withdrawn_if true row = with_member (codes "withdrawn") (boolean true) row
+withdrawn_if false row = row
+
+-- with the name of its author, where there is one
+abbrev pub named : List ℕ → Data → Data
+named [] row = row
+named (b ∷ name) row = with_member (codes "name") (word (b ∷ name)) row
 
 -- ---- blocks
 
@@ -47,18 +57,18 @@ abbrev pub marked_block : List Operation → BlockRow → MarkedBlock
 marked_block notes b = record { row = b; is_withdrawn = is_withdrawn notes b.dot }
 
 -- a block of which no more is known than a word says
-abbrev pub plain_block : BlockRow → Data → Bool → Data
-plain_block b status withdrawn =
+abbrev pub plain_block : BlockRow → Data → Data
+plain_block b status =
     object
     (member (codes "author") (count b.dot.author)
     (member (codes "count") (count b.count)
     (member (codes "number") (count b.dot.number)
     (member (codes "start") (count b.start)
-    (member (codes "status") status (withdrawn_member withdrawn))))))
+    (member (codes "status") status no_members)))))
 
 -- a block with its least wrong place, the value that it claims there, and the nim-value
-abbrev pub refuted_block : BlockRow → ℕ → ℕ → ℕ → Bool → Data
-refuted_block b place claimed truth withdrawn =
+abbrev pub refuted_block : BlockRow → ℕ → ℕ → ℕ → Data
+refuted_block b place claimed truth =
     object
     (member (codes "at") (count place)
     (member (codes "author") (count b.dot.author)
@@ -67,15 +77,15 @@ refuted_block b place claimed truth withdrawn =
     (member (codes "number") (count b.dot.number)
     (member (codes "start") (count b.start)
     (member (codes "status") (word (codes "refuted"))
-    (member (codes "true") (count truth) (withdrawn_member withdrawn)))))))))
+    (member (codes "true") (count truth) no_members))))))))
 
-abbrev pub block_by : BlockRow → Bool → Status → Data
-block_by b withdrawn of_block.Proved = plain_block b (word (codes "proved")) withdrawn
-block_by b withdrawn (of_block.Refuted place claimed truth) = refuted_block b place claimed truth withdrawn
-block_by b withdrawn of_block.Pending = plain_block b (word (codes "pending")) withdrawn
+abbrev pub block_by : BlockRow → Status → Data
+block_by b of_block.Proved = plain_block b (word (codes "proved"))
+block_by b (of_block.Refuted place claimed truth) = refuted_block b place claimed truth
+block_by b of_block.Pending = plain_block b (word (codes "pending"))
 
 abbrev pub block_data : MarkedBlock → Data
-block_data b = block_by b.row b.is_withdrawn b.row.status
+block_data b = withdrawn_if b.is_withdrawn (block_by b.row b.row.status)
 
 -- ---- period claims
 
@@ -83,44 +93,44 @@ block_data b = block_by b.row b.is_withdrawn b.row.status
 abbrev pub marked_period : List Operation → PeriodRow → MarkedPeriod
 marked_period notes p = record { row = p; is_withdrawn = is_withdrawn notes p.dot }
 
-abbrev pub proved_period : PeriodRow → Bool → Data
-proved_period p withdrawn =
+abbrev pub proved_period : PeriodRow → Data
+proved_period p =
     object
     (member (codes "author") (count p.dot.author)
     (member (codes "number") (count p.dot.number)
     (member (codes "period") (count p.period.period)
     (member (codes "start") (count p.period.start)
-    (member (codes "status") (word (codes "proved")) (withdrawn_member withdrawn))))))
+    (member (codes "status") (word (codes "proved")) no_members)))))
 
 -- a claim with the least heap that breaks it
-abbrev pub refuted_period : PeriodRow → ℕ → Bool → Data
-refuted_period p place withdrawn =
+abbrev pub refuted_period : PeriodRow → ℕ → Data
+refuted_period p place =
     object
     (member (codes "at") (count place)
     (member (codes "author") (count p.dot.author)
     (member (codes "number") (count p.dot.number)
     (member (codes "period") (count p.period.period)
     (member (codes "start") (count p.period.start)
-    (member (codes "status") (word (codes "refuted")) (withdrawn_member withdrawn)))))))
+    (member (codes "status") (word (codes "refuted")) no_members))))))
 
 -- a claim with how many known nim-values would decide it
-abbrev pub pending_period : PeriodRow → ℕ → Bool → Data
-pending_period p needs withdrawn =
+abbrev pub pending_period : PeriodRow → ℕ → Data
+pending_period p needs =
     object
     (member (codes "author") (count p.dot.author)
     (member (codes "needs") (count needs)
     (member (codes "number") (count p.dot.number)
     (member (codes "period") (count p.period.period)
     (member (codes "start") (count p.period.start)
-    (member (codes "status") (word (codes "pending")) (withdrawn_member withdrawn)))))))
+    (member (codes "status") (word (codes "pending")) no_members))))))
 
-abbrev pub period_by : PeriodRow → Bool → PeriodStatus → Data
-period_by p withdrawn of_claim.Proved = proved_period p withdrawn
-period_by p withdrawn (of_claim.Refuted place) = refuted_period p place withdrawn
-period_by p withdrawn (of_claim.Pending needs) = pending_period p needs withdrawn
+abbrev pub period_by : PeriodRow → PeriodStatus → Data
+period_by p of_claim.Proved = proved_period p
+period_by p (of_claim.Refuted place) = refuted_period p place
+period_by p (of_claim.Pending needs) = pending_period p needs
 
 abbrev pub period_data : MarkedPeriod → Data
-period_data p = period_by p.row p.is_withdrawn p.row.status
+period_data p = withdrawn_if p.is_withdrawn (period_by p.row p.row.status)
 
 -- ---- long periods that somebody says
 
@@ -128,22 +138,15 @@ period_data p = period_by p.row p.is_withdrawn p.row.status
 abbrev pub said_row : List Operation → LongPeriod → SaidPeriod
 said_row notes long = record { long = long; name = author_name notes long.author }
 
--- by an author that has a name, and by one that has none
-abbrev pub said_by : LongPeriod → List ℕ → Data
-said_by long [] =
+abbrev pub long_data : LongPeriod → Data
+long_data long =
     object
     (member (codes "author") (count long.author)
     (member (codes "period") (count long.seen.period)
     (member (codes "start") (count long.seen.start) no_members)))
-said_by long (b ∷ name) =
-    object
-    (member (codes "author") (count long.author)
-    (member (codes "name") (word (b ∷ name))
-    (member (codes "period") (count long.seen.period)
-    (member (codes "start") (count long.seen.start) no_members))))
 
 abbrev pub said_data : SaidPeriod → Data
-said_data s = said_by s.long s.name
+said_data s = named s.name (long_data s.long)
 
 -- ---- the rest
 
@@ -157,25 +160,19 @@ least_data (Some least) =
     (member (codes "start") (count least.period.start) no_members)))
 
 -- what somebody says of the game, where somebody does, and then its values
-abbrev pub said_first : Data → Data → Members
-said_first said values = member (codes "said") said (member (codes "values") values no_members)
-
 abbrev pub said_and_values : List SaidPeriod → Data → Members
 said_and_values [] values = member (codes "values") values no_members
-said_and_values (s ∷ said) values = said_first (list said_data (s ∷ said)) values
+said_and_values (s ∷ said) values = member (codes "said") (list said_data (s ∷ said)) (member (codes "values") values no_members)
 
 -- `known` is how many values there are
-abbrev pub game_with : Data → GameSheet → Data → Data → Members → Data
-game_with blocks g least periods rest =
+abbrev pub game_of : Data → GameSheet → Data → Data → List SaidPeriod → Data → Data
+game_of blocks g least periods said values =
     object
     (member (codes "blocks") blocks
     (member (codes "code") (word (code_text g.code))
     (member (codes "known") (count (length g.values))
     (member (codes "least_period") least
-    (member (codes "periods") periods rest)))))
-
-abbrev pub game_of : Data → GameSheet → Data → Data → List SaidPeriod → Data → Data
-game_of blocks g least periods said values = game_with blocks g least periods (said_and_values said values)
+    (member (codes "periods") periods (said_and_values said values))))))
 
 -- with what these notes say of it, and with this as its values
 abbrev pub game_by : List Operation → GameSheet → Option LeastPeriod → Data → Data
@@ -211,22 +208,15 @@ fork_data f =
     (member (codes "contents") (count f.contents)
     (member (codes "number") (count f.dot.number) no_members)))
 
--- an author that has a name, and one that has none
-abbrev pub called_data : Author → List ℕ → Data
-called_data a [] =
+abbrev pub numbers_of : Author → Data
+numbers_of a =
     object
     (member (codes "author") (count a.author)
     (member (codes "last") (count a.last)
     (member (codes "through") (count a.through) no_members)))
-called_data a (b ∷ name) =
-    object
-    (member (codes "author") (count a.author)
-    (member (codes "last") (count a.last)
-    (member (codes "name") (word (b ∷ name))
-    (member (codes "through") (count a.through) no_members))))
 
 abbrev pub author_data : Called → Data
-author_data a = called_data a.author a.name
+author_data a = named a.name (numbers_of a.author)
 
 -- `census` is the edition of the catalogue
 abbrev pub document_of : Data → Data → Data → Data → Data

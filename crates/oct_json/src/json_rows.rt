@@ -1,11 +1,11 @@
 //! The rows of a sheet as JSON.
 
-ghost use Rattle.std.specs.Prelude.{◌≡◌, ◌<◌, [], IfOk, false, length, true};
+ghost use Rattle.std.specs.Prelude.{◌≡◌, [], IfOk};
 ghost use Rattle.std.specs.Str.{IsAscii};
 ghost use Rattle.serde_json.specs.View.{view};
 ghost use Rattle.oct_code.specs.CodeText.{code_text};
 ghost use Rattle.oct_pages.specs.Contents.{game_content};
-ghost use Rattle.oct_json.specs.Json.{bare_game, called_data, game_of, game_with, least_data, no_values, note_data, pending_period, plain_block, proved_period, refuted_block, refuted_period, said_by, said_first, word};
+ghost use Rattle.oct_json.specs.Json.{bare_game, block_by, game_of, least_data, long_data, named, no_values, note_data, numbers_of, pending_period, period_by, plain_block, proved_period, refuted_block, refuted_period, with_member, withdrawn_if, word};
 
 use crate::forms::{ToJson, array_of};
 use crate::marked::{
@@ -20,7 +20,7 @@ use oct_said::LongPeriod;
 use oct_sheet::{Called, Remarks};
 use oct_store::{Author, Fork};
 use oct_verify::Status;
-use serde_json::{Value, json};
+use serde_json::{Value, json, put};
 use std::alloc::{AllocError, Global};
 
 impl ToJson for MarkedBlock {
@@ -29,43 +29,32 @@ impl ToJson for MarkedBlock {
     ghost form = { block_data };
 
     fn to_json(&self, alloc: Global) -> Result<Value, AllocError> {
-        match self.row.status {
-            Status::Proved => plain_block(alloc, &self.row, "proved", self.is_withdrawn),
-            Status::Pending => plain_block(alloc, &self.row, "pending", self.is_withdrawn),
-            Status::Refuted { at, claimed, truth } => {
-                refuted_block(alloc, &self.row, at, claimed, truth, self.is_withdrawn)
-            }
-        }
+        marked(alloc, block_value(alloc, &self.row)?, self.is_withdrawn)
+    }
+}
+
+// A block, whether it is withdrawn or not.
+fn block_value(alloc: Global, row: &BlockRow) -> Result<Value, AllocError>
+    ensures { IfOk result (λ v. view v ≡ block_by row.now row.now.status) }
+{
+    match row.status {
+        Status::Proved => plain_block(alloc, row, "proved"),
+        Status::Pending => plain_block(alloc, row, "pending"),
+        Status::Refuted { at, claimed, truth } => refuted_block(alloc, row, at, claimed, truth),
     }
 }
 
 // A block of which no more is known than the word says.
-fn plain_block(
-    alloc: Global,
-    row: &BlockRow,
-    status: &str,
-    is_withdrawn: bool,
-) -> Result<Value, AllocError>
-    ensures { IfOk result (λ v. view v ≡ plain_block row.now (word status.now) is_withdrawn) }
+fn plain_block(alloc: Global, row: &BlockRow, status: &str) -> Result<Value, AllocError>
+    ensures { IfOk result (λ v. view v ≡ plain_block row.now (word status.now)) }
 {
-    if is_withdrawn {
-        json!(in alloc; {
-            "author": row.dot.author(),
-            "count": row.count,
-            "number": row.dot.number(),
-            "start": row.start,
-            "status": status,
-            "withdrawn": true
-        })
-    } else {
-        json!(in alloc; {
-            "author": row.dot.author(),
-            "count": row.count,
-            "number": row.dot.number(),
-            "start": row.start,
-            "status": status
-        })
-    }
+    json!(in alloc; {
+        "author": row.dot.author(),
+        "count": row.count,
+        "number": row.dot.number(),
+        "start": row.start,
+        "status": status
+    })
 }
 
 // A block that is wrong at a heap.
@@ -75,49 +64,8 @@ fn refuted_block(
     at: u32,
     claimed: u32,
     truth: u32,
-    is_withdrawn: bool,
 ) -> Result<Value, AllocError>
-    ensures { IfOk result (λ v. view v ≡ refuted_block row.now at claimed truth is_withdrawn) }
-{
-    if is_withdrawn {
-        withdrawn_refutation(alloc, row, at, claimed, truth)
-    } else {
-        standing_refutation(alloc, row, at, claimed, truth)
-    }
-}
-
-// A block that is wrong at a heap, and withdrawn.
-fn withdrawn_refutation(
-    alloc: Global,
-    row: &BlockRow,
-    at: u32,
-    claimed: u32,
-    truth: u32,
-) -> Result<Value, AllocError>
-    ensures { IfOk result (λ v. view v ≡ refuted_block row.now at claimed truth true) }
-{
-    json!(in alloc; {
-        "at": at,
-        "author": row.dot.author(),
-        "claimed": claimed,
-        "count": row.count,
-        "number": row.dot.number(),
-        "start": row.start,
-        "status": "refuted",
-        "true": truth,
-        "withdrawn": true
-    })
-}
-
-// A block that is wrong at a heap, and not withdrawn.
-fn standing_refutation(
-    alloc: Global,
-    row: &BlockRow,
-    at: u32,
-    claimed: u32,
-    truth: u32,
-) -> Result<Value, AllocError>
-    ensures { IfOk result (λ v. view v ≡ refuted_block row.now at claimed truth false) }
+    ensures { IfOk result (λ v. view v ≡ refuted_block row.now at claimed truth) }
 {
     json!(in alloc; {
         "at": at,
@@ -137,101 +85,83 @@ impl ToJson for MarkedPeriod {
     ghost form = { period_data };
 
     fn to_json(&self, alloc: Global) -> Result<Value, AllocError> {
-        match self.row.status {
-            PeriodStatus::Proved => proved_period(alloc, &self.row, self.is_withdrawn),
-            PeriodStatus::Refuted { at } => {
-                refuted_period(alloc, &self.row, at, self.is_withdrawn)
-            }
-            PeriodStatus::Pending { needs } => {
-                pending_period(alloc, &self.row, needs, self.is_withdrawn)
-            }
-        }
+        marked(alloc, period_value(alloc, &self.row)?, self.is_withdrawn)
+    }
+}
+
+// A claim, whether it is withdrawn or not.
+fn period_value(alloc: Global, row: &PeriodRow) -> Result<Value, AllocError>
+    ensures { IfOk result (λ v. view v ≡ period_by row.now row.now.status) }
+{
+    match row.status {
+        PeriodStatus::Proved => proved_period(alloc, row),
+        PeriodStatus::Refuted { at } => refuted_period(alloc, row, at),
+        PeriodStatus::Pending { needs } => pending_period(alloc, row, needs),
     }
 }
 
 // A claim that is proved.
-fn proved_period(alloc: Global, row: &PeriodRow, is_withdrawn: bool) -> Result<Value, AllocError>
-    ensures { IfOk result (λ v. view v ≡ proved_period row.now is_withdrawn) }
+fn proved_period(alloc: Global, row: &PeriodRow) -> Result<Value, AllocError>
+    ensures { IfOk result (λ v. view v ≡ proved_period row.now) }
 {
-    if is_withdrawn {
-        json!(in alloc; {
-            "author": row.dot.author(),
-            "number": row.dot.number(),
-            "period": row.period.period(),
-            "start": row.period.start(),
-            "status": "proved",
-            "withdrawn": true
-        })
-    } else {
-        json!(in alloc; {
-            "author": row.dot.author(),
-            "number": row.dot.number(),
-            "period": row.period.period(),
-            "start": row.period.start(),
-            "status": "proved"
-        })
-    }
+    json!(in alloc; {
+        "author": row.dot.author(),
+        "number": row.dot.number(),
+        "period": row.period.period(),
+        "start": row.period.start(),
+        "status": "proved"
+    })
 }
 
 // A claim that a heap breaks.
-fn refuted_period(
-    alloc: Global,
-    row: &PeriodRow,
-    at: u32,
-    is_withdrawn: bool,
-) -> Result<Value, AllocError>
-    ensures { IfOk result (λ v. view v ≡ refuted_period row.now at is_withdrawn) }
+fn refuted_period(alloc: Global, row: &PeriodRow, at: u32) -> Result<Value, AllocError>
+    ensures { IfOk result (λ v. view v ≡ refuted_period row.now at) }
 {
-    if is_withdrawn {
-        json!(in alloc; {
-            "at": at,
-            "author": row.dot.author(),
-            "number": row.dot.number(),
-            "period": row.period.period(),
-            "start": row.period.start(),
-            "status": "refuted",
-            "withdrawn": true
-        })
-    } else {
-        json!(in alloc; {
-            "at": at,
-            "author": row.dot.author(),
-            "number": row.dot.number(),
-            "period": row.period.period(),
-            "start": row.period.start(),
-            "status": "refuted"
-        })
-    }
+    json!(in alloc; {
+        "at": at,
+        "author": row.dot.author(),
+        "number": row.dot.number(),
+        "period": row.period.period(),
+        "start": row.period.start(),
+        "status": "refuted"
+    })
 }
 
 // A claim that so many known nim-values would decide.
-fn pending_period(
-    alloc: Global,
-    row: &PeriodRow,
-    needs: u32,
-    is_withdrawn: bool,
-) -> Result<Value, AllocError>
-    ensures { IfOk result (λ v. view v ≡ pending_period row.now needs is_withdrawn) }
+fn pending_period(alloc: Global, row: &PeriodRow, needs: u32) -> Result<Value, AllocError>
+    ensures { IfOk result (λ v. view v ≡ pending_period row.now needs) }
+{
+    json!(in alloc; {
+        "author": row.dot.author(),
+        "needs": needs,
+        "number": row.dot.number(),
+        "period": row.period.period(),
+        "start": row.period.start(),
+        "status": "pending"
+    })
+}
+
+// The row of what somebody said, which says that it is withdrawn where it is so.
+fn marked(alloc: Global, row: Value, is_withdrawn: bool) -> Result<Value, AllocError>
+    ensures { IfOk result (λ v. view v ≡ withdrawn_if is_withdrawn (view row)) }
 {
     if is_withdrawn {
-        json!(in alloc; {
-            "author": row.dot.author(),
-            "needs": needs,
-            "number": row.dot.number(),
-            "period": row.period.period(),
-            "start": row.period.start(),
-            "status": "pending",
-            "withdrawn": true
-        })
+        with_member(alloc, row, "withdrawn", Value::Bool(true))
     } else {
-        json!(in alloc; {
-            "author": row.dot.author(),
-            "needs": needs,
-            "number": row.dot.number(),
-            "period": row.period.period(),
-            "start": row.period.start(),
-            "status": "pending"
-        })
+        Ok(row)
+    }
+}
+
+// The object with this member too. What is no object stays.
+fn with_member(alloc: Global, row: Value, key: &str, value: Value) -> Result<Value, AllocError>
+    ensures { IfOk result (λ v. view v ≡ with_member key.now (view value) (view row)) }
+{
+    match row {
+        Value::Object(mut members) => {
+            put(&mut members, alloc, key, value)?;
+            Ok(Value::Object(members))
+        }
+        other => Ok(other),
     }
 }
 
@@ -241,16 +171,13 @@ impl ToJson for SaidPeriod<'_> {
     ghost form = { said_data };
 
     fn to_json(&self, alloc: Global) -> Result<Value, AllocError> {
-        if self.name.is_empty() {
-            return said_by_number(alloc, &self.long);
-        }
-        said_by_name(alloc, &self.long, self.name)
+        named(alloc, long_value(alloc, &self.long)?, self.name)
     }
 }
 
-// A long period that is said by an author who has no name.
-fn said_by_number(alloc: Global, long: &LongPeriod) -> Result<Value, AllocError>
-    ensures { IfOk result (λ v. view v ≡ said_by long.now []) }
+// A long period, and by which author.
+fn long_value(alloc: Global, long: &LongPeriod) -> Result<Value, AllocError>
+    ensures { IfOk result (λ v. view v ≡ long_data long.now) }
 {
     json!(in alloc; {
         "author": long.author,
@@ -259,18 +186,16 @@ fn said_by_number(alloc: Global, long: &LongPeriod) -> Result<Value, AllocError>
     })
 }
 
-// A long period that is said by an author of this name.
-fn said_by_name(alloc: Global, long: &LongPeriod, name: &[u8]) -> Result<Value, AllocError>
-    requires ascii { IsAscii name.now }
-    requires some { 0 < length name.now }
-    ensures { IfOk result (λ v. view v ≡ said_by long.now name.now) }
+// The row of an author with the name, where there is one.
+fn named(alloc: Global, row: Value, name: &[u8]) -> Result<Value, AllocError>
+    requires { IsAscii name.now }
+    ensures { IfOk result (λ v. view v ≡ named name.now (view row)) }
 {
-    json!(in alloc; {
-        "author": long.author,
-        "name": ascii(name),
-        "period": long.seen.period,
-        "start": long.seen.start
-    })
+    if name.is_empty() {
+        return Ok(row);
+    }
+    let name = Value::try_from_str(alloc, ascii(name))?;
+    with_member(alloc, row, "name", name)
 }
 
 /// The value of a game with this least period, and with what is said of it, but with none of its values.
@@ -300,11 +225,11 @@ fn game_from(
 ) -> Result<Value, AllocError>
     ensures { IfOk result (λ v. view v ≡ game_of (view blocks) (game_content game.now) (view least) (view periods) said.now no_values) }
 {
+    let silent = silent_game(alloc, game, blocks, least, periods)?;
     if said.is_empty() {
-        silent_game(alloc, game, blocks, least, periods)
-    } else {
-        told_game(alloc, game, blocks, least, periods, said)
+        return Ok(silent);
     }
+    with_member(alloc, silent, "said", array_of(alloc, said)?)
 }
 
 // The value of a game of which none is said, with none of its values.
@@ -324,45 +249,6 @@ fn silent_game(
         "known": game.values.len(),
         "least_period": least,
         "periods": periods,
-        "values": []
-    })
-}
-
-// The value of a game of which some are said, with none of its values.
-fn told_game(
-    alloc: Global,
-    game: &GameSheet<'_, Global>,
-    blocks: Value,
-    least: Value,
-    periods: Value,
-    said: &[SaidPeriod<'_>],
-) -> Result<Value, AllocError>
-    requires { 0 < length said.now }
-    ensures { IfOk result (λ v. view v ≡ game_of (view blocks) (game_content game.now) (view least) (view periods) said.now no_values) }
-{
-    let said = array_of(alloc, said)?;
-    game_that_has(alloc, game, blocks, least, periods, said)
-}
-
-// The value of a game with this member of what is said, with none of its values.
-fn game_that_has(
-    alloc: Global,
-    game: &GameSheet<'_, Global>,
-    blocks: Value,
-    least: Value,
-    periods: Value,
-    said: Value,
-) -> Result<Value, AllocError>
-    ensures { IfOk result (λ v. view v ≡ game_with (view blocks) (game_content game.now) (view least) (view periods) (said_first (view said) no_values)) }
-{
-    let code = code_value(alloc, &game.code)?;
-    json!(in alloc; {
-        "blocks": blocks,
-        "code": code,
-        "known": game.values.len(),
-        "least_period": least,
-        "periods": periods,
-        "said": said,
         "values": []
     })
 }
@@ -447,34 +333,17 @@ impl ToJson for Called<'_> {
     ghost form = { author_data };
 
     fn to_json(&self, alloc: Global) -> Result<Value, AllocError> {
-        if self.name.is_empty() {
-            return plain_author(alloc, self.author);
-        }
-        named_author(alloc, self.author, self.name)
+        named(alloc, author_value(alloc, &self.author)?, self.name)
     }
 }
 
-// An author that has no name.
-fn plain_author(alloc: Global, author: Author) -> Result<Value, AllocError>
-    ensures { IfOk result (λ v. view v ≡ called_data author []) }
+// An author, with a name or without.
+fn author_value(alloc: Global, author: &Author) -> Result<Value, AllocError>
+    ensures { IfOk result (λ v. view v ≡ numbers_of author.now) }
 {
     json!(in alloc; {
         "author": author.author,
         "last": author.last,
-        "through": author.through
-    })
-}
-
-// An author of this name.
-fn named_author(alloc: Global, author: Author, name: &[u8]) -> Result<Value, AllocError>
-    requires ascii { IsAscii name.now }
-    requires some { 0 < length name.now }
-    ensures { IfOk result (λ v. view v ≡ called_data author name.now) }
-{
-    json!(in alloc; {
-        "author": author.author,
-        "last": author.last,
-        "name": ascii(name),
         "through": author.through
     })
 }
