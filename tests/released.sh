@@ -10,8 +10,8 @@ cp -a --parents census crates.txt HANDLES Makefile docs/census.1 dist tests/{run
 cd "$room"
 rm -f dist/census-x86_64-linux dist/sources.sha256 dist/kit dist/page.wasm dist/web.sha256
 
-# The kit: rt version names it, and the rest fails, or makes an executable that prints its words, and a module, where the file works
-# is there.
+# The kit: rt version names it, and the rest fails, or proves each crate and makes an executable that prints its words, and a module,
+# where the file works is there.
 mkdir bin
 cat >bin/rt <<'RT'
 #!/bin/sh
@@ -19,9 +19,12 @@ if [ "$1" = version ]; then cat "$ROOM/kit"; exit; fi
 echo "rt $1 in ${PWD##*/}"
 echo "${PWD##*/}" >>"$ROOM/asked"
 if [ ! -e "$ROOM/works" ]; then exit 1; fi
-if [ "$1" = run ]; then
-  printf '#!/bin/sh\necho "built $*"\n' >out/census
-  chmod +x out/census
+if [ "$1" = ci ]; then
+  for crate in crates/*; do echo "rt: ${crate##*/} proved"; done
+  ls >"$ROOM/copied"
+  mkdir -p crates/census/out
+  printf '#!/bin/sh\necho "built $*"\n' >crates/census/out/census
+  chmod +x crates/census/out/census
 fi
 if [ "$1 ${PWD##*/}" = 'lib page' ]; then
   mkdir -p out
@@ -105,14 +108,17 @@ up_to_date() {
 nothing_to_test
 if command -v make >/dev/null; then fails make test; fi
 
-# A build that fails shows the last lines of its log; one that works names each crate that the program stands on, and then none.
+# A build that fails shows the last lines of its log; one that works is of a copy, which goes, of the crates that the program stands
+# on, and names each of them, and then none.
 fails ./census show
-grep -q '^rt lib in oct_code$' said
-grep -q 'oct_code was not proved' said
+grep -q '^rt ci in census-build-' said
+grep -q 'was not proved and built' said
 touch works
-dist/build 2>said
-test "$(grep -c '^census:  *[0-9]* of [0-9]* ' said)" = "$(sort -u asked | wc -l)"
-test "$(tail -n 1 asked)" = census
+TMPDIR=$room dist/build 2>said
+test "$(grep -c '^census:  *[0-9]* of [0-9]* ' said)" = "$(dist/crates census | wc -l)"
+grep -q "^census: $(dist/crates census | wc -l) of $(dist/crates census | wc -l) " said
+test "$(tr '\n' ' ' <copied)" = 'HANDLES crates crates.txt '
+test -z "$(echo census-build-*)"
 dist/build 2>said
 test ! -s said
 test "$(./census show)" = 'built show'
