@@ -1,11 +1,13 @@
 #!/usr/bin/env python3
 """Tries the wrong bodies of crates/NAME/wrong/*.edit, many at once: the prover has to refuse each of them by a clause.
 
-    wrong_bodies.py [--anew] [--told] [--in FOLDER] [NAME ..]
+    wrong_bodies.py [--anew] [--told] [--until SECONDS] [--in FOLDER] [NAME ..]
     wrong_bodies.py --read [--in FOLDER] [NAME ..]
 
 NAME limits it to these crates. --anew also tries what was refused before. --told says of each edit what refused it. --read only
-reads the edits, and says which no longer fit the sources. --in must-fail tries those of that folder in place of wrong/.
+reads the edits, and says which no longer fit the sources. --in must-fail tries those of that folder in place of wrong/. With --until
+no check begins after that time, in seconds since 1970; then the crates that were changed last come first, and it is said at the end
+how many edits are left.
 
 A wrong body is an edit, in the form that `rt` without a word explains: lines `file:`, `old:` and `new:`. `rt ci` tries those of
 must-fail/ one by one. Here the edits of a crate are tried in groups, no two of them in one function. For the prover names each
@@ -16,11 +18,11 @@ definition, a constant or a clause, is tried alone, and so is what is not refuse
 whole crate only where that is not refused.
 
 The crate as it stands is proved already: `rt ci` or `rt lib` left its library in out/, or it is built first, and so is what it
-stands on. A static library leaves nothing there, so its first check is of the sources as they are. A check proves the functions of its edits, and what they call. The first one of a crate begins with what `rt check` kept,
-or with nothing, and the others go on from its work. Some checks run side by side: as many as there are processors, or RT_JOBS,
-where each finds MEMORY bytes free. An edit is refused by a clause where an error stands in the proof of its function, or a goal of
-it is left open. It doesn't count where all errors are of names: a proof that names what the edit took away, or a text that doesn't
-compile.
+stands on. A static library leaves nothing there, so its first check is of the sources as they are. A check proves the functions of
+its edits, and what they call. The first one of a crate begins with what `rt check` kept, or with nothing, and the others go on from
+its work. Some checks run side by side: as many as there are processors, or RT_JOBS, where each finds MEMORY bytes free. An edit is
+refused by a clause where an error stands in the proof of its function, or a goal of it is left open. It doesn't count where all
+errors are of names: a proof that names what the edit took away, or a text that doesn't compile.
 
 What was refused is kept by the checksum of all that was read, in ${XDG_CACHE_HOME:-~/.cache}/census/wrong-bodies, so that a later
 run tries only what changed. The exit status is 0 only where each edit is refused by a clause.
@@ -214,8 +216,8 @@ class Crate:
         files = sorted(it for it in os.listdir(at) if it.endswith(".edit")) if os.path.isdir(at) else []
         self.edits = [Edit(known, f"{at}/{it}", self.functions) for it in files]
         self.found = {it: (BAD, it.fault) for it in self.edits if it.fault}
-        self.left, self.later, self.seed, self.copy = [], [], None, None
-        self.groups, self.checks, self.seconds, self.memory = 0, 0, 0.0, 0.0
+        self.left, self.later, self.seed, self.copy, self.rank = [], [], None, None, 0
+        self.groups, self.checks, self.seconds, self.memory, self.dearest = 0, 0, 0.0, 0.0, (0.0, "")
 
     def functions(self, file):
         """Returns the functions of a source, and none of a definition."""
@@ -317,6 +319,13 @@ class Check:
         said = next((match[1] for it in self.lines for match in [NO_FUNCTION.search(it)] if match), None)
         known = {path_of(place)[0] for it in self.about for place in it.places or []}
         return said if said in known - self.unknown else None
+
+    def about_what(self):
+        """Returns which edit is tried, or one of them and how many others."""
+        if not self.edits:
+            return "the crate as it is"
+        others = f" and {len(self.edits) - 1} others" if len(self.edits) > 1 else ""
+        return os.path.basename(self.edits[0].name) + others
 
     def has_verdict(self):
         """Returns whether each edit was read, so that the prover says of each function whether it is proved."""
@@ -457,14 +466,18 @@ class Trials:
         first.is_first = True
         self.waiting.append(first)
 
-    def run(self, lanes):
+    def run(self, lanes, until):
         running = set()
         with concurrent.futures.ThreadPoolExecutor(lanes) as pool:
             while self.waiting or running:
+                if until is not None and time.time() >= until:
+                    self.waiting = []
                 # the first check of each crate comes first, those of the largest crates before all
-                self.waiting.sort(key=lambda it: (not it.is_first, -it.crate.known.count(rb"\n")))
+                self.waiting.sort(key=lambda it: (it.crate.rank, not it.is_first, -it.crate.known.count(rb"\n")))
                 while self.waiting and len(running) < lanes and (not running or rt.free() > MEMORY):
                     running.add(pool.submit(self.waiting.pop(0).run))
+                if not running:
+                    break
                 ended, running = concurrent.futures.wait(running, return_when=concurrent.futures.FIRST_COMPLETED)
                 for it in ended:
                     self.take(it.result())
@@ -475,6 +488,7 @@ class Trials:
         following = self.following(check)
         if check not in following:
             crate.checks, crate.seconds, crate.memory = crate.checks + 1, crate.seconds + check.seconds, max(crate.memory, check.memory)
+            crate.dearest = max(crate.dearest, (check.seconds, check.about_what()))
             crate.keep()
         if check in following or not check.is_first:
             self.waiting += following
@@ -489,7 +503,8 @@ class Trials:
             shutil.rmtree(crate.seed, ignore_errors=True)
             tried = len(crate.edits) - crate.old
             took = f"{clock(crate.seconds)} of processor time, {crate.memory:.1f} GB at most"
-            print(f"{crate.name}: {tried} tried in {crate.groups} groups, {crate.checks} checks, {took}", flush=True)
+            dearest = f"the dearest {clock(crate.dearest[0])}, of {crate.dearest[1]}"
+            print(f"{crate.name}: {tried} tried in {crate.groups} groups, {crate.checks} checks, {took}; {dearest}", flush=True)
 
     def following(self, check):
         """Settles what a check tells of its edits, and returns the checks that are still wanted for them."""
@@ -554,11 +569,21 @@ def clock(seconds):
 def tell(crates, began):
     """Says what came of the edits, and what it took; returns whether each was refused by a clause."""
     edits, old = sum(len(it.edits) for it in crates), sum(it.old for it in crates)
-    lost = sum(kind != REFUSED for it in crates for kind, _ in it.found.values())
+    lost, left = sum(kind != REFUSED for it in crates for kind, _ in it.found.values()), sum(len(it.left) for it in crates)
     took = f"{clock(time.monotonic() - began)} by the clock and {clock(sum(it.seconds for it in crates))} of processor time"
     print(f"wrong bodies: {edits}, of which {old} were refused by an earlier run; {took}")
-    print(f"{lost} of them are not refused by a clause" if lost else "each is refused by a clause")
+    if left:
+        print(f"{left} of them were not tried, since the time was over: the next run on this machine tries those")
+    print(f"{lost} of them are not refused by a clause" if lost else f"each {'that was tried ' if left else ''}is refused by a clause")
     return not lost
+
+
+def changed_last(crates):
+    """Ranks the crates by when their files were last changed, as git has it: the newest comes first."""
+    words = ["git", "-C", os.path.dirname(crates[0].known.folder), "log", "-1", "--format=%ct", "--"] if crates else []
+    times = {it: subprocess.run([*words, it.known.folder], capture_output=True, text=True).stdout.strip() or "0" for it in crates}
+    for rank, crate in enumerate(sorted(crates, key=lambda it: -int(times[it]))):
+        crate.rank = rank
 
 
 def forget_old():
@@ -575,6 +600,7 @@ def main():
     words.add_argument("--anew", action="store_true")
     words.add_argument("--told", action="store_true")
     words.add_argument("--read", action="store_true")
+    words.add_argument("--until", type=int, metavar="SECONDS")
     words.add_argument("--in", dest="folder", default="wrong")
     words.add_argument("--root", default=ROOT, help=argparse.SUPPRESS)
     given = words.parse_args()
@@ -596,16 +622,18 @@ def main():
             if kind != REFUSED:
                 print(f"{edit.name}: {kind}: {why}", flush=True)
     tried = [it for it in crates if it.left]
+    if given.until is not None:
+        changed_last(tried)
     why = build_libraries(tried)
     if why:
         print(f"wrong_bodies: {why}", file=sys.stderr)
         return 1
     lanes = int(os.environ.get("RT_JOBS") or 0) or max(1, min(rt.processors(), int(rt.free() // MEMORY)))
     with tempfile.TemporaryDirectory(prefix="wrong-bodies-") as room:
-        Trials(tried, room).run(lanes)
+        Trials(tried, room).run(lanes, given.until)
     if given.told:
         for crate in crates:
-            for edit in crate.edits:
+            for edit in (it for it in crate.edits if it in crate.found):
                 kind, told = crate.found[edit]
                 print(f"{edit.name}: {kind}: {' '.join(told.split())[:160]}")
     if os.path.isdir(KEPT):

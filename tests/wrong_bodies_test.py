@@ -3,8 +3,8 @@
 
 A wrong body is refused; so are two of one function, each in a group of its own. A body that is right is reported, though the
 function that it calls has a wrong one in its group; so is an edit that doesn't compile, though others stand beside it, one that
-a proof file refuses for a name alone, and one that fits no line. What was refused is not tried again. Nothing is said of a static
-library that is not proved as it stands.
+a proof file refuses for a name alone, and one that fits no line. What was refused is not tried again, and where the time is over
+before a check begins, nothing is tried, and this is said. Nothing is said of a static library that is not proved as it stands.
 """
 
 import os
@@ -93,9 +93,9 @@ def write(path, text):
         file.write(text)
 
 
-def run(room):
+def run(room, *given):
     """Returns how a run of the script ended, and what it printed."""
-    words = [sys.executable, f"{HERE}/wrong_bodies.py", "--told", "--root", f"{room}/repository"]
+    words = [sys.executable, f"{HERE}/wrong_bodies.py", "--told", "--root", f"{room}/repository", *given]
     ran = subprocess.run(words, env={**os.environ, "XDG_CACHE_HOME": f"{room}/cache"}, capture_output=True, text=True)
     return ran.returncode, ran.stdout + ran.stderr
 
@@ -112,10 +112,13 @@ def main():
         write(f"{crate}/src/lib.rt", SOURCE)
         write(f"{crate}/proofs/named/Answers.antt", ANSWERS)
         # those that compile in one run, so that they stay together, and all of them in the next
-        for chosen in ([it for it, (_, _, wanted) in EDITS.items() if wanted != "BAD EDIT"], [*EDITS]):
+        compile_all = [it for it, (_, _, wanted) in EDITS.items() if wanted != "BAD EDIT"]
+        for chosen, left in ((compile_all, 5), ([*EDITS], 3)):
             for name in chosen:
                 old, new, _ = EDITS[name]
                 write(f"{crate}/wrong/{name}.edit", f"file: src/lib.rt\nold: {old}\nnew: {new}\n")
+            status, said = run(room, "--until", "0")
+            need(f"{left} of them were not tried" in said, said)
             status, said = run(room)
             need(status == 1 and all(f"small/{it}: {EDITS[it][2]}: " in said for it in chosen), said)
         need("7, of which 3 were refused by an earlier run" in said, said)
