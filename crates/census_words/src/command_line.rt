@@ -13,7 +13,7 @@ pub fn command<'a>(
 ) -> Result<Command<'a>, AllocError> {
     let mut command = Command::new(alloc, "census")
         .bin_name("census")?
-        .version("2.13.0")
+        .version("2.14.0")
         .override_help(screen)
         .no_binary_name(true)
         .subcommand_required(true)

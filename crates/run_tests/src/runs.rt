@@ -414,7 +414,7 @@ const CASES: &[Case<'static>] = &[
     Case {
         words: &["--version"],
         status: 0,
-        output: "census 2.13.0\n",
+        output: "census 2.14.0\n",
         errors: "",
     },
     Case {
