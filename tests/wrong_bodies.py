@@ -12,17 +12,18 @@ how many edits are left.
 A wrong body is an edit, in the form that `rt` without a word explains: lines `file:`, `old:` and `new:`. `rt ci` tries those of
 must-fail/ one by one. Here the edits of a crate are tried in groups, no two of them in one function. For the prover names each
 function that it refuses, and the place in its proof that no longer fits. A caller is proved by the contract of what it calls, and
-not by its body. So one wrong body hides no other, and none is refused for another's sake. What changes more than bodies, as a
-definition, a constant or a clause, is tried alone, and so is what is not refused in its group. Such an edit has a line
-`in: PATH` with the function that has to be refused, as `in: reading::read_list`: with it that function alone is proved, and the
-whole crate only where that is not refused.
+not by its body. So one wrong body hides no other, and none is refused for another's sake. And so each function that no edit of the
+group changes has no body there, and a hole for its proof: it would be proved again, and what it calls. What changes more than
+bodies, as a definition, a constant or a clause, is tried alone, and so is what is not refused in its group. Such an edit has a line
+`in: PATH` with the function that has to be refused, as `in: reading::read_list`: with it that function alone is proved. What is not
+refused alone either is tried once more over the whole crate, with all its bodies and proofs.
 
 The crate as it stands is proved already: `rt ci` or `rt lib` left its library in out/, or it is built first, and so is what it
-stands on. A static library leaves nothing there, so its first check is of the sources as they are. A check proves the functions of
-its edits, and what they call. The first one of a crate begins with what `rt check` kept, or with nothing, and the others go on from
-its work. Some checks run side by side: as many as there are processors, or RT_JOBS, where each finds MEMORY bytes free. An edit is
-refused by a clause where an error stands in the proof of its function, or a goal of it is left open. It doesn't count where all
-errors are of names: a proof that names what the edit took away, or a text that doesn't compile.
+stands on. A static library leaves nothing there, so its first check is of the sources as they are. The first check of a crate
+begins with what `rt check` kept, or with nothing, and the others go on from its work. Some checks run side by side: as many as
+there are processors, or RT_JOBS, where each finds MEMORY bytes free. An edit is refused by a clause where an error stands in the
+proof of its function, or a goal of it is left open. It doesn't count where all errors are of names: a proof that names what the
+edit took away, or a text that doesn't compile.
 
 What was refused is kept by the checksum of all that was read, in ${XDG_CACHE_HOME:-~/.cache}/census/wrong-bodies, so that a later
 run tries only what changed. The exit status is 0 only where each edit is refused by a clause.
@@ -31,6 +32,7 @@ run tries only what changed. The exit status is 0 only where each edit is refuse
 import argparse
 import concurrent.futures
 import difflib
+import functools
 import hashlib
 import importlib.machinery
 import importlib.util
@@ -60,9 +62,18 @@ UNSURE = "NOT TRIED"
 # Errors of a proof that names what an edit took away, and of what rests on that proof. The words may stand below the first line.
 OF_A_NAME = re.compile(r"(note: )?(\./)?proofs/.*(has no field|is not in scope|has no `|was not admitted)", re.DOTALL)
 AT_A_PLACE = re.compile(r"(note: )?\S+:\d+:\d+:")
-PROOF_ERROR = re.compile(r"(?:\./)?proofs/(\S+)/[^/\s]+\.antt:\d+:\d+: error")
+PROOF_ERROR = re.compile(r"(?:\./)?proofs/(?:(\S+)/)?[^/\s]+\.antt:\d+:\d+: error")
+OPEN_GOAL = re.compile(r"note: src/\S+:\d+:\d+: it is not proved that")
 FUNCTION = re.compile(r"fn (\S+): (.*)")
 NO_FUNCTION = re.compile(r"has no function `(\S+)`")
+
+# The proof of a function that is not tried.
+HOLE = """\
+use Rattle.{crate}.proofs.{module}.Statement.{{statement}}
+
+pub {name}_spec : {{M : Type 1}} → statement M
+{name}_spec = ?
+"""
 
 
 def load_kit():
@@ -82,13 +93,14 @@ rt = load_kit()
 # What an edit changes
 
 
+@functools.cache
 def tokens_of(file):
-    """Returns the tokens of a source that are code, each with its line: no comment, no literal and no clause."""
+    """Returns the tokens of a source that are code, each with its line and its first byte: no comment, no literal and no clause."""
     with open(file, "rb") as it:
         data = it.read()
     ran = subprocess.run([rt.rtlib.RATTLE, "fmt", "--tokens", file], capture_output=True, check=True)
     rows = re.finditer(rb"(?m)^(\d+) (\d+) (\d+) Code\b", ran.stdout)
-    return [(int(row[1]), data[int(row[2]) : int(row[3])].decode()) for row in rows]
+    return [(int(row[1]), int(row[2]), data[int(row[2]) : int(row[3])].decode()) for row in rows]
 
 
 def after_generics(words):
@@ -104,57 +116,101 @@ def after_generics(words):
 
 
 def name_of_type(words):
-    """Returns the last name of a path, without what stands in < >."""
+    """Returns how the prover names a type: the last name of its path, without what stands in < >, with a capital, as `U64`, and with a
+    Ref before that where it is behind a `&`; or ? where it is another one."""
     names = []
-    for word in words:
+    for word in words[1:] if words[:1] == ["&"] else words:
+        if word in ("(", "[", "&", "mut"):
+            return "?"
         if word == "<":
             break
-        if re.fullmatch(r"\w+", word) and word not in ("dyn", "mut"):
+        if re.fullmatch(r"\w+", word) and word != "dyn":
             names.append(word)
-    return names[-1] if names else ""
+    ref = "Ref" if words[:1] == ["&"] else ""
+    return ref + names[-1][0].upper() + names[-1][1:] if names else "?"
+
+
+def arguments_of(words):
+    """Returns what stands in the < > of a type, or of the parameters of an impl, each part between commas."""
+    found, depth = [[]], 0
+    for at, word in enumerate(words):
+        depth -= word == ">" and words[at - 1] != "-"
+        if depth == 1 and word == ",":
+            found.append([])
+        elif depth:
+            found[-1].append(word)
+        depth += word == "<"
+        if not depth and word == ">":
+            break
+    return [it for it in found if it]
 
 
 def name_of_impl(words):
-    """Returns how the prover begins the name of an impl: that of the type, and then that of the trait, if there is one."""
+    """Returns how the prover names an impl: by the type, and by the trait and the types that it is for, if there is one."""
+    parameters = {it[0] for it in arguments_of(words)} if words[:1] == ["<"] else set()
     words, depth = after_generics(words), 0
     for at, word in enumerate(words):
         depth += (word == "<") - (word == ">" and words[at - 1] != "-")
         if word == "for" and not depth:
-            return name_of_type(words[at + 1 :]) + name_of_type(words[:at]), True
+            types = [name_of_type(it) for it in arguments_of(words[:at]) if it[0] not in parameters]
+            return "".join([name_of_type(words[at + 1 :]), name_of_type(words[:at]), *types]), True
     return name_of_type(words), False
 
 
+class Function:
+    """A function of a source: the place that its name has in the crate, the lines and the first bytes of the braces of its body, and
+    whether the body alone says what is constant, or what type is returned."""
+
+    def __init__(self, place, head, opens, closes):
+        self.place, self.first, self.last, self.opens, self.closes = place, opens[0], closes[0], opens[1], closes[1]
+        returned = head[head.index("-") :] if "-" in head else []
+        self.says_more = "const" in head or "impl" in returned
+
+
 def functions_of(file, module):
-    """Returns of each function of a source the lines of the braces of its body, and the place that its name has in the crate."""
+    """Returns the functions of a source."""
     tokens, found, scopes, pending, depth = tokens_of(file), [], [], None, 0
-    for at, (line, word) in enumerate(tokens):
-        following = tokens[at + 1][1] if at + 1 < len(tokens) else ""
+    for at, (line, first, word) in enumerate(tokens):
+        following = tokens[at + 1][2] if at + 1 < len(tokens) else ""
         in_body = any(kind == "fn" for kind, *_ in scopes)
         if word in ("(", "["):
             depth += 1
         elif word in (")", "]"):
             depth -= 1
         elif word == "{":
-            scopes.append((*(pending or ("block", "")), line, depth))
+            scopes.append((*(pending or ("block", "", at)), (line, first), at, depth))
             pending, depth = None, 0
         elif word == "}":
-            kind, name, first, depth = scopes.pop()
+            kind, name, begins, opens, ends, depth = scopes.pop()
             if kind == "fn" and not any(it[0] in ("fn", "macro") for it in scopes):
                 above = [it[1] for it in scopes if it[0] == "mod"]
                 owner = next((it[1] for it in scopes if it[0] in ("impl", "trait")), None)
-                found.append((first, line, (*module, *above, *([owner] if owner else []), name)))
+                head = [it for _, _, it in tokens[max(begins - 1, 0) : ends]]
+                found.append(Function((*module, *above, *([owner] if owner else []), name), head, opens, (line, first)))
         elif word == ";" and not depth:
             pending = None
         elif not in_body and not pending:
             if word in ("fn", "mod", "trait") and re.fullmatch(r"\w+", following):
-                pending = word, (following, False) if word == "trait" else following
+                pending = word, (following, False) if word == "trait" else following, at
             elif word == "impl":
-                head = [it for _, it in tokens[at + 1 : at + 200]]
+                head = [it for _, _, it in tokens[at + 1 : at + 200]]
                 ends = [head.index(it) for it in ("{", "where") if it in head]
-                pending = "impl", name_of_impl(head[: min(ends, default=0)])
+                pending = "impl", name_of_impl(head[: min(ends, default=0)]), at
             elif word == "macro_rules":
-                pending = "macro", ""
+                pending = "macro", "", at
     return found
+
+
+def module_of(file):
+    """Returns the path of the module that a source is, below the crate."""
+    path = file[len("src/") : -len(".rt")].split("/")
+    return path[:-1] if path[-1] in ("lib", "main", "mod") else path
+
+
+def types_of(file, module):
+    """Returns the structs and enums that a source declares, each with the path of its module."""
+    words = [word for _, _, word in tokens_of(file)]
+    return [(words[at + 1], tuple(module)) for at, word in enumerate(words[:-1]) if word in ("struct", "enum")]
 
 
 def path_of(place):
@@ -202,7 +258,7 @@ class Edit:
             with open(f"{crate.folder}/{file}", encoding="utf-8") as it:
                 self.changes[file] = changes_of(it.read(), text)
             for first, end, _ in self.changes[file]:
-                inside = (place for opens, closes, place in functions(file) if opens <= first and max(end, first + 1) < closes)
+                inside = (it.place for it in functions(file) if it.first <= first and max(end, first + 1) < it.last)
                 found.append(next(inside, None))
         self.places = {*found} if found and None not in found else None
 
@@ -211,12 +267,12 @@ class Crate:
     """A crate with wrong bodies: those that are to be tried, the folders where it is tried, and what came of each."""
 
     def __init__(self, known, folder):
-        self.known, self.name, self.sources = known, known.name, {}
+        self.known, self.name, self.sources, self.types = known, known.name, {}, None
         at = f"{known.folder}/{folder}"
         files = sorted(it for it in os.listdir(at) if it.endswith(".edit")) if os.path.isdir(at) else []
         self.edits = [Edit(known, f"{at}/{it}", self.functions) for it in files]
         self.found = {it: (BAD, it.fault) for it in self.edits if it.fault}
-        self.left, self.later, self.seed, self.copy, self.rank = [], [], None, None, 0
+        self.left, self.later, self.seed, self.copy, self.rank, self.unholed = [], [], None, None, 0, set()
         self.groups, self.checks, self.seconds, self.memory, self.dearest = 0, 0, 0.0, 0.0, (0.0, "")
 
     def functions(self, file):
@@ -224,10 +280,36 @@ class Crate:
         if not file.startswith("src/") or not file.endswith(".rt"):
             return []
         if file not in self.sources:
-            path = file[len("src/") : -len(".rt")].split("/")
-            module = path[:-1] if path[-1] in ("lib", "main", "mod") else path
-            self.sources[file] = functions_of(f"{self.known.folder}/{file}", module)
+            self.sources[file] = self.functions_at(f"{self.known.folder}/{file}", file)
         return self.sources[file]
+
+    def functions_at(self, path, file):
+        """Returns the functions of a source, or of a text at this path that is to be one."""
+        found = functions_of(path, module_of(file))
+        for it in found:
+            it.place = self.at_home(it.place)
+        return found
+
+    def at_home(self, place):
+        """Returns the place of a function as the prover has it: a method that is no trait's stands where its type does."""
+        at = next((at for at, it in enumerate(place) if isinstance(it, tuple) and not it[1]), None)
+        home = None if at is None else self.homes().get(place[at][0])
+        return place if home is None else (*home, *place[at:])
+
+    def homes(self):
+        """Returns of each type of the crate the path of its module."""
+        if self.types is None:
+            self.types = dict(it for file in self.all_sources() for it in types_of(f"{self.known.folder}/{file}", module_of(file)))
+        return self.types
+
+    def all_sources(self):
+        """Returns the paths of all sources, from the crate's folder."""
+        at = f"{self.known.folder}/src"
+        return [os.path.relpath(f"{top}/{it}", self.known.folder) for top, _, names in os.walk(at) for it in names if it.endswith(".rt")]
+
+    def all_functions(self):
+        """Returns the places of all functions of the sources."""
+        return {it.place for file in self.all_sources() for it in self.functions(file)}
 
     def stamp(self):
         """Returns a sum of all that a check of the crate reads, and of what judges it here."""
@@ -300,8 +382,8 @@ class Check:
 
     def __init__(self, crate, edits):
         self.crate, self.edits, self.is_first, self.is_again, self.unknown = crate, edits, False, False, set()
-        self.about, self.is_whole = edits or crate.left, False
-        self.status, self.lines, self.seconds, self.memory = None, [], 0.0, 0.0
+        self.about, self.is_whole, self.is_emptied = edits or crate.left, False, True
+        self.status, self.lines, self.seconds, self.memory, self.holes = None, [], 0.0, 0.0, []
 
     def paths(self):
         """Returns what is to be proved: the functions that are changed, or the module of one that the prover calls otherwise than the
@@ -314,11 +396,22 @@ class Check:
         found.update(path for it in self.about if not it.places for path in it.named)
         return [] if "" in found else sorted(found)
 
+    def has_holes(self):
+        """Returns whether each function that is not tried has a hole for its proof: where the whole crate is not tried."""
+        return bool(self.paths())
+
     def unknown_path(self):
         """Returns the path of a changed function that the prover said not to know, if it did."""
         said = next((match[1] for it in self.lines for match in [NO_FUNCTION.search(it)] if match), None)
         known = {path_of(place)[0] for it in self.about for place in it.places or []}
         return said if said in known - self.unknown else None
+
+    def refused_holes(self):
+        """Returns the paths of the functions in whose proofs a hole stands that the prover cannot read, or that it calls otherwise."""
+        names = {"/".join(it.split("::")): it for it in self.holes}
+        found = {names.get(match[1]) for it in self.lines for match in [PROOF_ERROR.match(it)] if match}
+        found.update(match[1] for it in self.lines for match in [NO_FUNCTION.search(it)] if match)
+        return found & {*self.holes}
 
     def about_what(self):
         """Returns which edit is tried, or one of them and how many others."""
@@ -346,6 +439,45 @@ class Check:
             found[file] = "".join(lines)
         return found
 
+    def leave_holes(self, room):
+        """Has a hole stand for the proof of each function that is not tried, and no body: its callers are proved by its contract all the
+        same, and what it calls is not asked for."""
+        tried = {path_of(place)[0] for it in self.about for place in it.places or []}
+        tried.update(path for it in self.about for path in it.named)
+        tried.update(self.crate.unholed)
+        self.holes = sorted(it for it in {path_of(it)[0] for it in self.crate.all_functions()} - tried if "?" not in it)
+        for path in self.holes:
+            names = path.split("::")
+            at = f"{room}/proofs/{'/'.join(names)}"
+            os.makedirs(at, exist_ok=True)
+            for file in ("Answers.antt", "Invariants.antt"):
+                if os.path.exists(f"{at}/{file}"):
+                    os.remove(f"{at}/{file}")
+            with open(f"{at}/Proof.antt", "w", encoding="utf-8") as it:
+                it.write(HOLE.format(crate=self.crate.name, module=".".join(names), name=names[-1]))
+        for file in self.crate.all_sources() if self.is_emptied else []:
+            self.empty_bodies(f"{room}/{file}", self.functions_in(room, file))
+
+    def functions_in(self, room, file):
+        """Returns the functions of a source as it stands in a room, and none where its text cannot be read."""
+        if not any(file in it.texts for it in self.edits):
+            return self.crate.functions(file)
+        try:
+            return self.crate.functions_at(f"{room}/{file}", file)
+        except (subprocess.CalledProcessError, IndexError):
+            return []
+
+    def empty_bodies(self, path, functions):
+        """Has each function of a source that has a hole run for ever."""
+        holes = {*self.holes}
+        with open(path, "rb") as it:
+            data = it.read()
+        for it in sorted(functions, key=lambda it: -it.opens):
+            if path_of(it.place)[0] in holes and not it.says_more:
+                data = data[: it.opens] + b"{ loop {} }" + data[it.closes + 1 :]
+        with open(path, "wb") as it:
+            it.write(data)
+
     def run(self):
         with tempfile.TemporaryDirectory(prefix="wrong-body-", dir=os.path.dirname(self.crate.copy)) as room:
             work = self.crate.seed
@@ -358,7 +490,10 @@ class Check:
             for file, text in self.texts().items():
                 with open(f"{room}/{file}", "w", encoding="utf-8") as it:
                     it.write(text)
+            if self.has_holes():
+                self.leave_holes(room)
             words = [rt.rtlib.RATTLE, "check", *self.crate.known.words(["--jobs", "1"], keeps=False), "--incremental", work]
+            words += ["--allow-holes"] * self.has_holes()
             words += [word for path in self.paths() for word in ("--only", path)]
             with open(f"{room}/said", "w+", encoding="utf-8", errors="replace") as said:
                 ran = subprocess.Popen([*rt.rtlib.guarded(), *words], cwd=room, stdin=subprocess.DEVNULL, stdout=said, stderr=subprocess.STDOUT)
@@ -384,17 +519,27 @@ def messages_of(lines):
     return found
 
 
-def judged_together(check):
-    """Returns of each edit of a group what refused it by a clause, or None."""
+def refusals_of(check):
+    """Returns what was refused by a clause: of each function or file of lemmas its names, and what was said."""
     said = messages_of(check.lines)
-    errors = [(match[1].split("/"), it) for it in said for match in [PROOF_ERROR.match(it)] if match]
+    errors = [((match[1] or "").split("/"), it) for it in said for match in [PROOF_ERROR.match(it)] if match]
     told = [(match[1].split("::")[1:], it) for it in said for match in [FUNCTION.match(it)] if match]
     open_goals = [it for it in told if "`search` did not prove" in it[1] or "`search` gave up" in it[1]]
-    found = {}
-    for edit in check.edits:
-        own = [it for place in edit.places for names, it in [*errors, *open_goals] if is_named(place, names)]
-        found[edit] = next((it for it in own if not OF_A_NAME.match(it)), None)
-    return found
+    return [it for it in [*errors, *open_goals] if not OF_A_NAME.match(it[1])]
+
+
+def stands(check):
+    """Returns whether a check of the sources as they are found no fault, but for the holes."""
+    if not check.has_holes():
+        return not check.status
+    told = [match[2] for it in check.lines for match in [FUNCTION.match(it)] if match]
+    return check.has_verdict() and all(it.startswith(("no holes", "depends on a hole", "assumed")) for it in told)
+
+
+def judged_together(check):
+    """Returns of each edit of a group what refused it by a clause, or None."""
+    refused = refusals_of(check)
+    return {it: next((told for names, told in refused if any(is_named(place, names) for place in it.places)), None) for it in check.edits}
 
 
 def judged_alone(check):
@@ -516,20 +661,31 @@ class Trials:
             # most likely for memory
             check.is_again = True
             return [check]
+        holes = check.refused_holes()
+        if holes:
+            check.crate.unholed |= holes
+            return [check]
+        if check.has_holes() and check.is_emptied and not check.has_verdict():
+            # it doesn't compile, most likely: for an edit's sake, or since a body is gone
+            check.is_emptied = False
+            return [check]
         if not check.edits:
-            if check.status:
+            if not stands(check):
                 for edit in [*check.about]:
                     self.settle(check.crate, edit, UNSURE, f"without it the crate is not proved: {' '.join(check.lines[:3])}")
                 check.crate.later = []
             return []
+        if len(check.edits) == 1 and check.has_holes():
+            told = [it for _, it in refusals_of(check)] or [it for it in messages_of(check.lines) if OPEN_GOAL.match(it)]
+            if told and check.has_verdict():
+                self.settle(check.crate, check.edits[0], REFUSED, told[0])
+                return []
+            # (it may be refused elsewhere in the crate)
+            whole = Check(check.crate, check.edits)
+            whole.is_whole = True
+            return [whole]
         if len(check.edits) == 1:
-            kind, told = judged_alone(check)
-            if kind in (MISSED, BY_NAME) and check.paths():
-                # (it may be refused elsewhere in the crate)
-                whole = Check(check.crate, check.edits)
-                whole.is_whole = True
-                return [whole]
-            self.settle(check.crate, check.edits[0], kind, told)
+            self.settle(check.crate, check.edits[0], *judged_alone(check))
             return []
         if not check.has_verdict():
             # one of them doesn't compile, say

@@ -1,10 +1,11 @@
 #!/usr/bin/env python3
-"""Tests wrong_bodies.py over a crate of five small functions that is made for it. Takes some fifteen short checks, about a minute.
+"""Tests wrong_bodies.py over a crate of six small functions that is made for it. Takes some fifteen short checks, about a minute.
 
-A wrong body is refused; so are two of one function, each in a group of its own. A body that is right is reported, though the
-function that it calls has a wrong one in its group; so is an edit that doesn't compile, though others stand beside it, one that
-a proof file refuses for a name alone, and one that fits no line. What was refused is not tried again, and where the time is over
-before a check begins, nothing is tried, and this is said. Nothing is said of a static library that is not proved as it stands.
+A wrong body is refused, also one of a trait's method; so are two of one function, each in a group of its own. A body that is
+right is reported, though the function that it calls has a wrong one in its group; so is an edit that doesn't compile, though
+others stand beside it, one that a proof file refuses for a name alone, and one that fits no line. What was refused is not tried
+again, and where the time is over before a check begins, nothing is tried, and this is said. Nothing is said of a static library
+that is not proved as it stands.
 """
 
 import os
@@ -54,6 +55,19 @@ pub fn second(a: u8, b: u8) -> u8
 {
     b // second
 }
+
+/// What can be counted.
+pub trait Count {
+    /// How many it is.
+    fn count(self) -> u8
+        ensures { result ≡ 1 };
+}
+
+impl Count for bool {
+    fn count(self) -> u8 {
+        one() // count
+    }
+}
 """
 STATIC = """\
 //! A number.
@@ -80,9 +94,11 @@ EDITS = {
     "one_is_two": ("    1 // one", "    2", "refused"),
     "one_is_three": ("    1 // one", "    3", "refused"),
     "first_is_the_second": ("    a // first", "    b", "refused"),
+    "count_is_none": ("        one() // count", "        0", "refused"),
     "asked_in_another_way": ("    one() // asked", "    first(one(), 2)", "NOT REFUSED"),
     "named_calls_nothing": ("    one() // named", "    1", "REFUSED BY A NAME ALONE"),
     "second_does_not_compile": ("    b // second", "    c", "BAD EDIT"),
+    "second_is_no_text": ("    b // second", "    b }", "BAD EDIT"),
     "fits_no_line": ("    7", "    8", "BAD EDIT"),
 }
 
@@ -113,7 +129,7 @@ def main():
         write(f"{crate}/proofs/named/Answers.antt", ANSWERS)
         # those that compile in one run, so that they stay together, and all of them in the next
         compile_all = [it for it, (_, _, wanted) in EDITS.items() if wanted != "BAD EDIT"]
-        for chosen, left in ((compile_all, 5), ([*EDITS], 3)):
+        for chosen, left in ((compile_all, 6), ([*EDITS], 4)):
             for name in chosen:
                 old, new, _ = EDITS[name]
                 write(f"{crate}/wrong/{name}.edit", f"file: src/lib.rt\nold: {old}\nnew: {new}\n")
@@ -121,12 +137,12 @@ def main():
             need(f"{left} of them were not tried" in said, said)
             status, said = run(room)
             need(status == 1 and all(f"small/{it}: {EDITS[it][2]}: " in said for it in chosen), said)
-        need("7, of which 3 were refused by an earlier run" in said, said)
+        need("9, of which 4 were refused by an earlier run" in said, said)
         for name, (_, _, wanted) in EDITS.items():
             if wanted != "refused":
                 os.remove(f"{crate}/wrong/{name}.edit")
         status, said = run(room)
-        need(status == 0 and "3, of which 3 were refused by an earlier run" in said, said)
+        need(status == 0 and "4, of which 4 were refused by an earlier run" in said, said)
         write(f"{room}/repository/crates.txt", "small:\nheld staticlib:\n")
         write(f"{room}/repository/crates/held/wrong/two_is_three.edit", "file: src/lib.rt\nold:     2 // two\nnew:     3\n")
         write(f"{room}/repository/crates/held/src/lib.rt", STATIC.replace("result ≡ 2", "result ≡ 4"))
